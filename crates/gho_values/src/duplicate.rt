@@ -1,0 +1,30 @@
+//! Copies that may want memory.
+
+ghost use Rattle.std.specs.Prelude.{◌≡◌, IfOk};
+
+use std::alloc::AllocError;
+
+/// Plain data that can be copied whole. Unlike `Clone`, it says what a copy is: an equal value.
+pub trait Duplicate: Drop {
+    /// A value equal to this one, or `AllocError` where there is no memory for it.
+    fn copy(&self) -> Result<Self, AllocError>
+        ensures { IfOk result (λ copy. copy ≡ self.now) };
+}
+
+impl Duplicate for u8 {
+    fn copy(&self) -> Result<u8, AllocError> {
+        Ok(*self)
+    }
+}
+
+impl Duplicate for u32 {
+    fn copy(&self) -> Result<u32, AllocError> {
+        Ok(*self)
+    }
+}
+
+impl Duplicate for u64 {
+    fn copy(&self) -> Result<u64, AllocError> {
+        Ok(*self)
+    }
+}

@@ -1,0 +1,47 @@
+//! Why a value isn't stored.
+
+ghost use Rattle.std.specs.Prelude.{◌≡◌};
+ghost use Rattle.gho_values.specs.declared.fault.StoreFault.TheVariants.{Memory};
+
+use std::alloc::{AllocError, AllocFailed};
+use thiserror::Error;
+
+/// Why a column refuses a value, each with its number in MySQL's manual, "Server Error Message Reference".
+#[derive(Clone, Copy, Debug, PartialEq, Eq)]
+pub enum Unfit {
+    /// 1048: the column can't be null.
+    Null,
+    /// 1264: the number is out of the column's range.
+    Range,
+    /// 1406: the text or the bytes are longer than the column's length.
+    Length,
+    /// 1366: the value isn't one of the column's kind, nor converted to it.
+    Kind,
+}
+
+/// Why `store` or `seek` gives no value.
+#[derive(Debug, Drop, Error)]
+pub enum StoreFault {
+    /// The column refuses the value.
+    #[error("the value doesn't fit its column: {0:?}")]
+    Unfit(Unfit),
+    /// There is no memory for the stored value.
+    #[error("out of memory")]
+    Memory,
+}
+
+impl From<AllocError> for StoreFault {
+    ghost from_gives = { λ _ e. e ≡ Memory };
+
+    fn from(_error: AllocError) -> StoreFault {
+        StoreFault::Memory
+    }
+}
+
+impl<T: Drop> From<AllocFailed<T>> for StoreFault {
+    ghost from_gives = { λ _ e. e ≡ Memory };
+
+    fn from(_error: AllocFailed<T>) -> StoreFault {
+        StoreFault::Memory
+    }
+}

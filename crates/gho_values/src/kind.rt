@@ -1,0 +1,17 @@
+//! The kinds of columns.
+
+/// The kind of a column's values (MySQL's manual, "Data Types").
+#[derive(Clone, Copy, Debug, PartialEq, Eq)]
+pub enum Kind {
+    /// TINYINT, SMALLINT, MEDIUMINT, INT or BIGINT: whole numbers of 1, 2, 3, 4 or 8 bytes.
+    Int {
+        /// How many bytes a number takes.
+        bytes: u8,
+        /// Whether the numbers begin at 0.
+        unsigned: bool,
+    },
+    /// VARCHAR: texts of at most so many characters.
+    VarChar(u16),
+    /// VARBINARY: at most so many bytes.
+    VarBinary(u16),
+}

@@ -1,0 +1,47 @@
+//! Values, keys and rows.
+
+ghost use Rattle.std.specs.Prelude.{◌≡◌, IfOk};
+
+use crate::duplicate::Duplicate;
+use crate::sequence::Sequence;
+use crate::text::Chars;
+use std::alloc::AllocError;
+
+/// Bytes in order.
+pub type Bytes = Sequence<u8>;
+
+/// A literal, or what a column holds.
+#[derive(Debug, Drop)]
+pub enum Value {
+    /// NULL.
+    Null,
+    /// A whole number.
+    Num(i128),
+    /// A text.
+    Text(Chars),
+    /// Bytes.
+    Blob(Bytes),
+}
+
+impl Duplicate for Value {
+    fn copy(&self) -> Result<Value, AllocError> {
+        Ok(match self {
+            Value::Null => Value::Null,
+            Value::Num(number) => Value::Num(*number),
+            Value::Text(chars) => Value::Text(chars.copy()?),
+            Value::Blob(bytes) => Value::Blob(bytes.copy()?),
+        })
+    }
+}
+
+/// The values of a key's columns, in the key's order.
+pub type Key = Sequence<Value>;
+
+/// The values of a table's columns, in the schema's order.
+pub type Row = Sequence<Value>;
+
+/// Keys in order.
+pub type Keys = Sequence<Key>;
+
+/// Rows in order.
+pub type Rows = Sequence<Row>;
