@@ -1,20 +1,24 @@
 //! The values of MySQL's columns, and the lists, names and texts that every layer above is made of.
 #![tactic(auto)]
 
+mod comparing;
 mod duplicate;
 mod fault;
 mod kind;
 mod name;
 mod sequence;
 mod span;
+mod storing;
 mod text;
 mod value;
 
+pub use comparing::compare;
 pub use duplicate::Duplicate;
 pub use fault::{StoreFault, Unfit};
 pub use kind::Kind;
 pub use name::{Name, Names};
 pub use sequence::Sequence;
 pub use span::{Bound, Span};
+pub use storing::store;
 pub use text::{Chars, Text};
 pub use value::{Bytes, Key, Keys, Row, Rows, Value};

@@ -1,9 +1,12 @@
 //! A list that contracts see as the list of its items.
 
 ghost use Rattle.std.specs.Prelude.{◌≡◌, ◌==◌, [], ◌∷◌, ◌++◌, length, IfOk, OnOk, OnErr};
+ghost use Rattle.std.specs.Cmp.Lexicographic.{pointwise, slice_cmp, slice_partial_cmp, lists_per, lists_po, lists_agrees, lists_ties};
+ghost use Rattle.std.proofs.lemmas.Cmp.{lists_equiv, lists_total};
 
 use crate::duplicate::Duplicate;
 use std::alloc::{AllocError, Global};
+use std::cmp::Ordering;
 use std::marker::Model;
 
 /// Items in order. Equal lists are equal sequences, whatever room they keep.
@@ -93,4 +96,43 @@ fn copy_of<T: Duplicate>(alloc: &Global, items: &[T]) -> Result<Vec<T>, AllocErr
         copy.push(item.copy()?)?;
     }
     Ok(copy)
+}
+
+impl<T: PartialEq> PartialEq for Sequence<T> {
+    ghost eq = { pointwise T.eq };
+
+    ghost laws = { lists_per T.laws };
+
+    fn eq(&self, other: &Sequence<T>) -> bool {
+        self.items == other.items
+    }
+}
+
+impl<T: Eq> Eq for Sequence<T> {
+    ghost laws = { lists_equiv T.Eq.laws };
+}
+
+impl<T: PartialOrd> PartialOrd for Sequence<T> {
+    ghost partial_cmp = { slice_partial_cmp T.partial_cmp };
+
+    ghost laws = { lists_po T.PartialOrd.laws };
+
+    fn partial_cmp(&self, other: &Sequence<T>) -> Option<Ordering> {
+        self.items.partial_cmp(&other.items)
+    }
+}
+
+/// Item by item: the first two that differ decide, else the shorter sequence comes first.
+impl<T: Ord> Ord for Sequence<T> {
+    ghost cmp = { slice_cmp T.cmp };
+
+    ghost total = { lists_total T.total };
+
+    ghost matches_partial_cmp = { λ a b. lists_agrees T.matches_partial_cmp a b };
+
+    ghost matches_eq = { λ a b. lists_ties T.cmp T.matches_eq a b };
+
+    fn cmp(&self, other: &Sequence<T>) -> Ordering {
+        self.items.cmp(&other.items)
+    }
 }
