@@ -1,7 +1,7 @@
 -- Which texts of CREATE TABLE are read so far, and the schema that each declares (MySQL's manual, "CREATE TABLE
 -- Statement"): INT columns, one of which is the PRIMARY KEY.
-use Rattle.std.specs.Prelude.{codes, ℕ, zero, suc, Bool, true, false, not, ◌&&◌, ◌==◌, nat_le, List, [], ◌∷◌, length, count_by, Option, Some, None, if◌then◌else◌}
-use Rattle.std.specs.List.{list_any, position_or_len}
+use Rattle.std.specs.Prelude.{codes, ℕ, zero, suc, Bool, true, false, not, ◌&&◌, ◌==◌, nat_le, List, [], ◌∷◌, length, count_by, position, unwrap_or, Option, Some, None, if◌then◌else◌}
+use Rattle.std.specs.List.{list_any}
 use Rattle.std.specs.Str.{bytes_eq}
 use Rattle.gho_values.specs.declared.kind.Kind.{Kind}
 use Rattle.gho_values.specs.declared.kind.Kind.TheVariants.{Int}
@@ -59,10 +59,14 @@ unfoldable pub columns_at : ℕ → ℕ → List ℕ → Option (List Column × 
 columns_at zero sign text = Some ([], text)
 columns_at (suc limit) sign text = columns_behind (columns_at limit 44) text (sign_at sign text)
 
--- no two columns have one name (MySQL's manual, "Identifier Case Sensitivity": whatever the case of letters)
+-- whether one of the columns has this name (MySQL's manual, "Identifier Case Sensitivity": whatever the case of letters)
+unfoldable pub has_name : List Column → List ℕ → Bool
+has_name columns name = list_any (λ column. same_name column.name name) columns
+
+-- no two columns have one name
 unfoldable pub names_differ : List Column → Bool
 names_differ [] = true
-names_differ (column ∷ others) = not (list_any (λ other. same_name other.name column.name) others) && names_differ others
+names_differ (column ∷ others) = not (has_name others column.name) && names_differ others
 
 -- whether the column is the PRIMARY KEY, which alone is NOT NULL so far
 abbrev pub is_key : Column → Bool
@@ -73,7 +77,7 @@ abbrev pub schema_of : List ℕ → List Column → Schema
 schema_of name columns = record {
   name = name;
   columns = columns;
-  uniques = record { name = None; places = position_or_len is_key columns ∷ [] } ∷ [];
+  uniques = record { name = None; places = unwrap_or (position is_key columns) 0 ∷ [] } ∷ [];
   indexes = [];
   comment = [];
 }
@@ -87,4 +91,4 @@ schema_at migrated text = do
   name ← name_at rest
   columns ← columns_at 64 40 name.1
   rest ← sign_at 41 columns.1
-  if is_blank rest && (bytes_eq name.0 migrated && is_table_name name.0 && (names_differ columns.0 && count_by is_key columns.0 == 1)) then Some (schema_of name.0 columns.0) else None
+  if is_blank rest && ((bytes_eq name.0 migrated && is_table_name name.0) && (names_differ columns.0 && count_by is_key columns.0 == 1)) then Some (schema_of name.0 columns.0) else None

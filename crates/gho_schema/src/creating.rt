@@ -1,10 +1,10 @@
 //! The reader of CREATE TABLE.
 
-ghost use Rattle.std.specs.Prelude.{◌≡◌, ◌==◌, ◌-◌, ◌<◌, ◌&&◌, List, length, option_map, count_by, IfOk, None};
-ghost use Rattle.std.specs.List.{position_or_len};
-ghost use Rattle.std.specs.Str.{IsAscii};
+ghost use Rattle.std.specs.Prelude.{◌≡◌, ◌==◌, ◌-◌, ◌<◌, ◌≤◌, ◌&&◌, List, length, option_map, count_by, position, unwrap_or, IfOk, IfSome, None};
+ghost use Rattle.std.specs.Str.{IsAscii, bytes_eq};
+ghost use Rattle.gho_schema.specs.Names.{is_table_name};
 ghost use Rattle.gho_schema.specs.Reading.{Reads};
-ghost use Rattle.gho_schema.specs.Creating.{int_kind, column_name_at, primary_key_at, int_column, column_at, columns_at, names_differ, is_key, schema_of, schema_at};
+ghost use Rattle.gho_schema.specs.Creating.{int_kind, column_name_at, primary_key_at, int_column, column_at, columns_at, has_name, names_differ, is_key, schema_of, schema_at};
 
 use crate::fault::SchemaFault;
 use crate::names::{begins_no_column, is_column_name, is_table_name, same_name};
@@ -74,4 +74,110 @@ fn column_at(alloc: Global, text: &[u8]) -> Result<(Column, &[u8]), SchemaFault>
     let rest = keyword_at(b"INT", rest).ok_or(SchemaFault::NotBuilt)?;
     let (is_key, rest) = primary_key_at(rest).ok_or(SchemaFault::NotBuilt)?;
     Ok((int_column(name, is_key), rest))
+}
+
+fn columns_at(alloc: Global, text: &[u8]) -> Result<(Columns, &[u8]), SchemaFault>
+    ensures columns { Reads (λ columns. (columns.0, columns.1.now)) result (columns_at COLUMN_LIMIT 40 text.now) }
+    ensures count { IfOk result (λ columns. length columns.0 ≤ COLUMN_LIMIT) }
+{
+    let mut columns = Sequence::new(alloc);
+    let mut rest = text;
+    let mut sign = b'(';
+    for _ in 0..COLUMN_LIMIT {
+        let behind = match sign_at(sign, rest) {
+            None => return Ok((columns, rest)),
+            Some(behind) => behind,
+        };
+        let (column, after) = column_at(alloc, behind)?;
+        columns.push(column)?;
+        rest = after;
+        sign = b',';
+    }
+    Ok((columns, rest))
+}
+
+/// Whether no two columns have one name.
+#[tactic(auto, unfolding(crate::specs::Creating::names_differ))]
+fn names_differ(columns: &[Column]) -> bool
+    ensures { result ≡ names_differ columns.now }
+{
+    for (i, column) in columns.iter().enumerate() {
+        if has_name(&columns[i + 1..], &column.name) {
+            return false;
+        }
+    }
+    true
+}
+
+/// Whether one of the columns has this name, whatever the case of letters.
+#[tactic(auto, unfolding(crate::specs::Creating::has_name))]
+pub fn has_name(columns: &[Column], name: &Name) -> bool
+    ensures { result ≡ has_name columns.now name.now }
+{
+    columns.iter().any(|column| same_name(
+        column.name.as_str().as_bytes(),
+        name.as_str().as_bytes(),
+    ))
+}
+
+fn first_key(columns: &[Column]) -> Option<usize>
+    ensures place { result ≡ position is_key columns.now }
+    ensures within { IfSome result (λ place. place < length columns.now) }
+{
+    columns.iter().position(|column| !column.nullable)
+}
+
+fn key_place(columns: &[Column]) -> u32
+    requires { length columns.now ≤ COLUMN_LIMIT }
+    ensures { result ≡ unwrap_or (position is_key columns.now) 0 }
+{
+    match first_key(columns) {
+        Some(place) => place as u32,
+        None => 0,
+    }
+}
+
+fn schema_of(alloc: Global, name: Name, columns: Columns) -> Result<Schema, AllocError>
+    requires { length columns ≤ COLUMN_LIMIT }
+    ensures { IfOk result (λ schema. schema ≡ schema_of name columns) }
+{
+    let mut places = Sequence::new(alloc);
+    places.push(key_place(columns.as_slice()))?;
+    let mut uniques = Sequence::new(alloc);
+    uniques.push(Index { name: None, places })?;
+    Ok(Schema {
+        name,
+        columns,
+        uniques,
+        indexes: Sequence::new(alloc),
+        comment: Chars::new(alloc, "")?,
+    })
+}
+
+/// Reads the text of CREATE TABLE for the table of this name.
+#[tactic(auto, unfolding(crate::specs::Creating::schema_at))]
+pub fn read_schema(alloc: Global, text: &str, migrated: &str) -> Result<Schema, SchemaFault>
+    ensures { Reads (λ schema. schema) result (schema_at migrated.now text.now) }
+{
+    let rest = keyword_at(b"CREATE", text.as_bytes()).ok_or(SchemaFault::NotBuilt)?;
+    let rest = keyword_at(b"TABLE", rest).ok_or(SchemaFault::NotBuilt)?;
+    let (name, rest) = name_at(rest).ok_or(SchemaFault::NotBuilt)?;
+    let (columns, rest) = columns_at(alloc, rest)?;
+    let rest = sign_at(b')', rest).ok_or(SchemaFault::NotBuilt)?;
+    if !is_blank(rest) || !is_table(name, migrated) || !are_columns(columns.as_slice()) {
+        return Err(SchemaFault::NotBuilt);
+    }
+    Ok(schema_of(alloc, name_of(alloc, name)?, columns)?)
+}
+
+fn is_table(name: &[u8], migrated: &str) -> bool
+    ensures { result ≡ (bytes_eq name.now migrated.now && is_table_name name.now) }
+{
+    name == migrated.as_bytes() && is_table_name(name)
+}
+
+fn are_columns(columns: &[Column]) -> bool
+    ensures { result ≡ (names_differ columns.now && (count_by is_key columns.now == 1)) }
+{
+    names_differ(columns) && columns.iter().filter(|column| !column.nullable).count() == 1
 }

@@ -19,6 +19,6 @@ pub use kind::Kind;
 pub use name::{Name, Names};
 pub use sequence::Sequence;
 pub use span::{Bound, Span};
-pub use storing::store;
+pub use storing::{number_of, store};
 pub use text::{Chars, Text};
 pub use value::{Bytes, Key, Keys, Row, Rows, Value};

@@ -120,7 +120,7 @@ fn character_count(text: &str) -> usize
 
 /// The number that a text is: at most one sign and then 1 to 38 digits, which fit an `i128`.
 #[tactic(auto, using(crate::proofs::TextNumbers::parsed))]
-pub(crate) fn number_of(text: &str) -> Option<i128>
+pub fn number_of(text: &str) -> Option<i128>
     ensures { result ≡ text_number text.now }
 {
     if !is_number(text.as_bytes()) {
