@@ -1,3 +1,4 @@
 pub mod Comparing
+pub mod Printing
 pub mod Storing
 pub mod ValueOrder

@@ -6,6 +6,7 @@ mod duplicate;
 mod fault;
 mod kind;
 mod name;
+mod printing;
 mod sequence;
 mod span;
 mod storing;
@@ -17,8 +18,12 @@ pub use duplicate::Duplicate;
 pub use fault::{StoreFault, Unfit};
 pub use kind::Kind;
 pub use name::{Name, Names};
+pub use printing::{print_row, print_value};
 pub use sequence::Sequence;
 pub use span::{Bound, Span};
 pub use storing::{number_of, store};
 pub use text::{Chars, Text};
 pub use value::{Bytes, Key, Keys, Row, Rows, Value};
+
+#[cfg(test)]
+mod tests;

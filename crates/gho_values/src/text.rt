@@ -1,8 +1,13 @@
 //! Texts, which contracts see as the list of their UTF-8 bytes.
 
-ghost use Rattle.std.specs.Prelude.{◌≡◌, [], ◌∷◌, ◌++◌, ◌<◌, IfOk, OnOk, OnErr, string_bytes};
+ghost use Rattle.std.specs.Prelude.{◌≡◌, nat_eq, [], ◌∷◌, ◌++◌, ◌<◌, IfOk, OnOk, OnErr, string_bytes, encode_utf8};
+ghost use Rattle.std.specs.Fmt.{signed_decimal};
+ghost use Rattle.std.specs.Cmp.{partial_equiv_from_equiv};
+ghost use Rattle.std.specs.Cmp.Lexicographic.{pointwise};
+ghost use Rattle.std.proofs.lemmas.Cmp.{nat_list_eq_equiv};
 
 use crate::duplicate::Duplicate;
+use itoa::Buffer;
 use std::alloc::{AllocError, Global};
 use std::marker::Model;
 
@@ -46,6 +51,21 @@ impl Duplicate for Chars {
     }
 }
 
+/// By the bytes, so that letters of either case differ.
+impl PartialEq for Chars {
+    ghost eq = { pointwise nat_eq };
+
+    ghost laws = { partial_equiv_from_equiv nat_list_eq_equiv };
+
+    fn eq(&self, other: &Chars) -> bool {
+        self.text == other.text
+    }
+}
+
+impl Eq for Chars {
+    ghost laws = { nat_list_eq_equiv };
+}
+
 /// A text that grows: what the program prints is built in one.
 #[derive(Debug, Drop)]
 pub struct Text {
@@ -83,5 +103,26 @@ impl Text {
         ensures err { OnErr result (self.new ≡ self.old) }
     {
         self.text.push_str(piece)
+    }
+
+    /// Adds a character at the end.
+    pub fn push_char(&mut self, character: char) -> Result<(), AllocError>
+        ensures ok { OnOk result (self.new ≡ self.old ++ encode_utf8 character) }
+        ensures err { OnErr result (self.new ≡ self.old) }
+    {
+        self.text.push(character)
+    }
+
+    /// Adds a number in decimal at the end.
+    pub fn push_number(&mut self, number: i128) -> Result<(), AllocError>
+        ensures ok { OnOk result (self.new ≡ self.old ++ signed_decimal number) }
+        ensures err { OnErr result (self.new ≡ self.old) }
+    {
+        self.push_str(Buffer::new().format(number))
+    }
+
+    /// The allocator that the text grows by.
+    pub fn allocator(&self) -> Global {
+        *self.text.allocator()
     }
 }
