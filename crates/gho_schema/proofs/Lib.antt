@@ -1,2 +1,4 @@
 pub mod Ascii
 pub mod Columns
+pub mod Front
+pub mod Values

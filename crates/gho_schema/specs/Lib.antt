@@ -1,3 +1,4 @@
 pub mod Creating
 pub mod Names
 pub mod Reading
+pub mod Rows

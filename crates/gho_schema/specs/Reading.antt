@@ -1,6 +1,7 @@
 -- The words of a statement's text, each read at the front of what is left of it. Quoted names, comments and
 -- literals other than numbers aren't built yet.
-use Rattle.std.specs.Prelude.{◌≡◌, ℕ, Bool, true, false, ◌&&◌, ◌||◌, ◌==◌, ◌+◌, nat_le, List, [], ◌∷◌, length, take, drop, Option, Some, None, Result, Ok, Err, if◌then◌else◌}
+use Rattle.std.specs.Prelude.{◌≡◌, ℕ, Bool, true, false, ◌&&◌, ◌||◌, ◌==◌, ◌+◌, nat_le, List, [], ◌∷◌, length, take, drop, Option, Some, None, Result, Ok, Err, if◌then◌else◌, ℤ}
+use Rattle.gho_values.specs.Storing.{text_number}
 use Rattle.gho_schema.specs.Names.{same_name}
 use Rattle.gho_schema.specs.declared.fault.SchemaFault.{SchemaFault}
 use Rattle.gho_schema.specs.declared.fault.SchemaFault.TheVariants as faults
@@ -76,3 +77,21 @@ sign_at sign text = sign_here sign (skip_white text)
 -- nothing but white space is left
 unfoldable pub is_blank : List ℕ → Bool
 is_blank text = is_empty (skip_white text)
+
+-- a sign of a number at the very front: + or -
+abbrev pub sign_length : List ℕ → ℕ
+sign_length [] = 0
+sign_length (c ∷ cs) = if (c == 43) || (c == 45) then 1 else 0
+
+-- a sign, where one stands, and the digits behind it
+unfoldable pub number_length : List ℕ → ℕ
+number_length text = sign_length text + front is_digit (drop (sign_length text) text)
+
+-- a whole number of so many bytes, and what stands behind it
+abbrev pub number_here : ℕ → List ℕ → Option (ℤ × List ℕ)
+number_here len text = text_number (take len text) >>= λ number. Some (number, drop len text)
+
+-- a whole number behind white space: at most one sign and 1 to 38 digits (MySQL's manual, "Numeric Literals"; the
+-- limit is this project's rule)
+unfoldable pub number_at : List ℕ → Option (ℤ × List ℕ)
+number_at text = number_here (number_length (skip_white text)) (skip_white text)

@@ -5,10 +5,12 @@ mod creating;
 mod fault;
 mod names;
 mod reading;
+mod rows;
 mod schema;
 
 pub use creating::{COLUMN_LIMIT, INT, column_name_at, has_name, read_schema};
 pub use fault::SchemaFault;
 pub use names::{begins_no_column, is_column_name, is_table_name, same_name};
-pub use reading::{digit_count, is_blank, is_digit, keyword_at, name_at, sign_at, skip_white};
+pub use reading::{is_blank, keyword_at, name_at, number_at, sign_at};
+pub use rows::read_row;
 pub use schema::{Column, Columns, Index, Indexes, Places, Schema};

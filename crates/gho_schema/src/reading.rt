@@ -2,9 +2,10 @@
 
 ghost use Rattle.std.specs.Prelude.{◌≡◌, ◌≤◌, length, option_map, IfSome};
 ghost use Rattle.std.specs.Str.{IsAscii};
-ghost use Rattle.gho_schema.specs.Reading.{is_white, is_digit, begins_name, continues_name, skip_white, front, name_at, keyword_at, sign_at, is_blank};
+ghost use Rattle.gho_schema.specs.Reading.{is_white, is_digit, begins_name, continues_name, skip_white, front, name_at, keyword_at, sign_at, is_blank, sign_length, number_length, number_at};
 
 use crate::names::same_name;
+use gho_values::number_of;
 
 fn is_white(byte: u8) -> bool
     ensures { result ≡ is_white byte }
@@ -12,8 +13,7 @@ fn is_white(byte: u8) -> bool
     byte == b' ' || byte == b'\t' || byte == b'\n' || byte == b'\r'
 }
 
-/// Whether the byte is an ASCII digit.
-pub fn is_digit(byte: u8) -> bool
+fn is_digit(byte: u8) -> bool
     ensures { result ≡ is_digit byte }
 {
     byte >= b'0' && byte <= b'9'
@@ -31,9 +31,8 @@ fn continues_name(byte: u8) -> bool
     begins_name(byte) || is_digit(byte)
 }
 
-/// The text without the white space at its front.
 #[tactic(auto, unfolding(crate::specs::Reading::skip_white))]
-pub fn skip_white(text: &[u8]) -> &[u8]
+fn skip_white(text: &[u8]) -> &[u8]
     ensures { result.now ≡ skip_white text.now }
 {
     for (i, byte) in text.iter().enumerate() {
@@ -57,9 +56,8 @@ fn name_length(text: &[u8]) -> usize
     text.len()
 }
 
-/// How many digits stand at the very front.
 #[tactic(auto, unfolding(crate::specs::Reading::front))]
-pub fn digit_count(text: &[u8]) -> usize
+fn digit_count(text: &[u8]) -> usize
     ensures count { result ≡ front is_digit text.now }
     ensures within { result ≤ length text.now }
 {
@@ -117,5 +115,37 @@ pub fn is_blank(text: &[u8]) -> bool
     match skip_white(text) {
         [] => true,
         [_, ..] => false,
+    }
+}
+
+fn sign_length(text: &[u8]) -> usize
+    ensures length { result ≡ sign_length text.now }
+    ensures within { result ≤ length text.now }
+{
+    match text {
+        [b'+' | b'-', ..] => 1,
+        _ => 0,
+    }
+}
+
+#[tactic(auto, unfolding(crate::specs::Reading::number_length))]
+fn number_length(text: &[u8]) -> usize
+    ensures length { result ≡ number_length text.now }
+    ensures within { result ≤ length text.now }
+{
+    let sign = sign_length(text);
+    sign + digit_count(&text[sign..])
+}
+
+/// The whole number at the front, and what stands behind it.
+#[tactic(auto, unfolding(crate::specs::Reading::number_at))]
+pub fn number_at(text: &[u8]) -> Option<(i128, &[u8])>
+    ensures { option_map (λ number. (number.0, number.1.now)) result ≡ number_at text.now }
+{
+    let text = skip_white(text);
+    let (number, rest) = text.split_at(number_length(text));
+    match std::str::from_utf8(number) {
+        Ok(number) => Some((number_of(number)?, rest)),
+        Err(_) => unreachable!(),
     }
 }

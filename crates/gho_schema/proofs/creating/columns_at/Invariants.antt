@@ -1,7 +1,7 @@
 use Rattle.std.proofs.Common.{◌≡◌, ◌-◌, ◌≤◌, length}
 use Rattle.gho_schema.specs.declared.creating.TheConstants.{COLUMN_LIMIT}
 use Rattle.gho_schema.specs.Creating.{columns_at}
-use Rattle.gho_schema.proofs.Columns.{with_front}
+use Rattle.gho_schema.proofs.Front.{with_front}
 use Rattle.gho_schema.proofs.creating.columns_at.Given as goal
 
 -- the columns so far, and those that are still read, are those of the whole text

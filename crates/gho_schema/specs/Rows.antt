@@ -1,0 +1,65 @@
+-- Which texts are rows of a table, and the order in which a table keeps its rows.
+use Rattle.std.specs.Prelude.{◌≡◌, ℕ, Bool, not, List, [], ◌∷◌, ◌++◌, option_to_list, Option, Some, None, Result, Ok, Err, if◌then◌else◌}
+use Rattle.std.specs.declared.cmp.Ordering.{Ordering}
+use Rattle.std.specs.Ordering.{is_eq, match_ordering}
+use Rattle.std.specs.List.{list_any, slice_get}
+use Rattle.std.specs.Result.{result_ok}
+use Rattle.gho_values.specs.declared.value.Value.{Value}
+use Rattle.gho_values.specs.declared.value.Value.TheVariants.{Num}
+use Rattle.gho_values.specs.Storing.{stores}
+use Rattle.gho_values.specs.Comparing.{compare_keys}
+use Rattle.gho_schema.specs.declared.schema.Schema.{Schema}
+use Rattle.gho_schema.specs.declared.schema.Column.{Column}
+use Rattle.gho_schema.specs.declared.schema.Index.{Index}
+use Rattle.gho_schema.specs.Reading.{◌>>=◌, number_at, sign_at, is_blank}
+
+-- a whole number, as the column stores it
+unfoldable pub value_at : Column → List ℕ → Option (Value × List ℕ)
+value_at column text = do
+  number ← number_at text
+  value ← result_ok (stores (Num number.0) column.kind column.nullable)
+  Some (value, number.1)
+
+-- a value for each column, each behind its sign: the first behind `sign`, the others behind a comma
+unfoldable pub values_at : List Column → ℕ → List ℕ → Option (List Value × List ℕ)
+values_at [] sign text = Some ([], text)
+values_at (column ∷ columns) sign text = do
+  rest ← sign_at sign text
+  value ← value_at column rest
+  others ← values_at columns 44 value.1
+  Some (value.0 ∷ others.0, others.1)
+
+-- A whole text that is a row: one value a column, in parentheses (as one row of MySQL's manual, "VALUES Statement").
+unfoldable pub row_at : List Column → List ℕ → Option (List Value)
+row_at columns text = do
+  values ← values_at columns 40 text
+  rest ← sign_at 41 values.1
+  if is_blank rest then Some values.0 else None
+
+-- The places of the clustered key's columns: those of the PRIMARY KEY, which is the first unique key and which every
+-- table has so far (MySQL's manual, "Clustered and Secondary Indexes").
+abbrev pub places_of_first : List Index → List ℕ
+places_of_first [] = []
+places_of_first (index ∷ others) = index.places
+
+abbrev pub key_places : Schema → List ℕ
+key_places schema = places_of_first schema.uniques
+
+-- a row's key: its values at these places
+unfoldable pub key_of : List ℕ → List Value → List Value
+key_of [] row = []
+key_of (place ∷ places) row = option_to_list (slice_get row place) ++ key_of places row
+
+-- whether one of the rows has this key
+unfoldable pub has_key : List ℕ → List (List Value) → List Value → Bool
+has_key places rows key = list_any (λ row. is_eq (compare_keys key (key_of places row))) rows
+
+-- the rows with one more before the first whose key isn't smaller
+unfoldable pub with_row : List ℕ → List Value → List (List Value) → List (List Value)
+with_row places row [] = row ∷ []
+with_row places row (first ∷ rows) =
+    match_ordering (compare_keys (key_of places row) (key_of places first)) (row ∷ first ∷ rows) (row ∷ first ∷ rows) (first ∷ with_row places row rows)
+
+-- The rows with one more in its place in order of the key, or none where a row has its key already.
+abbrev pub put : List ℕ → List Value → List (List Value) → Option (List (List Value))
+put places row rows = if has_key places rows (key_of places row) then None else Some (with_row places row rows)
