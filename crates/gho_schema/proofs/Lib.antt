@@ -1,4 +1,5 @@
 pub mod Ascii
 pub mod Columns
 pub mod Front
+pub mod RowMap
 pub mod Values

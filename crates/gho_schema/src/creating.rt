@@ -22,7 +22,8 @@ pub const INT: Kind = Kind::Int {
     unsigned: false,
 };
 
-fn name_of(alloc: Global, name: &[u8]) -> Result<Name, AllocError>
+/// The name that these ASCII bytes spell.
+pub fn name_of(alloc: Global, name: &[u8]) -> Result<Name, AllocError>
     requires { IsAscii name.now }
     ensures { IfOk result (λ made. made ≡ name.now) }
 {
