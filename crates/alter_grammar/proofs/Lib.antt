@@ -1,0 +1,2 @@
+pub mod ImagesSoFar
+pub mod RowImages

@@ -1,0 +1,3 @@
+pub mod Altering
+pub mod Clauses
+pub mod Images

@@ -1,0 +1,18 @@
+//! The clauses of ALTER TABLE, the table that they leave, and what they make of its rows.
+#![tactic(auto)]
+
+mod altering;
+mod clause;
+mod fault;
+mod image_fault;
+mod imaging;
+mod map;
+mod reading;
+
+pub use altering::altered;
+pub use clause::{Clause, Clauses, NewColumn, Spot};
+pub use fault::AlterFault;
+pub use image_fault::{ImageFault, UnfitAt};
+pub use imaging::{image, images};
+pub use map::{ColumnMap, MapColumn, Origin};
+pub use reading::read_alter;

@@ -1,0 +1,26 @@
+//! Where the values of an altered table's columns come from.
+
+use gho_values::{Kind, Sequence, Value};
+
+/// A new column: what it stores, and of what.
+#[derive(Debug, Drop)]
+pub struct MapColumn {
+    /// The kind of its values.
+    pub kind: Kind,
+    /// Whether it may be null.
+    pub nullable: bool,
+    /// Where its values come from.
+    pub origin: Origin,
+}
+
+/// Where a new column's values come from.
+#[derive(Debug, Drop)]
+pub enum Origin {
+    /// The old column at this place, from 0.
+    Old(u32),
+    /// Nowhere: the column was added, and gets this default.
+    Added(Value),
+}
+
+/// The new columns in order.
+pub type ColumnMap = Sequence<MapColumn>;
