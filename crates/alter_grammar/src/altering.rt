@@ -3,18 +3,21 @@
 ghost use Rattle.std.specs.Prelude.{◌≡◌, ◌≤◌, ◌<◌, ◌^◌, length, IfOk};
 ghost use Rattle.alter_grammar.specs.Clauses.{Reads};
 ghost use Rattle.alter_grammar.specs.Altering.{kept_from, stored_default, added, altered};
+ghost use Rattle.alter_grammar.specs.Images.{altered_table};
 
 use crate::clause::{Clause, Clauses, NewColumn, Spot};
 use crate::fault::AlterFault;
+use crate::imaging::images;
 use crate::map::{ColumnMap, MapColumn, Origin};
 use gho_schema::{COLUMN_LIMIT, Column, Schema, has_name};
-use gho_values::{Duplicate, Sequence, StoreFault, Value, store};
+use gho_values::{Duplicate, Row, Rows, Sequence, StoreFault, Value, store};
 use std::alloc::{AllocError, Global};
 
 #[tactic(auto, unfolding(crate::specs::Altering::kept_from))]
 fn kept(alloc: Global, columns: &[Column]) -> Result<ColumnMap, AllocError>
     requires { length columns.now < 2 ^ 32 }
-    ensures { IfOk result (λ map. map ≡ kept_from 0 columns.now) }
+    ensures map { IfOk result (λ map. map ≡ kept_from 0 columns.now) }
+    ensures count { IfOk result (λ map. length map ≡ length columns.now) }
 {
     let mut map = Sequence::new(alloc);
     let mut place = 0;
@@ -49,6 +52,7 @@ fn added(
     column: &NewColumn,
 ) -> Result<(Schema, ColumnMap), AlterFault>
     ensures table { Reads (λ new. new) result (added schema.now column.now) }
+    ensures count { IfOk result (λ new. length new.1 ≤ COLUMN_LIMIT) }
 {
     let value = stored_default(alloc, column)?;
     let limit = COLUMN_LIMIT as usize;
@@ -78,7 +82,8 @@ pub fn altered(
     schema: &Schema,
     clauses: &Clauses,
 ) -> Result<(Schema, ColumnMap), AlterFault>
-    ensures { Reads (λ new. new) result (altered schema.now clauses.now) }
+    ensures table { Reads (λ new. new) result (altered schema.now clauses.now) }
+    ensures count { IfOk result (λ new. length new.1 ≤ COLUMN_LIMIT) }
 {
     match clauses.as_slice() {
         [
@@ -89,4 +94,19 @@ pub fn altered(
         ] => added(alloc, schema, column),
         _ => Err(AlterFault::NotBuilt),
     }
+}
+
+/// The altered schema, and the image of every row.
+#[tactic(auto, unfolding(crate::specs::Images::altered_table))]
+pub fn altered_table(
+    alloc: Global,
+    schema: &Schema,
+    rows: &[Row],
+    clauses: &Clauses,
+) -> Result<(Schema, Rows), AlterFault>
+    ensures { Reads (λ new. new) result (altered_table schema.now rows.now clauses.now) }
+{
+    let (schema, map) = altered(alloc, schema, clauses)?;
+    let rows = images(alloc, map.as_slice(), rows)?;
+    Ok((schema, rows))
 }

@@ -9,7 +9,7 @@ mod imaging;
 mod map;
 mod reading;
 
-pub use altering::altered;
+pub use altering::{altered, altered_table};
 pub use clause::{Clause, Clauses, NewColumn, Spot};
 pub use fault::AlterFault;
 pub use image_fault::{ImageFault, UnfitAt};
