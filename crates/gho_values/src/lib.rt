@@ -21,7 +21,7 @@ pub use name::{Name, Names};
 pub use printing::{print_row, print_value};
 pub use sequence::Sequence;
 pub use span::{Bound, Span};
-pub use storing::store;
+pub use storing::{seek, store};
 pub use text::{Chars, Text};
 pub use value::{Bytes, Key, Keys, Row, Rows, Value};
 
