@@ -1,4 +1,5 @@
 pub mod Comparing
+pub mod Laws
 pub mod Printing
 pub mod Spans
 pub mod Storing

@@ -23,6 +23,10 @@ below Free key = true
 unfoldable pub has : Span → List Value → Bool
 has span key = above span.low key && below span.high key
 
+-- The span of one key.
+abbrev pub point : List Value → Span
+point key = record { low = Closed key; high = Closed key }
+
 -- A lower and an upper end leave room between them: the lower comes first, or both are closed at one key.
 abbrev pub leave_room : Bound → Bound → Bool
 leave_room Free high = true

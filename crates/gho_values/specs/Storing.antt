@@ -91,3 +91,24 @@ abbrev pub Stored : Result Value StoreFault → Result Value Unfit → Type 0
 Stored (Ok value) said = said ≡ Ok value
 Stored (Err faults.Memory) said = Unit {0}
 Stored (Err (faults.Unfit reason)) said = said ≡ Err reason
+
+-- The value is one of the kind, in its range or its length; a null is one of each.
+unfoldable pub fits : Value → Kind → Bool
+fits Null kind = true
+fits (Num n) (Int bytes unsigned) = int_le (lowest bytes unsigned) n && int_le n (highest bytes unsigned)
+fits (Text text) (VarChar limit) = nat_le (character_count text) limit
+fits (Blob blob) (VarBinary limit) = nat_le (length blob) limit
+fits value kind = false
+
+-- The value is of the kind, whatever its range or length, and no null.
+abbrev pub IsOfKind : Value → Kind → Type 0
+IsOfKind (Num n) (Int bytes unsigned) = Unit {0}
+IsOfKind (Text text) (VarChar limit) = Unit {0}
+IsOfKind (Blob blob) (VarBinary limit) = Unit {0}
+IsOfKind value kind = ⊥
+
+-- A key's values are of the kinds, column by column.
+abbrev pub AreOfKinds : List Value → List Kind → Type 0
+AreOfKinds [] [] = Unit {0}
+AreOfKinds (value ∷ key) (kind ∷ kinds) = IsOfKind value kind × AreOfKinds key kinds
+AreOfKinds key kinds = ⊥

@@ -5,6 +5,7 @@ mod comparing;
 mod duplicate;
 mod fault;
 mod kind;
+pub mod laws;
 mod name;
 mod printing;
 mod sequence;
