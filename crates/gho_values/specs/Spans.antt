@@ -1,11 +1,13 @@
 -- Which keys a span has, and when two spans leave room for a common one. A span is a set of keys between two ends, as MySQL's manual has it for range conditions ("Range Optimization") and locks ("InnoDB Locking").
 use Rattle.std.specs.Prelude.{Bool, true, ◌&&◌, List}
 use Rattle.std.specs.Ordering.{is_lt, is_le}
+use Rattle.gho_values.specs.declared.kind.Kind.{Kind}
 use Rattle.gho_values.specs.declared.value.Value.{Value}
 use Rattle.gho_values.specs.declared.span.Bound.{Bound}
 use Rattle.gho_values.specs.declared.span.Bound.TheVariants.{Open, Closed, Free}
 use Rattle.gho_values.specs.declared.span.Span.{Span}
 use Rattle.gho_values.specs.Comparing.{compare_keys, SameKinds}
+use Rattle.gho_values.specs.Storing.{AreOfKinds}
 
 -- The key is on the inner side of a lower end.
 abbrev pub above : Bound → List Value → Bool
@@ -63,3 +65,14 @@ pub record SpansFit (a b : Span) : Type 0 where
   pub first_second : EndsFit a.low b.high
   pub second_first : EndsFit b.low a.high
   pub second : EndsFit b.low b.high
+
+-- An end, where it is a key, is of the columns' kinds.
+abbrev pub EndOfKinds : Bound → List Kind → Type 0
+EndOfKinds (Open end) kinds = AreOfKinds end kinds
+EndOfKinds (Closed end) kinds = AreOfKinds end kinds
+EndOfKinds Free kinds = Unit {0}
+
+-- A span of keys of the columns' kinds.
+pub record SpanOfKinds (span : Span) (kinds : List Kind) : Type 0 where
+  pub low : EndOfKinds span.low kinds
+  pub high : EndOfKinds span.high kinds

@@ -16,6 +16,13 @@ use Rattle.gho_values.specs.declared.fault.Unfit.TheVariants as unfit
 use Rattle.gho_values.specs.declared.fault.StoreFault.{StoreFault}
 use Rattle.gho_values.specs.declared.fault.StoreFault.TheVariants as faults
 
+-- The number of a refusal (MySQL's manual, "Server Error Message Reference").
+abbrev pub error_number : Unfit → ℕ
+error_number unfit.Null = 1048
+error_number unfit.Range = 1264
+error_number unfit.Length = 1406
+error_number unfit.Kind = 1366
+
 -- How many numbers a signed kind has below 0, by its bytes: TINYINT, SMALLINT, MEDIUMINT, INT, BIGINT ("Integer Types (Exact Value)"). MySQL has no kind of other bytes; it is read as BIGINT.
 unfoldable pub half : ℕ → ℕ
 half bytes = if bytes == 1 then 2 ^ 7 else (if bytes == 2 then 2 ^ 15 else (if bytes == 3 then 2 ^ 23 else (if bytes == 4 then 2 ^ 31 else 2 ^ 63)))
