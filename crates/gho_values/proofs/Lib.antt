@@ -1,2 +1,6 @@
 pub mod Escapes
+pub mod Orders
+pub mod PrintedValues
+pub mod SpanLaws
+pub mod StoredValues
 pub mod TextNumbers

@@ -24,10 +24,15 @@ compare_values a b = nat_cmp (rank a) (rank b)
 abbrev pub compare_keys : List Value → List Value → Ordering
 compare_keys = slice_cmp compare_values
 
--- Two keys have values of the same kinds, column by column, and no null: what the values of one key of one table are.
+-- Two values of one kind, neither of them null.
+abbrev pub SameKind : Value → Value → Type 0
+SameKind (Num m) (Num n) = Unit {0}
+SameKind (Text s) (Text t) = Unit {0}
+SameKind (Blob s) (Blob t) = Unit {0}
+SameKind a b = ⊥
+
+-- Two keys of the same kinds, column by column, without null: what two values of one key of one table are.
 abbrev pub SameKinds : List Value → List Value → Type 0
 SameKinds [] [] = Unit {0}
-SameKinds (Num m ∷ a) (Num n ∷ b) = SameKinds a b
-SameKinds (Text s ∷ a) (Text t ∷ b) = SameKinds a b
-SameKinds (Blob s ∷ a) (Blob t ∷ b) = SameKinds a b
+SameKinds (x ∷ a) (y ∷ b) = SameKind x y × SameKinds a b
 SameKinds a b = ⊥

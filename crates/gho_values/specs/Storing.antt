@@ -16,6 +16,13 @@ use Rattle.gho_values.specs.declared.fault.Unfit.TheVariants as unfit
 use Rattle.gho_values.specs.declared.fault.StoreFault.{StoreFault}
 use Rattle.gho_values.specs.declared.fault.StoreFault.TheVariants as faults
 
+-- The number of a refusal (MySQL's manual, "Server Error Message Reference").
+abbrev pub error_number : Unfit → ℕ
+error_number unfit.Null = 1048
+error_number unfit.Range = 1264
+error_number unfit.Length = 1406
+error_number unfit.Kind = 1366
+
 -- How many numbers a signed kind has below 0, by its bytes: TINYINT, SMALLINT, MEDIUMINT, INT, BIGINT ("Integer Types (Exact Value)"). MySQL has no kind of other bytes; it is read as BIGINT.
 unfoldable pub half : ℕ → ℕ
 half bytes = if bytes == 1 then 2 ^ 7 else (if bytes == 2 then 2 ^ 15 else (if bytes == 3 then 2 ^ 23 else (if bytes == 4 then 2 ^ 31 else 2 ^ 63)))
@@ -91,3 +98,24 @@ abbrev pub Stored : Result Value StoreFault → Result Value Unfit → Type 0
 Stored (Ok value) said = said ≡ Ok value
 Stored (Err faults.Memory) said = Unit {0}
 Stored (Err (faults.Unfit reason)) said = said ≡ Err reason
+
+-- The value is one of the kind, in its range or its length; a null is one of each.
+unfoldable pub fits : Value → Kind → Bool
+fits Null kind = true
+fits (Num n) (Int bytes unsigned) = int_le (lowest bytes unsigned) n && int_le n (highest bytes unsigned)
+fits (Text text) (VarChar limit) = nat_le (character_count text) limit
+fits (Blob blob) (VarBinary limit) = nat_le (length blob) limit
+fits value kind = false
+
+-- The value is of the kind, whatever its range or length, and no null.
+abbrev pub IsOfKind : Value → Kind → Type 0
+IsOfKind (Num n) (Int bytes unsigned) = Unit {0}
+IsOfKind (Text text) (VarChar limit) = Unit {0}
+IsOfKind (Blob blob) (VarBinary limit) = Unit {0}
+IsOfKind value kind = ⊥
+
+-- A key's values are of the kinds, column by column.
+abbrev pub AreOfKinds : List Value → List Kind → Type 0
+AreOfKinds [] [] = Unit {0}
+AreOfKinds (value ∷ key) (kind ∷ kinds) = IsOfKind value kind × AreOfKinds key kinds
+AreOfKinds key kinds = ⊥

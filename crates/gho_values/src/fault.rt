@@ -19,6 +19,22 @@ pub enum Unfit {
     Kind,
 }
 
+impl Unfit {
+    ghost use Rattle.gho_values.specs.Storing.{error_number};
+
+    /// The refusal's number.
+    pub fn number(self) -> u16
+        ensures { result ≡ error_number self }
+    {
+        match self {
+            Unfit::Null => 1048,
+            Unfit::Range => 1264,
+            Unfit::Length => 1406,
+            Unfit::Kind => 1366,
+        }
+    }
+}
+
 /// Why `store` or `seek` gives no value.
 #[derive(Debug, Drop, Error)]
 pub enum StoreFault {

@@ -5,6 +5,7 @@ mod comparing;
 mod duplicate;
 mod fault;
 mod kind;
+pub mod laws;
 mod name;
 mod printing;
 mod sequence;
@@ -21,7 +22,7 @@ pub use name::{Name, Names};
 pub use printing::{print_row, print_value};
 pub use sequence::Sequence;
 pub use span::{Bound, Span};
-pub use storing::{number_of, store};
+pub use storing::{number_of, seek, store};
 pub use text::{Chars, Text};
 pub use value::{Bytes, Key, Keys, Row, Rows, Value};
 

@@ -1,9 +1,9 @@
 //! What columns store of values.
 
-ghost use Rattle.std.specs.Prelude.{◌≡◌, ◌<◌, ◌≤◌, ◌^◌, is_some};
+ghost use Rattle.std.specs.Prelude.{◌≡◌, ◌<◌, ◌≤◌, ◌^◌, is_some, IfOk};
 ghost use Rattle.std.specs.Char.{is_ascii_digit};
 ghost use Rattle.std.specs.List.{list_all};
-ghost use Rattle.gho_values.specs.Storing.{half, lowest, highest, character_count, digits_number, text_number, in_range, text_within, bytes_within, stores, Stored};
+ghost use Rattle.gho_values.specs.Storing.{half, lowest, highest, character_count, digits_number, text_number, in_range, text_within, bytes_within, stores, seeks, Stored};
 
 use crate::fault::{StoreFault, Unfit};
 use crate::kind::Kind;
@@ -11,7 +11,7 @@ use crate::sequence::Sequence;
 use crate::text::Chars;
 use crate::value::Value;
 use itoa::Buffer;
-use std::alloc::Global;
+use std::alloc::{AllocError, Global};
 
 /// The value that a column of the kind stores for this one, or why it refuses it. `nullable` says whether the column
 /// may be null. A text becomes a number in an integer column, and a number a text or bytes in the others.
@@ -44,6 +44,36 @@ pub fn store(alloc: Global, value: &Value, kind: Kind, nullable: bool) -> Result
     }
 }
 
+/// The value that a condition compares with a column of the kind, for a literal, or why there is none: what `store`
+/// would store if the column had room for it. A null is refused, as nothing equals it.
+#[tactic(auto, unfolding(crate::specs::Storing::seeks))]
+pub fn seek(alloc: Global, value: &Value, kind: Kind) -> Result<Value, StoreFault>
+    ensures { Stored result (seeks value.now kind) }
+{
+    match value {
+        Value::Null => Err(StoreFault::Unfit(Unfit::Kind)),
+        Value::Num(number) => match kind {
+            Kind::Int { .. } => Ok(Value::Num(*number)),
+            Kind::VarChar(_) => Ok(text_value(alloc, Buffer::new().format(*number))?),
+            Kind::VarBinary(_) => {
+                Ok(bytes_value(alloc, Buffer::new().format(*number).as_bytes())?)
+            }
+        },
+        Value::Text(chars) => match kind {
+            Kind::Int { .. } => match number_of(chars.as_str()) {
+                Some(number) => Ok(Value::Num(number)),
+                None => Err(StoreFault::Unfit(Unfit::Kind)),
+            },
+            Kind::VarChar(_) => Ok(text_value(alloc, chars.as_str())?),
+            Kind::VarBinary(_) => Ok(bytes_value(alloc, chars.as_str().as_bytes())?),
+        },
+        Value::Blob(blob) => match kind {
+            Kind::Int { .. } | Kind::VarChar(_) => Err(StoreFault::Unfit(Unfit::Kind)),
+            Kind::VarBinary(_) => Ok(bytes_value(alloc, blob.as_slice())?),
+        },
+    }
+}
+
 #[tactic(auto, unfolding(crate::specs::Storing::in_range))]
 fn number_in_range(number: i128, bytes: u8, unsigned: bool) -> Result<Value, StoreFault>
     ensures { Stored result (in_range bytes unsigned number) }
@@ -62,6 +92,12 @@ fn short_text(alloc: Global, text: &str, limit: u16) -> Result<Value, StoreFault
     if character_count(text) > usize::from(limit) {
         return Err(StoreFault::Unfit(Unfit::Length));
     }
+    Ok(text_value(alloc, text)?)
+}
+
+fn text_value(alloc: Global, text: &str) -> Result<Value, AllocError>
+    ensures { IfOk result (λ value. value ≡ Value.Text text.now) }
+{
     Ok(Value::Text(Chars::new(alloc, text)?))
 }
 
@@ -72,6 +108,12 @@ fn short_bytes(alloc: Global, bytes: &[u8], limit: u16) -> Result<Value, StoreFa
     if bytes.len() > usize::from(limit) {
         return Err(StoreFault::Unfit(Unfit::Length));
     }
+    Ok(bytes_value(alloc, bytes)?)
+}
+
+fn bytes_value(alloc: Global, bytes: &[u8]) -> Result<Value, AllocError>
+    ensures { IfOk result (λ value. value ≡ Value.Blob bytes.now) }
+{
     Ok(Value::Blob(Sequence::from_vec(Vec::from_slice(alloc, bytes)?)))
 }
 
