@@ -6,3 +6,6 @@ mod whole;
 
 /// How many bytes a plan has at most: 16 MiB. This project's rule.
 pub const PLAN_LIMIT: usize = 16_777_216;
+
+#[cfg(test)]
+mod tests;
