@@ -1,6 +1,6 @@
 use Rattle.std.proofs.Common.{◌≡◌, arith, ap, sym, length, drop, length-drop, ℕ}
 use Rattle.migration_host.proofs.Buffers.{copied_then_rest}
-use Rattle.migration_host.proofs.edges.memory.BytesSourceSource.take.Goals as goal
+use Rattle.migration_host.proofs.edges.memory.source.BytesSourceSource.take.Goals as goal
 
 pub returns-then-taken-eq0-clause-ends : goal.returns-then-taken-eq0-clause-ends
 returns-then-taken-eq0-clause-ends c = (
