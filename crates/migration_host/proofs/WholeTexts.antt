@@ -18,10 +18,10 @@ pub record HasGiven (old new : Option (List ℕ)) (text : List ℕ) (given fault
   pub never_falls : faults_old ≤ faults_new
 
 -- a front of the text and then a front of the rest are one front of the text
-pub Appends-further : (first old new : Option (List ℕ)) (text : List ℕ) (given n : ℕ)
+pub front_grows : (first old new : Option (List ℕ)) (text : List ℕ) (given n : ℕ)
     → Appends first old (take given text) → Appends old new (take n (take (length text - given) (drop given text)))
     → Appends first new (take (given + n) text)
-Appends-further first old new text given n front more =
+front_grows first old new text given n front more =
     let joined : take given text ++ take n (take (length text - given) (drop given text)) ≡ take (given + n) text =
     ap (λ rest. take given text ++ take n rest) (take_rest text given) ∙ sym (take-add given n text) in
     subst (Appends first new) joined (Appends-trans _ _ _ _ _ front more)

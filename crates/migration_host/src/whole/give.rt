@@ -9,6 +9,7 @@ use super::fault::SinkFault;
 use crate::edges::{Gave, Sink};
 
 /// Gives the text to its last byte, or up to the sink's first fault. An empty text calls nothing.
+#[tactic(auto, using(crate::proofs::WholeTexts::front_grows))]
 pub(crate) fn give_whole<K: Sink>(sink: &mut K, text: &[u8]) -> Result<(), SinkFault>
     ensures ok { OnOk result (Appends (K.held sink.old) (K.held sink.new) text.now) }
     ensures failed { OnErr result (Rose (K.faults sink.old) (K.faults sink.new)) }

@@ -1,7 +1,7 @@
 use Rattle.std.proofs.Common.{◌≡◌, arith, ap, sym, length, drop, length-drop, ℕ}
-use Rattle.migration_host.proofs.Buffers.{copied_then_rest}
 use Rattle.migration_host.proofs.edges.memory.source.BytesSourceSource.take.Goals as goal
 
+-- where it fails, bytes are left
 pub returns-then-taken-eq0-clause-ends : goal.returns-then-taken-eq0-clause-ends
 returns-then-taken-eq0-clause-ends c = (
   λ e. cc,
@@ -10,7 +10,3 @@ returns-then-taken-eq0-clause-ends c = (
       let left : length c.args.self.now.left ≡ length (drop c.self.inside.place c.self.inside.bytes.items) = ap (λ v. length v.left) (sym c.self.view_is) in
       absurd (omega (arith, none, left, length-drop {A = ℕ})),
 )
-
-pub returns-clause-bytes : goal.returns-clause-bytes
-returns-clause-bytes c =
-    copied_then_rest _ c.self.inside.bytes.items _ c.self.inside.place c.passing-taken.result (ap (λ v. v.left) (sym c.self.view_is)) (rw c.deref.ensures.value at c.copy_front.ensures.front)
