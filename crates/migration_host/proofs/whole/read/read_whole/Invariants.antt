@@ -1,0 +1,12 @@
+use Rattle.std.proofs.Common.{◌-◌, ◌+◌, vec_len}
+use Rattle.migration_host.specs.declared.TheConstants.{PLAN_LIMIT}
+use Rattle.migration_host.proofs.WholeTexts.{HasRead}
+use Rattle.migration_host.proofs.whole.read.read_whole.Given as goal
+
+abbrev pub invariant-loop-buffer : goal.invariant-loop-buffer
+invariant-loop-buffer g l =
+    HasRead (g.S.Source.left l.fn.source) (g.S.Source.left l.source) l.bytes.items (vec_len l.bytes)
+    (g.S.Source.faults l.fn.source) (g.S.Source.faults l.source)
+
+abbrev pub decreases-loop-buffer : goal.decreases-loop-buffer
+decreases-loop-buffer g l = PLAN_LIMIT + 1 - vec_len l.bytes

@@ -1,0 +1,11 @@
+//! The migration from end to end: a plan's bytes in, a report's bytes out.
+#![tactic(auto)]
+
+pub mod edges;
+mod whole;
+
+/// How many bytes a plan has at most: 16 MiB. This project's rule.
+pub const PLAN_LIMIT: usize = 16_777_216;
+
+#[cfg(test)]
+mod tests;
