@@ -51,6 +51,20 @@ pub type Indexes = Sequence<Index>;
 /// Places of columns, from 0.
 pub type Places = Sequence<u32>;
 
+impl Schema {
+    ghost use Rattle.gho_schema.specs.Rows.{key_places};
+
+    /// The places of the clustered key's columns, in the key's order.
+    pub fn key_places(&self) -> &[u32]
+        ensures { result.now ≡ key_places self.now }
+    {
+        match self.uniques.as_slice() {
+            [] => &[],
+            [first, ..] => first.places.as_slice(),
+        }
+    }
+}
+
 impl Duplicate for Column {
     fn copy(&self) -> Result<Column, AllocError> {
         let default = match &self.default {

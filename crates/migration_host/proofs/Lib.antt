@@ -1,2 +1,4 @@
 pub mod Buffers
+pub mod RowTexts
+pub mod Tables
 pub mod WholeTexts

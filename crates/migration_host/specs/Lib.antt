@@ -1,4 +1,6 @@
 pub mod Edges
 pub mod Memory
+pub mod PlanFaults
+pub mod Plans
 pub mod StdEdges
 pub mod Whole

@@ -2,6 +2,7 @@
 #![tactic(auto)]
 
 pub mod edges;
+pub mod plan;
 mod whole;
 
 /// How many bytes a plan has at most: 16 MiB. This project's rule.
