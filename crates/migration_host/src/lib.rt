@@ -3,6 +3,7 @@
 
 pub mod edges;
 pub mod plan;
+mod report;
 mod whole;
 
 /// How many bytes a plan has at most: 16 MiB. This project's rule.
