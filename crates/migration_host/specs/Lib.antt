@@ -1,7 +1,9 @@
 pub mod Edges
+pub mod Endings
 pub mod Memory
 pub mod PlanFaults
 pub mod Plans
+pub mod Promises
 pub mod Reports
 pub mod StdEdges
 pub mod Whole
