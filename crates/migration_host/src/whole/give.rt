@@ -1,6 +1,6 @@
 //! A text given to a sink as a whole.
 
-ghost use Rattle.std.specs.Prelude.{◌≤◌, OnOk, OnErr};
+ghost use Rattle.std.specs.Prelude.{◌≡◌, ◌≤◌, [], IsOk, OnOk, OnErr};
 ghost use Rattle.std.specs.Io.KnownBytes.{Appends};
 ghost use Rattle.migration_host.specs.Edges.{Rose};
 ghost use Rattle.migration_host.specs.Whole.{GivesPart};
@@ -14,6 +14,7 @@ pub(crate) fn give_whole<K: Sink>(sink: &mut K, text: &[u8]) -> Result<(), SinkF
     ensures ok { OnOk result (Appends (K.held sink.old) (K.held sink.new) text.now) }
     ensures failed { OnErr result (Rose (K.faults sink.old) (K.faults sink.new)) }
     ensures part { OnErr result (GivesPart (K.held sink.old) (K.held sink.new) text.now) }
+    ensures empty { text.now ≡ [] → IsOk result }
     ensures never_falls { K.faults sink.old ≤ K.faults sink.new }
 {
     let mut given = 0;
