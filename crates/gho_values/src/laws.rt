@@ -45,8 +45,7 @@ pub fn keys_of_columns_are_of_one_kind()
 /// Keys and spans of the same columns may be asked of one another.
 pub fn spans_of_columns_are_of_one_kind()
     ensures { SpansOfOneKind }
-{
-}
+{}
 
 /// Which of two spans is named first doesn't matter.
 pub fn spans_meet_both_ways()
