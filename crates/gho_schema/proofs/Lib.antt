@@ -1,5 +1,7 @@
 pub mod Ascii
 pub mod Columns
 pub mod Front
+pub mod Orders
+pub mod ReadRows
 pub mod RowMap
 pub mod Values

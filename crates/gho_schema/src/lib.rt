@@ -4,6 +4,7 @@
 mod creating;
 mod fault;
 mod keyed;
+pub mod laws;
 mod names;
 mod reading;
 mod rows;
