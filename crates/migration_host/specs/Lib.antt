@@ -1,5 +1,6 @@
 pub mod Edges
 pub mod Endings
+pub mod Laws
 pub mod Memory
 pub mod PlanFaults
 pub mod Plans

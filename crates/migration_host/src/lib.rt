@@ -2,6 +2,7 @@
 #![tactic(auto)]
 
 pub mod edges;
+pub mod laws;
 mod line;
 pub mod plan;
 mod report;
