@@ -1,0 +1,4 @@
+pub mod Characters
+pub mod Quoted
+pub mod Front
+pub mod Reading

@@ -1,0 +1,11 @@
+//! Texts of MySQL's dialect, cut into words that borrow them.
+#![tactic(auto)]
+
+mod characters;
+mod front;
+mod quoted;
+mod reading;
+mod word;
+
+pub use reading::words;
+pub use word::{Word, WordClass, WordFault, Words};
