@@ -17,6 +17,7 @@ use Rattle.sql_words.specs.declared.front.Front.TheVariants.{Gap, Found}
 use Rattle.sql_words.specs.Characters.{is_white, is_line_end, is_name_start, is_name_byte, is_quote, is_angle, is_sign, begins_with}
 use Rattle.sql_words.specs.Quoted.{length_of, text_inside, bytes_inside, name_inside}
 use Rattle.sql_words.specs.Front.{size_of, line_length, begins_comment, begins_bytes, bytes_length, bytes_or_name, name_length, quoted, begins_number, digit_count, sign_width, number, sign_length, front_at}
+use Rattle.sql_words.specs.Meaning.{is_text}
 use Rattle.sql_words.proofs.Inside.{further, step, text_length-step, is_pair, bytes_length-pair, bytes_length-end, and-false}
 
 -- the first n bytes are at least one, and end between two characters
@@ -207,7 +208,7 @@ sign_cuts-by bytes true e utf8 any sign =
     Cuts-last_ascii bytes 2 1 utf8 refl (nonzero_within bytes 1 (omega (arith, second))) (omega (arith, second))
 sign_cuts-by bytes false e utf8 any sign = Cuts-last_ascii bytes 1 0 utf8 refl any (sign_ascii (get_or bytes 0 0) sign)
 
-quote_ascii : (b : ℕ) → is_quote b ≡ true → b < 128
+pub quote_ascii : (b : ℕ) → is_quote b ≡ true → b < 128
 quote_ascii b h = grind (arith, nat_tests, h)
 
 pub front_cuts : (place : ℕ) (bytes : List ℕ) → IsUtf8 bytes → 0 < length bytes → AllCut bytes (front_at place bytes)
@@ -222,3 +223,16 @@ front_cuts place bytes utf8 any =
     (λ _. AllCut-cond bytes (nat_eq first 96) _ _ (λ _. quoted_cuts place 96 class.Quoted bytes (length_of (name_inside (drop 1 bytes))) (omega arith) utf8 (name_closed (drop 1 bytes)))
     (λ _. AllCut-cond bytes (is_sign first) _ _ (λ sign. AllCut-ok bytes (Found class.Sign (sign_length bytes)) (sign_cuts-by bytes _ refl utf8 any sign))
     (λ _. AllCut-err bytes _)))))))
+
+-- a text begins with an ASCII byte
+first_part : (a b : Bool) → (a && b) ≡ true → a ≡ true
+first_part true b e = refl
+first_part false b e = absurd cc
+
+quote_nonzero : (b : ℕ) → is_quote b ≡ true → 0 < b
+quote_nonzero b h = grind (arith, nat_tests, h)
+
+pub text_begins : (bytes : List ℕ) → is_text bytes ≡ true → (0 < length bytes) × (get_or bytes 0 0 < 128)
+text_begins bytes e =
+    let quote : is_quote (get_or bytes 0 0) ≡ true = first_part _ _ e in
+    (nonzero_within bytes 0 (quote_nonzero (get_or bytes 0 0) quote), quote_ascii (get_or bytes 0 0) quote)

@@ -4,9 +4,9 @@ use Rattle.std.proofs.lemmas.List.{drop-drop, get_or-drop}
 use Rattle.std.proofs.lemmas.Bool.{ne_eqb}
 use Rattle.std.proofs.Math.ListN.{drop_of_length-le}
 use Rattle.std.specs.Option.{option_map}
-use Rattle.std.specs.Char.{is_ascii_hexdigit}
+use Rattle.std.specs.Char.{is_ascii_hexdigit, digit_value}
 use Rattle.sql_words.specs.Characters.{begins_with}
-use Rattle.sql_words.specs.Quoted.{Piece, length_of, closing, and_then, escaped, hex_digit, text_inside, bytes_inside}
+use Rattle.sql_words.specs.Quoted.{Piece, length_of, closing, and_then, escaped, text_inside, bytes_inside}
 
 -- the same, this many bytes further
 abbrev pub further : ℕ → Option ℕ → Option ℕ
@@ -28,25 +28,37 @@ length_of-closing : (b : Bool) → length_of (cond b (Some closing) None) ≡ co
 length_of-closing true = refl
 length_of-closing false = refl
 
--- a text's length by its first byte and whether its quote stands behind it
+-- a text by its first bytes b and c, and whether c is its quote: what stands behind both, and behind the first
+abbrev pub text_step : (quote b c : ℕ) (same both slash : Bool) → Option Piece → Option Piece → Option Piece
+text_step quote b c same both slash two one = cond same (cond both (and_then (record { value = quote ∷ []; length = 2 }) two) (Some closing)) (cond slash (and_then (record { value = escaped c; length = 2 }) two) (and_then (record { value = b ∷ []; length = 1 }) one))
+
+step_at_end : (quote b c : ℕ) (same slash : Bool) → cond same (Some closing) None ≡ text_step quote b c same false slash None None
+step_at_end quote b c true slash = refl
+step_at_end quote b c false true = refl
+step_at_end quote b c false false = refl
+
+step_inside : (same both slash : Bool) (p q r s : Option Piece) → cond (same && both) p (cond same q (cond slash r s)) ≡ cond same (cond both p q) (cond slash r s)
+step_inside true true slash p q r s = refl
+step_inside true false slash p q r s = refl
+step_inside false both slash p q r s = refl
+
+pub text_inside-step : (quote b : ℕ) (rest : List ℕ) → text_inside quote (b ∷ rest) ≡ text_step quote b (get_or rest 0 0) (nat_eq b quote) (begins_with quote rest) (nat_eq b 92) (text_inside quote (drop 1 rest)) (text_inside quote rest)
+unfolding text_inside
+text_inside-step quote b [] = step_at_end quote b 0 (nat_eq b quote) (nat_eq b 92)
+text_inside-step quote b (c ∷ rest) = step_inside (nat_eq b quote) (nat_eq c quote) (nat_eq b 92) _ _ _ _
+
+-- its length alone
 abbrev pub step : (same both slash : Bool) → Option ℕ → Option ℕ → Option ℕ
 step same both slash after_two after_one = cond same (cond both (further 2 after_two) (Some 1)) (cond slash (further 2 after_two) (further 1 after_one))
 
-step_at_end : (same slash : Bool) → length_of (cond same (Some closing) None) ≡ step same false slash None None
-step_at_end true slash = refl
-step_at_end false true = refl
-step_at_end false false = refl
-
-step_inside : (same both slash : Bool) (x y z : List ℕ) (two one : Option Piece) → length_of (cond (same && both) (and_then (record { value = x; length = 2 }) two) (cond same (Some closing) (cond slash (and_then (record { value = y; length = 2 }) two) (and_then (record { value = z; length = 1 }) one)))) ≡ step same both slash (length_of two) (length_of one)
-step_inside true true slash x y z two one = length_of-and_then x 2 two
-step_inside true false slash x y z two one = refl
-step_inside false both true x y z two one = length_of-and_then y 2 two
-step_inside false both false x y z two one = length_of-and_then z 1 one
+length_of-text_step : (quote b c : ℕ) (same both slash : Bool) (two one : Option Piece) → length_of (text_step quote b c same both slash two one) ≡ step same both slash (length_of two) (length_of one)
+length_of-text_step quote b c true true slash two one = length_of-and_then (quote ∷ []) 2 two
+length_of-text_step quote b c true false slash two one = refl
+length_of-text_step quote b c false both true two one = length_of-and_then (escaped c) 2 two
+length_of-text_step quote b c false both false two one = length_of-and_then (b ∷ []) 1 one
 
 pub text_length-step : (quote b : ℕ) (rest : List ℕ) → length_of (text_inside quote (b ∷ rest)) ≡ step (nat_eq b quote) (begins_with quote rest) (nat_eq b 92) (length_of (text_inside quote (drop 1 rest))) (length_of (text_inside quote rest))
-unfolding text_inside
-text_length-step quote b [] = step_at_end (nat_eq b quote) (nat_eq b 92)
-text_length-step quote b (c ∷ rest) = step_inside (nat_eq b quote) (nat_eq c quote) (nat_eq b 92) (quote ∷ []) (escaped c) (b ∷ []) (text_inside quote rest) (text_inside quote (c ∷ rest))
+text_length-step quote b rest = ap length_of (text_inside-step quote b rest) ∙ length_of-text_step quote b (get_or rest 0 0) (nat_eq b quote) (begins_with quote rest) (nat_eq b 92) (text_inside quote (drop 1 rest)) (text_inside quote rest)
 
 -- the same at an index
 text_length-at : (quote i : ℕ) (bytes : List ℕ) → i < length bytes → length_of (text_inside quote (drop i bytes)) ≡ step (nat_eq (get_or bytes i 0) quote) (begins_with quote (drop (i + 1) bytes)) (nat_eq (get_or bytes i 0) 92) (length_of (text_inside quote (drop (i + 2) bytes))) (length_of (text_inside quote (drop (i + 1) bytes)))
@@ -88,24 +100,31 @@ module _ (quote i : ℕ) (bytes : List ℕ) (whole : Option ℕ) (so_far : furth
 abbrev pub is_pair : List ℕ → Bool
 is_pair bytes = is_ascii_hexdigit (get_or bytes 0 0) && is_ascii_hexdigit (get_or bytes 1 0)
 
-is_pair-at : (i : ℕ) (bytes : List ℕ) → is_pair (drop i bytes) ≡ (is_ascii_hexdigit (get_or bytes i 0) && is_ascii_hexdigit (get_or bytes (i + 1) 0))
+pub is_pair-at : (i : ℕ) (bytes : List ℕ) → is_pair (drop i bytes) ≡ (is_ascii_hexdigit (get_or bytes i 0) && is_ascii_hexdigit (get_or bytes (i + 1) 0))
 is_pair-at i bytes = simp (get_or-drop, add-zero)
 
 pub and-false : (b : Bool) → (b && false) ≡ false
 and-false true = refl
 and-false false = refl
 
-pub bytes_length-pair : (bytes : List ℕ) → is_pair bytes ≡ true → length_of (bytes_inside bytes) ≡ further 2 (length_of (bytes_inside (drop 2 bytes)))
+-- bytes with a pair of digits at the front, and with none
+pub bytes_inside-pair : (bytes : List ℕ) → is_pair bytes ≡ true → bytes_inside bytes ≡ and_then (record { value = (16 * digit_value (get_or bytes 0 0) + digit_value (get_or bytes 1 0)) ∷ []; length = 2 }) (bytes_inside (drop 2 bytes))
 unfolding bytes_inside
-bytes_length-pair [] pair = absurd cc
-bytes_length-pair (b ∷ []) pair = let none : (is_ascii_hexdigit b && false) ≡ false = and-false (is_ascii_hexdigit b) in absurd cc
-bytes_length-pair (b ∷ c ∷ rest) pair = rw pair (length_of-and_then ((16 * hex_digit b + hex_digit c) ∷ []) 2 (bytes_inside rest))
+bytes_inside-pair [] pair = absurd cc
+bytes_inside-pair (b ∷ []) pair = let none : (is_ascii_hexdigit b && false) ≡ false = and-false (is_ascii_hexdigit b) in absurd cc
+bytes_inside-pair (b ∷ c ∷ rest) pair = rw pair refl
+
+pub bytes_inside-end : (bytes : List ℕ) → is_pair bytes ≡ false → bytes_inside bytes ≡ cond (begins_with 39 bytes) (Some closing) None
+unfolding bytes_inside
+bytes_inside-end [] pair = refl
+bytes_inside-end (b ∷ []) pair = refl
+bytes_inside-end (b ∷ c ∷ rest) pair = rw pair refl
+
+pub bytes_length-pair : (bytes : List ℕ) → is_pair bytes ≡ true → length_of (bytes_inside bytes) ≡ further 2 (length_of (bytes_inside (drop 2 bytes)))
+bytes_length-pair bytes pair = ap length_of (bytes_inside-pair bytes pair) ∙ length_of-and_then ((16 * digit_value (get_or bytes 0 0) + digit_value (get_or bytes 1 0)) ∷ []) 2 (bytes_inside (drop 2 bytes))
 
 pub bytes_length-end : (bytes : List ℕ) → is_pair bytes ≡ false → length_of (bytes_inside bytes) ≡ cond (begins_with 39 bytes) (Some 1) None
-unfolding bytes_inside
-bytes_length-end [] pair = refl
-bytes_length-end (b ∷ []) pair = length_of-closing (nat_eq b 39)
-bytes_length-end (b ∷ c ∷ rest) pair = rw pair (length_of-closing (nat_eq b 39))
+bytes_length-end bytes pair = ap length_of (bytes_inside-end bytes pair) ∙ length_of-closing (begins_with 39 bytes)
 
 -- The bytes so far, whose whole length is known, and the next pair.
 module _ (i : ℕ) (bytes : List ℕ) (whole : Option ℕ) (so_far : further i (length_of (bytes_inside (drop i bytes))) ≡ whole) where

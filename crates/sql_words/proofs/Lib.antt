@@ -1,3 +1,5 @@
 pub mod Inside
 pub mod Ends
 pub mod Behind
+pub mod Values
+pub mod Numbers

@@ -1,5 +1,5 @@
 -- The bytes by which the words of MySQL's dialect are told apart. All of them are ASCII, so no byte of another character is taken for one.
-use Rattle.std.specs.Prelude.{ℕ, Bool, false, ◌||◌, ◌==◌, List, [], ◌∷◌}
+use Rattle.std.specs.Prelude.{ℕ, Bool, false, not, ◌||◌, ◌==◌, List, [], ◌∷◌}
 use Rattle.std.specs.Char.{is_ascii_alphabetic, is_ascii_digit}
 
 -- blank, tab, line feed or carriage return (MySQL 8.0 manual, "Comments", and this project's rule)
@@ -25,6 +25,10 @@ is_plus_or_minus b = b == 43 || b == 45
 -- the quote ' or " of a text ("String Literals")
 abbrev pub is_quote : ℕ → Bool
 is_quote b = b == 39 || b == 34
+
+-- in a text with this quote, a byte that is neither the quote nor a backslash
+abbrev pub is_plain : ℕ → ℕ → Bool
+is_plain quote b = not (b == quote || b == 92)
 
 -- `<` or `>`
 abbrev pub is_angle : ℕ → Bool

@@ -2,3 +2,4 @@ pub mod Characters
 pub mod Quoted
 pub mod Front
 pub mod Reading
+pub mod Meaning

@@ -2,7 +2,7 @@
 use Rattle.std.specs.Prelude.{ℕ, ◌+◌, ◌*◌, ◌-◌, ◌&&◌, ◌||◌, ◌==◌, nat_lt, if◌then◌else◌, List, [], ◌∷◌, ◌++◌, length, take, Option, Some, None}
 use Rattle.std.specs.Option.{option_map}
 use Rattle.std.specs.List.{position_or_len}
-use Rattle.std.specs.Char.{is_ascii_hexdigit}
+use Rattle.std.specs.Char.{is_ascii_hexdigit, digit_value}
 
 -- a piece of a quoted word: the bytes that it stands for, and how many bytes spell it
 pub record Piece : Type 0 where
@@ -47,16 +47,12 @@ text_inside quote (b ∷ c ∷ rest) =
     else (if b == 92 then and_then (record { value = escaped c; length = 2 }) (text_inside quote rest)
     else and_then (record { value = b ∷ []; length = 1 }) (text_inside quote (c ∷ rest))))
 
--- the value of a hexadecimal digit
-abbrev pub hex_digit : ℕ → ℕ
-hex_digit c = if nat_lt c 58 then c - 48 else (if nat_lt c 71 then c - 55 else c - 87)
-
 -- pairs of hexadecimal digits behind x', with the closing quote; None where anything else stands there
 unfoldable pub bytes_inside : List ℕ → Option Piece
 bytes_inside [] = None
 bytes_inside (b ∷ []) = if b == 39 then Some closing else None
 bytes_inside (b ∷ c ∷ rest) =
-    if is_ascii_hexdigit b && is_ascii_hexdigit c then and_then (record { value = (16 * hex_digit b + hex_digit c) ∷ []; length = 2 }) (bytes_inside rest)
+    if is_ascii_hexdigit b && is_ascii_hexdigit c then and_then (record { value = (16 * digit_value b + digit_value c) ∷ []; length = 2 }) (bytes_inside rest)
     else (if b == 39 then Some closing else None)
 
 -- a name behind its opening backquote, with the closing one; None where none closes it

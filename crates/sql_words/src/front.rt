@@ -5,6 +5,7 @@ ghost use Rattle.std.specs.Option.{ForSome};
 ghost use Rattle.std.specs.List.{prefix_len};
 ghost use Rattle.std.specs.Char.{is_ascii_digit};
 ghost use Rattle.sql_words.specs.Front.{line_length, begins_comment, begins_bytes, bytes_length, bytes_or_name, name_length, quoted, begins_number, digit_count, sign_width, number, sign_length, front_at};
+ghost use Rattle.sql_words.specs.Meaning.{is_number};
 
 use crate::characters::{
     is_angle, is_name_byte, is_name_start, is_plus_or_minus, is_quote, is_sign, is_white,
@@ -55,7 +56,7 @@ fn unquoted_length(bytes: &[u8]) -> usize
     bytes.iter().take_while(|byte| is_name_byte(**byte)).count()
 }
 
-fn begins_bytes(bytes: &[u8]) -> bool
+pub fn begins_bytes(bytes: &[u8]) -> bool
     ensures begins { result ≡ begins_bytes bytes.now }
     ensures long { IsTrue result → 2 ≤ length bytes.now }
 {
@@ -162,4 +163,16 @@ pub fn front_at(place: usize, bytes: &[u8]) -> Result<Front, WordFault>
     } else {
         Err(WordFault::Odd { place })
     }
+}
+
+/// Whether the bytes are one number, and nothing more.
+pub fn is_number(bytes: &[u8]) -> bool
+    ensures { result ≡ is_number bytes.now }
+{
+    if bytes.is_empty() || !begins_number(bytes) {
+        return false;
+    }
+    let sign = sign_width(bytes);
+    let digits = digit_count(&bytes[sign..]);
+    digits <= MOST_DIGITS && sign + digits == bytes.len()
 }

@@ -3,9 +3,13 @@
 
 mod characters;
 mod front;
+mod meaning;
 mod quoted;
 mod reading;
 mod word;
 
 pub use reading::words;
 pub use word::{Word, WordClass, WordFault, Words};
+
+#[cfg(test)]
+mod tests;

@@ -6,7 +6,8 @@ ghost use Rattle.std.specs.Char.{is_ascii_hexdigit};
 ghost use Rattle.sql_words.specs.Characters.{begins_with};
 ghost use Rattle.sql_words.specs.Quoted.{length_of, text_inside, bytes_inside, name_inside};
 
-fn stands_at(byte: u8, bytes: &[u8], at: usize) -> bool
+/// Whether this byte stands at this index.
+pub fn stands_at(byte: u8, bytes: &[u8], at: usize) -> bool
     ensures { result ≡ begins_with byte (drop at bytes.now) }
 {
     at < bytes.len() && bytes[at] == byte
@@ -30,7 +31,8 @@ pub fn text_length(quote: u8, bytes: &[u8]) -> Option<usize>
     None
 }
 
-fn is_pair(bytes: &[u8], at: usize) -> bool
+/// Whether two hexadecimal digits stand at this index.
+pub fn is_pair(bytes: &[u8], at: usize) -> bool
     ensures { result ≡ (is_ascii_hexdigit (slice_index bytes.now at) && is_ascii_hexdigit (slice_index bytes.now (at + 1))) }
 {
     at < bytes.len()
