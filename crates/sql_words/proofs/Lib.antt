@@ -3,3 +3,4 @@ pub mod Ends
 pub mod Behind
 pub mod Values
 pub mod Numbers
+pub mod Slices

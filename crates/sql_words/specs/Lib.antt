@@ -3,3 +3,4 @@ pub mod Quoted
 pub mod Front
 pub mod Reading
 pub mod Meaning
+pub mod Printed

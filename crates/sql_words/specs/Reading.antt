@@ -1,5 +1,5 @@
 -- The words of a text, from its front to its end.
-use Rattle.std.specs.Prelude.{◌≡◌, ℕ, zero, suc, ◌-◌, List, [], ◌∷◌, take, map, Result, Ok, Err}
+use Rattle.std.specs.Prelude.{◌≡◌, ℕ, zero, suc, ◌+◌, ◌-◌, ◌≤◌, List, [], ◌∷◌, length, take, slice_range, map, Result, Ok, Err}
 use Rattle.sql_words.specs.declared.word.WordClass.{WordClass}
 use Rattle.sql_words.specs.declared.word.WordFault.{WordFault}
 use Rattle.sql_words.specs.declared.word.WordFault.TheVariants.{Unclosed, Odd, TooLong, Memory}
@@ -48,3 +48,8 @@ IsFaultOf read Memory = Unit {0}
 IsFaultOf read (Unclosed place) = read ≡ Err (Unclosed place)
 IsFaultOf read (Odd place) = read ≡ Err (Odd place)
 IsFaultOf read (TooLong place) = read ≡ Err (TooLong place)
+
+-- the words are slices of the text from this place on, each at its place and none before the end of the one before
+abbrev pub StandIn : List ℕ → ℕ → List Reading → Type 0
+StandIn text from [] = Unit {0}
+StandIn text from (w ∷ ws) = (from ≤ w.place) × (w.text ≡ slice_range text w.place (w.place + length w.text)) × StandIn text (w.place + length w.text) ws

@@ -1,7 +1,7 @@
 //! The words of a text.
 
 ghost use Rattle.std.specs.Prelude.{◌≡◌, IfOk, IfErr, Ok};
-ghost use Rattle.sql_words.specs.Reading.{views, words_of, IsFaultOf};
+ghost use Rattle.sql_words.specs.Reading.{views, words_of, IsFaultOf, StandIn};
 
 use crate::front::{Front, front_at};
 use crate::word::{Word, WordFault, Words};
@@ -29,9 +29,11 @@ fn words_in<'a>(alloc: Global, text: &'a str) -> Result<Vec<Word<'a>>, WordFault
     Ok(found)
 }
 
+#[tactic(auto, using(crate::proofs::Slices::words_stand))]
 /// The words of a text, each a slice of it, or the first fault in it. White space and comments are passed over.
 pub fn words<'a>(alloc: Global, text: &'a str) -> Result<Words<'a>, WordFault>
     ensures read { IfOk result (λ words. words_of text.now ≡ Ok words) }
+    ensures slices { IfOk result (λ words. StandIn text.now 0 words) }
     ensures fault { IfErr result (IsFaultOf (words_of text.now)) }
 {
     let found = words_in(alloc, text)?;

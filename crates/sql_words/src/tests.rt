@@ -1,90 +1,77 @@
 use super::*;
+use std::alloc::AllocError;
+use std::fmt::Write;
 use std::process::Abort;
 use std::test::Fail;
 
-fn check_words(rt: &(impl Abort + AllocGlobal), text: &str, wanted: &[(WordClass, &str, usize)]) {
+/// The words of a text, each as its class, its place and its bytes.
+fn shown(rt: &(impl Abort + AllocGlobal), text: &str) -> Result<String, AllocError> {
     let found = match words(rt.alloc(), text) {
         Ok(found) => found,
         Err(fault) => panic!(rt; "{fault} in {text:?}"),
     };
-    assert_eq!(rt; found.len(), wanted.len(), "in {text:?}");
-    assert_eq!(rt; found.is_empty(), wanted.is_empty(), "in {text:?}");
-    for (word, (class, bytes, place)) in found.as_slice().iter().zip(wanted) {
-        assert_eq!(rt; word.class, *class, "in {text:?}");
-        assert_eq!(rt; word.text.as_bytes(), bytes.as_bytes(), "in {text:?}");
-        assert_eq!(rt; word.place, *place, "in {text:?}");
+    let mut shown = String::new(rt.alloc());
+    for word in found.as_slice() {
+        let class = word.class;
+        let place = word.place;
+        let bytes = word.text;
+        write!(shown, "{class:?} {place} {bytes}|")?;
     }
+    Ok(shown)
 }
 
 #[test]
-fn words_of_texts(rt: HostRuntime) {
-    use WordClass::*;
-    check_words(&rt, "", &[]);
-    check_words(&rt, " \t\r\n", &[]);
-    check_words(&rt, "a", &[(Name, "a", 0)]);
-    check_words(&rt, "_x$9 $", &[(Name, "_x$9", 0), (Name, "$", 5)]);
-    check_words(&rt, "5NOT", &[(Number, "5", 0), (Name, "NOT", 1)]);
-    check_words(&rt, "1-2", &[(Number, "1", 0), (Number, "-2", 1)]);
-    check_words(&rt, "+007", &[(Number, "+007", 0)]);
-    check_words(
-        &rt,
-        "11111111111111111111111111111111111111",
-        &[(Number, "11111111111111111111111111111111111111", 0)],
-    );
-    check_words(
-        &rt,
-        "-00000000000000000000000000000000000000",
-        &[(Number, "-00000000000000000000000000000000000000", 0)],
-    );
-    check_words(&rt, "'a'\"b\"", &[(Text, "'a'", 0), (Text, "\"b\"", 3)]);
-    check_words(&rt, "'it''s'", &[(Text, "'it''s'", 0)]);
-    check_words(&rt, "\"a\"\"b\"", &[(Text, "\"a\"\"b\"", 0)]);
-    check_words(&rt, "'a\"b'", &[(Text, "'a\"b'", 0)]);
-    check_words(&rt, "'\\''", &[(Text, "'\\''", 0)]);
-    check_words(&rt, "'\\\\' x", &[(Text, "'\\\\'", 0), (Name, "x", 5)]);
-    check_words(
-        &rt,
-        "'é\\é' `ü`",
-        &[(Text, "'é\\é'", 0), (Quoted, "`ü`", 8)],
-    );
-    check_words(&rt, "``", &[(Quoted, "``", 0)]);
-    check_words(&rt, "`a b``c`", &[(Quoted, "`a b`", 0), (Quoted, "`c`", 5)]);
-    check_words(&rt, "x'0aFF'", &[(Bytes, "x'0aFF'", 0)]);
-    check_words(&rt, "X''", &[(Bytes, "X''", 0)]);
-    check_words(&rt, "x'0'", &[(Name, "x", 0), (Text, "'0'", 1)]);
-    check_words(&rt, "x'zz'", &[(Name, "x", 0), (Text, "'zz'", 1)]);
-    check_words(&rt, "x\"41\"", &[(Name, "x", 0), (Text, "\"41\"", 1)]);
-    check_words(&rt, "ax'41'", &[(Name, "ax", 0), (Text, "'41'", 2)]);
-    check_words(&rt, "xy", &[(Name, "xy", 0)]);
-    check_words(
-        &rt,
-        "<= >= = =<*",
-        &[
-            (Sign, "<=", 0),
-            (Sign, ">=", 3),
-            (Sign, "=", 6),
-            (Sign, "=", 8),
-            (Sign, "<", 9),
-            (Sign, "*", 10),
-        ],
-    );
-    check_words(
-        &rt,
-        "(a,b);",
-        &[
-            (Sign, "(", 0),
-            (Name, "a", 1),
-            (Sign, ",", 2),
-            (Name, "b", 3),
-            (Sign, ")", 4),
-            (Sign, ";", 5),
-        ],
-    );
-    check_words(&rt, "a -- b\nc", &[(Name, "a", 0), (Name, "c", 7)]);
-    check_words(&rt, "a -- b", &[(Name, "a", 0)]);
-    check_words(&rt, "-- ", &[]);
-    check_words(&rt, "a# b\r\nc # é", &[(Name, "a", 0), (Name, "c", 6)]);
-    check_words(&rt, "1-- 2\n3", &[(Number, "1", 0), (Number, "3", 6)]);
+fn words_of_texts(rt: HostRuntime) -> Result<(), Fail> {
+    for (text, wanted) in [
+        ("", ""),
+        (" \t\r\n", ""),
+        ("a", "Name 0 a|"),
+        ("_x$9 $", "Name 0 _x$9|Name 5 $|"),
+        ("5NOT", "Number 0 5|Name 1 NOT|"),
+        ("1-2", "Number 0 1|Number 1 -2|"),
+        ("+007", "Number 0 +007|"),
+        (
+            "11111111111111111111111111111111111111",
+            "Number 0 11111111111111111111111111111111111111|",
+        ),
+        (
+            "-00000000000000000000000000000000000000",
+            "Number 0 -00000000000000000000000000000000000000|",
+        ),
+        ("'a'\"b\"", "Text 0 'a'|Text 3 \"b\"|"),
+        ("'it''s'", "Text 0 'it''s'|"),
+        ("\"a\"\"b\"", "Text 0 \"a\"\"b\"|"),
+        ("'a\"b'", "Text 0 'a\"b'|"),
+        ("'\\''", "Text 0 '\\''|"),
+        ("'\\\\' x", "Text 0 '\\\\'|Name 5 x|"),
+        ("'é\\é' `ü`", "Text 0 'é\\é'|Quoted 8 `ü`|"),
+        ("``", "Quoted 0 ``|"),
+        ("`a b``c`", "Quoted 0 `a b`|Quoted 5 `c`|"),
+        ("x'0aFF'", "Bytes 0 x'0aFF'|"),
+        ("X''", "Bytes 0 X''|"),
+        ("x'0'", "Name 0 x|Text 1 '0'|"),
+        ("x'zz'", "Name 0 x|Text 1 'zz'|"),
+        ("x\"41\"", "Name 0 x|Text 1 \"41\"|"),
+        ("ax'41'", "Name 0 ax|Text 2 '41'|"),
+        ("xy", "Name 0 xy|"),
+        (
+            "<= >= = =<*",
+            "Sign 0 <=|Sign 3 >=|Sign 6 =|Sign 8 =|Sign 9 <|Sign 10 *|",
+        ),
+        (
+            "(a,b);",
+            "Sign 0 (|Name 1 a|Sign 2 ,|Name 3 b|Sign 4 )|Sign 5 ;|",
+        ),
+        ("a -- b\nc", "Name 0 a|Name 7 c|"),
+        ("a -- b", "Name 0 a|"),
+        ("-- ", ""),
+        ("a# b\r\nc # é", "Name 0 a|Name 6 c|"),
+        ("1-- 2\n3", "Number 0 1|Number 6 3|"),
+    ] {
+        let found = shown(&rt, text)?;
+        assert_eq!(rt; found.as_bytes(), wanted.as_bytes(), "in {text:?}");
+    }
+    Ok(())
 }
 
 fn check_fault(rt: &(impl Abort + AllocGlobal), text: &str, kind: &str, at: usize) {
@@ -144,6 +131,7 @@ fn faults_of_texts(rt: HostRuntime) {
 fn only<'a>(rt: &(impl Abort + AllocGlobal), text: &'a str) -> Word<'a> {
     let found = words(rt.alloc(), text).expect(rt, "words");
     assert_eq!(rt; found.len(), 1, "in {text:?}");
+    assert!(rt; !found.is_empty());
     *found.get(0).expect(rt, "a word")
 }
 
