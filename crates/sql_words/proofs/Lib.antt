@@ -4,3 +4,4 @@ pub mod Behind
 pub mod Values
 pub mod Numbers
 pub mod Slices
+pub mod Reprinted

@@ -1,5 +1,5 @@
 -- A number is parsed to what its digits and its sign spell.
-use Rattle.std.proofs.Common.{◌≡◌, ℕ, zero, suc, ◌+◌, ◌^◌, ◌<◌, ◌≤◌, Bool, true, false, cond, nat_eq, nat_lt, ◌&&◌, ◌||◌, List, [], ◌∷◌, length, get_or, drop, Result, Ok, Err, refl, sym, ap, ◌∙◌, subst, arith, add-zero, lit<}
+use Rattle.std.proofs.Common.{◌≡◌, ℕ, ◌+◌, ◌^◌, ◌<◌, ◌≤◌, Bool, true, false, cond, nat_eq, ◌&&◌, ◌||◌, List, [], ◌∷◌, length, get_or, drop, Result, Ok, Err, refl, ap, ◌∙◌, arith, add-zero, lit<}
 use Rattle.std.specs.Prelude.{ℤ, pos, neg_ℤ, nat_le}
 use Rattle.std.specs.Int.{w128}
 use Rattle.std.specs.List.{prefix_len}
@@ -9,7 +9,6 @@ use Rattle.std.specs.Str.{all_ascii_digits}
 use Rattle.std.specs.Str.Parse.{digits_value, ParsesSigned}
 use Rattle.std.proofs.lemmas.Str.Parse.{IsNumeralModel, numerals_by_value, tells_all_ascii_digits, digits_value_short, parse_signed_minus, parse_signed_plus, parse_signed_plain}
 use Rattle.std.proofs.lemmas.Bool.{eqb-true, eqb-false, leb-true}
-use Rattle.std.proofs.lemmas.Bool.Decides.{nat_tests}
 use Rattle.std.proofs.lemmas.List.{length-drop, get_or-drop}
 use Rattle.sql_words.specs.Front.{begins_number, sign_width, digit_count, most_digits}
 use Rattle.sql_words.specs.Meaning.{is_number, signed}

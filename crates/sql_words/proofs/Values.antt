@@ -1,17 +1,17 @@
 -- What quoted words stand for, as the loops gather it.
-use Rattle.std.proofs.Common.{◌≡◌, ℕ, zero, suc, ◌+◌, ◌*◌, ◌<◌, ◌≤◌, ◌⊎◌, inl, inr, Bool, true, false, cond, not, nat_eq, nat_lt, ◌&&◌, List, [], ◌∷◌, ◌++◌, length, get_or, take, drop, Option, Some, None, IsUtf8, refl, sym, ap, ◌∙◌, subst, arith, add-zero, drop-cons, append_assoc, length-drop, eq-eqb, ⊎_elim}
+use Rattle.std.proofs.Common.{◌≡◌, ℕ, zero, suc, ◌+◌, ◌*◌, ◌<◌, ◌≤◌, ◌⊎◌, inl, inr, Bool, true, false, cond, nat_eq, nat_lt, ◌&&◌, List, [], ◌∷◌, ◌++◌, length, get_or, take, drop, Option, Some, None, IsUtf8, refl, sym, ap, ◌∙◌, subst, arith, add-zero, append_assoc, length-drop, eq-eqb, ⊎_elim}
 use Rattle.std.specs.Option.{option_map}
 use Rattle.std.specs.List.{prefix_len}
 use Rattle.std.specs.Char.{is_ascii_hexdigit, digit_value}
 use Rattle.std.specs.Str.{IsCharBoundary}
-use Rattle.std.proofs.lemmas.Str.{IsUtf8-drop, IsCharBoundary-after_ascii, IsCharBoundary-before_ascii, IsCharBoundary-end}
+use Rattle.std.proofs.lemmas.Str.{IsUtf8-drop, IsCharBoundary-after_ascii, IsCharBoundary-before_ascii}
 use Rattle.std.proofs.lemmas.List.{append-nil, drop-drop, get_or-drop, nil_from_length}
 use Rattle.std.proofs.lemmas.List.Sums.{prefix_len_stops, prefix_len-le-length}
 use Rattle.std.proofs.lemmas.Bool.{ne_eqb, eqb-true, ltb-true, ltb-false}
 use Rattle.std.proofs.lemmas.Bool.Decides.{nat_tests}
 use Rattle.sql_words.specs.Characters.{begins_with, is_plain}
 use Rattle.sql_words.specs.Quoted.{Piece, value_of, closing, and_then, escaped, text_inside, bytes_inside}
-use Rattle.sql_words.proofs.Inside.{text_step, text_inside-step, is_pair, is_pair-at, bytes_inside-pair, bytes_inside-end}
+use Rattle.sql_words.proofs.Inside.{text_step, text_inside-step, is_pair-at, bytes_inside-pair, bytes_inside-end}
 
 -- the value behind a front that is gathered already
 abbrev pub in_front : List ℕ → Option (List ℕ) → Option (List ℕ)

@@ -2,7 +2,7 @@
 use Rattle.std.specs.Prelude.{ℕ, ℤ, pos, neg_ℤ, ◌+◌, Bool, false, ◌&&◌, ◌==◌, nat_le, if◌then◌else◌, List, length, drop, slice_index, Option, Some, None}
 use Rattle.std.specs.Str.Parse.{digits_value}
 use Rattle.sql_words.specs.Characters.{is_quote}
-use Rattle.sql_words.specs.Quoted.{length_of, value_of, text_inside, bytes_inside, name_inside}
+use Rattle.sql_words.specs.Quoted.{length_of, value_of, text_inside, bytes_inside}
 use Rattle.sql_words.specs.Front.{begins_bytes, begins_number, sign_width, digit_count, most_digits}
 
 -- a length that is there takes all of the bytes

@@ -1,5 +1,4 @@
-use Rattle.std.proofs.Common.{◌≡◌, ◌+◌, ◌*◌, ◌++◌, ◌∷◌, [], List, ℕ, ap, sym, ◌∙◌, get_or}
-use Rattle.std.specs.Char.{digit_value}
+use Rattle.std.proofs.Common.{sym, ◌∙◌}
 use Rattle.sql_words.proofs.Values.{unhexed-pair, unhexed-closed, unhexed-unclosed}
 use Rattle.sql_words.proofs.meaning.unhexed.Goals as goal
 

@@ -1,12 +1,11 @@
-use Rattle.std.proofs.Common.{◌≡◌, ◌<◌, ◌≤◌, ◌⊎◌, ◌++◌, ◌∷◌, [], ℕ, List, take, drop, length, get_or, ap, sym, subst, ◌∙◌, refl, arith, eqb-true, false-eqb}
+use Rattle.std.proofs.Common.{◌≡◌, ◌<◌, ◌++◌, ◌∷◌, [], drop, length, get_or, ap, sym, subst, ◌∙◌, refl, arith, eqb-true, false-eqb}
 use Rattle.std.specs.List.{prefix_len}
 use Rattle.std.specs.String.{string_bytes}
 use Rattle.std.specs.Str.{IsCharBoundary}
 use Rattle.std.proofs.lemmas.Str.{IsCharBoundary-after_ascii}
 use Rattle.sql_words.specs.Characters.{is_plain}
-use Rattle.sql_words.specs.Quoted.{escaped}
 use Rattle.sql_words.proofs.Ends.{quote_ascii}
-use Rattle.sql_words.proofs.Values.{Unquoting, Unquoting-end, BehindRun, BehindRun-of, BehindRun-end, BehindRun-closed, BehindRun-doubled, BehindRun-escaped, BehindRun-bare, run_boundary, special_is, stands-at, ascii_at, wide_at}
+use Rattle.sql_words.proofs.Values.{Unquoting-end, BehindRun-of, BehindRun-end, BehindRun-closed, BehindRun-doubled, BehindRun-escaped, BehindRun-bare, run_boundary, special_is, stands-at, ascii_at, wide_at}
 use Rattle.sql_words.proofs.meaning.unquoted.Goals as goal
 
 pub split_at-requires : goal.split_at-requires

@@ -1,4 +1,4 @@
-use Rattle.std.proofs.Common.{◌≡◌, refl, true, Option, Some, ap, sym, ◌∙◌}
+use Rattle.std.proofs.Common.{◌≡◌, refl, true, Some, ap, sym, ◌∙◌}
 use Rattle.std.specs.Result.{result_ok}
 use Rattle.sql_words.specs.Meaning.{is_number, signed, number_value}
 use Rattle.sql_words.proofs.Numbers.{number_parsed}

@@ -1,7 +1,6 @@
-use Rattle.std.proofs.Common.{◌≡◌, ◌<◌, true, length, get_or, ap, sym, subst, ◌∙◌, arith}
+use Rattle.std.proofs.Common.{sym, subst}
 use Rattle.std.specs.Str.{IsCharBoundary}
 use Rattle.std.proofs.lemmas.Str.{IsCharBoundary-after_ascii}
-use Rattle.sql_words.specs.Meaning.{is_text}
 use Rattle.sql_words.proofs.Ends.{text_begins}
 use Rattle.sql_words.proofs.word.Word.text_value.Goals as goal
 
