@@ -1,13 +1,14 @@
 -- Reading on behind what stands at the front.
-use Rattle.std.proofs.Common.{◌≡◌, ℕ, zero, suc, ◌+◌, ◌-◌, ◌<◌, ◌≤◌, List, [], ◌∷◌, ◌++◌, length, take, drop, Result, Ok, Err, IsUtf8, refl, sym, ap, ◌∙◌, arith, append_assoc, length-drop}
+use Rattle.std.proofs.Common.{◌≡◌, ℕ, zero, suc, ◌+◌, ◌-◌, ◌<◌, ◌≤◌, List, [], ◌∷◌, ◌++◌, length, take, drop, Result, Ok, Err, IsUtf8, refl, subst, sym, ap, ◌∙◌, arith, append_assoc, length-drop}
 use Rattle.std.proofs.lemmas.List.{append-nil, nil_from_length}
 use Rattle.std.proofs.lemmas.Str.{IsUtf8-drop}
 use Rattle.sql_words.proofs.Ends.{Cuts}
 use Rattle.sql_words.specs.declared.word.WordClass.{WordClass}
 use Rattle.sql_words.specs.declared.word.WordFault.{WordFault}
 use Rattle.sql_words.specs.declared.word.WordFault.TheVariants as faults
+use Rattle.sql_words.specs.declared.front.Front.{Front}
 use Rattle.sql_words.specs.declared.front.Front.TheVariants.{Gap, Found}
-use Rattle.sql_words.specs.Front.{front_at}
+use Rattle.sql_words.specs.Front.{size_of, front_at}
 use Rattle.sql_words.specs.Reading.{Reading, IsFaultOf, with_word, words_behind, words_of}
 
 -- bytes that are read already are passed over
@@ -107,6 +108,27 @@ module _ (text : List ℕ) (found : List Reading) (rest : List ℕ) (along : Alo
   Along-end none =
       let empty = nil_from_length rest none in
       sym along.so_far ∙ ap (λ r. with_front found (words_behind 0 (length text - length rest) r)) empty ∙ ap (with_front found) (words_behind-end (length text - length rest)) ∙ ap (λ ws. Ok ws) (append-nil found)
+
+-- What a step of the loop has in hand: the front of the rest, what it takes, and what follows it.
+pub record Stepped (total : ℕ) (rest : List ℕ) (front : Front) (piece after : List ℕ) : Type 0 where
+  pub read : front_at (total - length rest) rest ≡ Ok front
+  pub cuts : Cuts rest (size_of front)
+  pub piece_is : piece ≡ take (size_of front) rest
+  pub after_is : after ≡ drop (size_of front) rest
+
+pub Stepped-smaller : (total : ℕ) (rest : List ℕ) (front : Front) (piece after : List ℕ) → Stepped total rest front piece after → length after < length rest
+Stepped-smaller total rest front piece after step = rw step.after_is (length-drop-cuts rest (size_of front) step.cuts)
+
+pub Along-past_gap : (text : List ℕ) (found : List Reading) (rest : List ℕ) (n : ℕ) (front : Front) (piece after : List ℕ) → Along text found rest → Stepped (length text) rest front piece after → front ≡ Gap n → Along text found after
+Along-past_gap text found rest n front piece after along step is =
+    let same = subst (λ f. Stepped (length text) rest f piece after) is step in
+    rw same.after_is (Along-gap text found rest along n same.cuts same.read)
+
+pub Along-past_found : (text : List ℕ) (found : List Reading) (rest : List ℕ) (n : ℕ) (class : WordClass) (front : Front) (piece after : List ℕ) → Along text found rest → Stepped (length text) rest front piece after → front ≡ Found class n
+    → Along text (found ++ record { class = class; text = piece; place = length text - length rest } ∷ []) after
+Along-past_found text found rest n class front piece after along step is =
+    let same = subst (λ f. Stepped (length text) rest f piece after) is step in
+    rw (same.after_is, same.piece_is) (Along-found text found rest along n class same.cuts same.read)
 
 -- a fault that was met
 pub IsFaultOf-met : (read : Result (List Reading) WordFault) (fault : WordFault) → read ≡ Err fault → IsFaultOf read fault

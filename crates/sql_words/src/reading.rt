@@ -29,8 +29,8 @@ fn words_in<'a>(alloc: Global, text: &'a str) -> Result<Vec<Word<'a>>, WordFault
     Ok(found)
 }
 
-#[tactic(auto, using(crate::proofs::Slices::words_stand))]
 /// The words of a text, each a slice of it, or the first fault in it. White space and comments are passed over.
+#[tactic(auto, using(crate::proofs::Slices::words_stand))]
 pub fn words<'a>(alloc: Global, text: &'a str) -> Result<Words<'a>, WordFault>
     ensures read { IfOk result (λ words. words_of text.now ≡ Ok words) }
     ensures slices { IfOk result (λ words. StandIn text.now 0 words) }
