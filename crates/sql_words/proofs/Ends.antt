@@ -1,5 +1,5 @@
 -- What stands at the front ends between two characters.
-use Rattle.std.proofs.Common.{◌≡◌, ℕ, zero, suc, ◌+◌, ◌-◌, ◌<◌, ◌≤◌, Bool, true, false, cond, not, nat_eq, nat_lt, ◌&&◌, List, [], ◌∷◌, length, get_or, drop, Option, Some, None, Result, Ok, Err, IsUtf8, refl, sym, ap, ◌∙◌, subst, arith, add-zero, length-drop}
+use Rattle.std.proofs.Common.{◌≡◌, ℕ, zero, suc, ◌+◌, ◌-◌, ◌<◌, ◌≤◌, Bool, true, false, cond, not, nat_eq, nat_lt, ◌&&◌, List, [], ◌∷◌, length, get_or, take, drop, Option, Some, None, Result, Ok, Err, IsUtf8, refl, sym, ap, ◌∙◌, subst, arith, add-zero, length-drop}
 use Rattle.std.specs.Option.{option_map}
 use Rattle.std.specs.List.{prefix_len, position_or_len}
 use Rattle.std.specs.Char.{is_ascii_digit, is_ascii_hexdigit}
@@ -15,9 +15,9 @@ use Rattle.sql_words.specs.declared.word.WordFault.{WordFault}
 use Rattle.sql_words.specs.declared.front.Front.{Front}
 use Rattle.sql_words.specs.declared.front.Front.TheVariants.{Gap, Found}
 use Rattle.sql_words.specs.Characters.{is_white, is_line_end, is_name_start, is_name_byte, is_quote, is_angle, is_sign, begins_with}
-use Rattle.sql_words.specs.Quoted.{length_of, text_inside, bytes_inside, name_inside}
+use Rattle.sql_words.specs.Quoted.{length_of, value_of, text_inside, bytes_inside, name_inside}
 use Rattle.sql_words.specs.Front.{size_of, line_length, begins_comment, begins_bytes, bytes_length, bytes_or_name, name_length, quoted, begins_number, digit_count, sign_width, number, sign_length, front_at}
-use Rattle.sql_words.specs.Meaning.{is_text}
+use Rattle.sql_words.specs.Meaning.{is_all, is_quoted_name, is_text}
 use Rattle.sql_words.proofs.Inside.{further, step, text_length-step, is_pair, bytes_length-pair, bytes_length-end, and-false}
 
 -- the first n bytes are at least one, and end between two characters
@@ -236,3 +236,42 @@ pub text_begins : (bytes : List ℕ) → is_text bytes ≡ true → (0 < length 
 text_begins bytes e =
     let quote : is_quote (get_or bytes 0 0) ≡ true = first_part _ _ e in
     (nonzero_within bytes 0 (quote_nonzero (get_or bytes 0 0) quote), quote_ascii (get_or bytes 0 0) quote)
+
+-- ---- a name between backquotes
+
+pub record IsQuotedName (bytes : List ℕ) : Type 0 where
+  pub long : 2 ≤ length bytes
+  pub first : get_or bytes 0 0 ≡ 96
+  pub last : get_or bytes (length bytes - 1) 0 ≡ 96
+  pub value : value_of (name_inside (drop 1 bytes)) ≡ Some (take (length bytes - 2) (drop 1 bytes))
+
+second_part : (a b : Bool) → (a && b) ≡ true → b ≡ true
+second_part true b e = e
+second_part false b e = absurd cc
+
+quoted_name-by : (bytes : List ℕ) (b : Bool) → nat_lt (position_or_len (λ x. nat_eq x 96) (drop 1 bytes)) (length (drop 1 bytes)) ≡ b → get_or bytes 0 0 ≡ 96 → is_all (length_of (name_inside (drop 1 bytes))) (drop 1 bytes) ≡ true → IsQuotedName bytes
+unfolding name_inside
+quoted_name-by bytes true t first all =
+    let inside = drop 1 bytes in
+    let end = position_or_len (λ x. nat_eq x 96) inside in
+    let is : length_of (name_inside inside) ≡ Some (end + 1) = rw t refl in
+    let whole : nat_eq (end + 1) (length inside) ≡ true = ap (λ o. is_all o inside) (sym is) ∙ all in
+    let size : end + 1 ≡ length inside = eqb-true _ _ whole in
+    let lt : end < length inside = ltb-true _ _ t in
+    let long : 2 ≤ length bytes = omega (arith, size, length-drop 1 bytes) in
+    let here : 1 + end ≡ length bytes - 1 = omega (arith, size, length-drop 1 bytes) in
+    let count : end ≡ length bytes - 2 = omega (arith, size, length-drop 1 bytes) in
+    let value : value_of (name_inside inside) ≡ Some (take end inside) = rw t refl in
+    record {
+      long = long;
+      first = first;
+      last = ap (λ k. get_or bytes k 0) (sym here) ∙ sym (get_or-drop 1 bytes end 0) ∙ stops_at_backquote inside lt;
+      value = value ∙ ap (λ k. Some (take k inside)) count;
+    }
+quoted_name-by bytes false t first all =
+    let none : length_of (name_inside (drop 1 bytes)) ≡ None = rw t refl in
+    let never : false ≡ true = ap (λ o. is_all o (drop 1 bytes)) (sym none) ∙ all in
+    absurd cc
+
+pub quoted_name_is : (bytes : List ℕ) → is_quoted_name bytes ≡ true → IsQuotedName bytes
+quoted_name_is bytes e = quoted_name-by bytes _ refl (eqb-true (get_or bytes 0 0) 96 (first_part _ _ e)) (second_part _ _ e)

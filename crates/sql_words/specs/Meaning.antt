@@ -1,8 +1,10 @@
 -- What a word stands for, by its bytes. Each is None where the bytes are no one such word.
 use Rattle.std.specs.Prelude.{ℕ, ℤ, pos, neg_ℤ, ◌+◌, Bool, false, ◌&&◌, ◌==◌, nat_le, if◌then◌else◌, List, length, drop, slice_index, Option, Some, None}
 use Rattle.std.specs.Str.Parse.{digits_value}
+use Rattle.sql_words.specs.declared.word.WordClass.{WordClass}
+use Rattle.sql_words.specs.declared.word.WordClass.TheVariants.{Name, Quoted, Number, Text, Bytes, Sign}
 use Rattle.sql_words.specs.Characters.{is_quote}
-use Rattle.sql_words.specs.Quoted.{length_of, value_of, text_inside, bytes_inside}
+use Rattle.sql_words.specs.Quoted.{length_of, value_of, text_inside, bytes_inside, name_inside}
 use Rattle.sql_words.specs.Front.{begins_bytes, begins_number, sign_width, digit_count, most_digits}
 
 -- a length that is there takes all of the bytes
@@ -39,3 +41,20 @@ signed bytes =
 -- what a number stands for ("Numeric Literals")
 abbrev pub number_value : List ℕ → Option ℤ
 number_value bytes = if is_number bytes then Some (signed bytes) else None
+
+-- the bytes are one name in backquotes
+abbrev pub is_quoted_name : List ℕ → Bool
+is_quoted_name bytes = slice_index bytes 0 == 96 && is_all (length_of (name_inside (drop 1 bytes))) (drop 1 bytes)
+
+-- the name between the backquotes ("Schema Object Names")
+abbrev pub quoted_name : List ℕ → Option (List ℕ)
+quoted_name bytes = if is_quoted_name bytes then value_of (name_inside (drop 1 bytes)) else None
+
+-- the name that a word is
+abbrev pub name_of : WordClass → List ℕ → Option (List ℕ)
+name_of Name bytes = Some bytes
+name_of Quoted bytes = quoted_name bytes
+name_of Number bytes = None
+name_of Text bytes = None
+name_of Bytes bytes = None
+name_of Sign bytes = None

@@ -5,18 +5,29 @@ ghost use Rattle.std.specs.List.{prefix_len};
 ghost use Rattle.std.specs.String.{string_bytes};
 ghost use Rattle.sql_words.specs.Characters.{is_quote, is_plain};
 ghost use Rattle.sql_words.specs.Quoted.{value_of, escaped, text_inside, bytes_inside};
-ghost use Rattle.sql_words.specs.Meaning.{is_all, is_text, is_bytes, is_number};
+ghost use Rattle.sql_words.specs.Meaning.{is_all, is_quoted_name, quoted_name, is_text, is_bytes};
 
 use crate::characters::{hex_digit, is_plain, is_quote};
 use crate::front::{begins_bytes, is_number};
-use crate::quoted::{bytes_length, is_pair, stands_at, text_length};
-use crate::word::Word;
+use crate::quoted::{bytes_length, is_pair, name_length, stands_at, text_length};
+use crate::word::{Word, WordClass};
 use std::alloc::{AllocError, Global};
 
-impl Word<'_> {
+impl<'a> Word<'a> {
     ghost use Rattle.std.specs.Prelude.{◌≡◌, IfOk, option_map};
     ghost use Rattle.std.specs.String.{string_bytes};
-    ghost use Rattle.sql_words.specs.Meaning.{text_value, bytes_value, number_value};
+    ghost use Rattle.sql_words.specs.Meaning.{name_of, text_value, bytes_value, number_value};
+
+    /// The name that the word is, without its backquotes, or None where it is no name.
+    pub fn name(&self) -> Option<&'a str>
+        ensures { option_map (λ name. name.now) result ≡ name_of self.now.class self.now.text.now }
+    {
+        match self.class {
+            WordClass::Name => Some(self.text),
+            WordClass::Quoted => between_backquotes(self.text),
+            _ => None,
+        }
+    }
 
     /// The text that the word stands for, or None where it is no text.
     pub fn text_value(&self, alloc: Global) -> Result<Option<String>, AllocError>
@@ -58,6 +69,26 @@ fn is_all(length: Option<usize>, bytes: &[u8]) -> bool
     match length {
         None => false,
         Some(length) => length == bytes.len(),
+    }
+}
+
+fn is_quoted_name(bytes: &[u8]) -> bool
+    ensures { result ≡ is_quoted_name bytes.now }
+{
+    if bytes.is_empty() || bytes[0] != b'`' {
+        return false;
+    }
+    let inside = &bytes[1..];
+    is_all(name_length(inside), inside)
+}
+
+fn between_backquotes(text: &str) -> Option<&str>
+    ensures { option_map (λ name. name.now) result ≡ quoted_name text.now }
+{
+    if is_quoted_name(text.as_bytes()) {
+        Some(&text[1..text.len() - 1])
+    } else {
+        None
     }
 }
 

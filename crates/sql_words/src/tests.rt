@@ -186,6 +186,23 @@ fn values_of_bytes_and_numbers(rt: HostRuntime) -> Result<(), Fail> {
 }
 
 #[test]
+fn names_of_words(rt: HostRuntime) {
+    for (text, wanted) in [
+        ("a", "a"),
+        ("`a b`", "a b"),
+        ("``", ""),
+        ("`é`", "é"),
+        ("KEY", "KEY"),
+    ] {
+        let name = only(&rt, text).name().expect(&rt, "a name");
+        assert_eq!(rt; name.as_bytes(), wanted.as_bytes(), "of {text:?}");
+    }
+    for text in ["1", "'a'", "x'41'", "("] {
+        assert!(rt; only(&rt, text).name().is_none(), "of {text:?}");
+    }
+}
+
+#[test]
 fn other_words_have_no_value(rt: HostRuntime) -> Result<(), Fail> {
     for text in ["a", "`a`", "=", "7", "x'41'"] {
         assert!(rt;
