@@ -1,0 +1,7 @@
+pub mod Inside
+pub mod Ends
+pub mod Behind
+pub mod Values
+pub mod Numbers
+pub mod Slices
+pub mod Reprinted

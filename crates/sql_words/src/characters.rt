@@ -1,0 +1,67 @@
+//! The bytes by which words are told apart.
+
+ghost use Rattle.std.specs.Prelude.{◌≡◌, ◌<◌, IsTrue};
+ghost use Rattle.std.specs.Char.{is_ascii_hexdigit, digit_value};
+ghost use Rattle.sql_words.specs.Characters.{is_white, is_name_start, is_name_byte, is_plus_or_minus, is_quote, is_plain, is_angle, is_sign};
+
+pub fn is_white(byte: u8) -> bool
+    ensures { result ≡ is_white byte }
+{
+    matches!(byte, b' ' | b'\t' | b'\n' | b'\r')
+}
+
+pub fn is_name_start(byte: u8) -> bool
+    ensures { result ≡ is_name_start byte }
+{
+    byte.is_ascii_alphabetic() || byte == b'_' || byte == b'$'
+}
+
+pub fn is_name_byte(byte: u8) -> bool
+    ensures { result ≡ is_name_byte byte }
+{
+    is_name_start(byte) || byte.is_ascii_digit()
+}
+
+pub fn is_plus_or_minus(byte: u8) -> bool
+    ensures { result ≡ is_plus_or_minus byte }
+{
+    byte == b'+' || byte == b'-'
+}
+
+pub fn is_quote(byte: u8) -> bool
+    ensures { result ≡ is_quote byte }
+{
+    byte == b'\'' || byte == b'"'
+}
+
+/// A byte of a text that is neither its quote nor a backslash.
+pub fn is_plain(quote: u8, byte: u8) -> bool
+    ensures { result ≡ is_plain quote byte }
+{
+    byte != quote && byte != b'\\'
+}
+
+pub fn is_angle(byte: u8) -> bool
+    ensures { result ≡ is_angle byte }
+{
+    byte == b'<' || byte == b'>'
+}
+
+pub fn is_sign(byte: u8) -> bool
+    ensures { result ≡ is_sign byte }
+{
+    is_angle(byte) || matches!(byte, b'(' | b')' | b',' | b';' | b'=' | b'*')
+}
+
+/// What a hexadecimal digit stands for.
+pub fn hex_digit(byte: u8) -> u8
+    requires { IsTrue (is_ascii_hexdigit byte) }
+    ensures value { result ≡ digit_value byte }
+    ensures small { result < 16 }
+{
+    match byte {
+        b'0'..=b'9' => byte - b'0',
+        b'A'..=b'F' => byte - b'A' + 10,
+        _ => byte - b'a' + 10,
+    }
+}
