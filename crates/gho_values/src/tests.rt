@@ -44,6 +44,7 @@ pub enum Sample {
     Raw(&'static [u8]),
 }
 
+/// The value that a sample stands for.
 pub fn value_of(alloc: Global, sample: Sample) -> Result<Value, AllocError> {
     Ok(match sample {
         Sample::Nothing => Value::Null,

@@ -56,6 +56,7 @@ fn unquoted_length(bytes: &[u8]) -> usize
     bytes.iter().take_while(|byte| is_name_byte(**byte)).count()
 }
 
+/// Whether x' or X' stands at the front.
 pub fn begins_bytes(bytes: &[u8]) -> bool
     ensures begins { result ≡ begins_bytes bytes.now }
     ensures long { IsTrue result → 2 ≤ length bytes.now }

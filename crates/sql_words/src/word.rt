@@ -56,12 +56,14 @@ impl<'a> Words<'a> {
         Words { items }
     }
 
+    /// How many words there are.
     pub fn len(&self) -> usize
         ensures { result ≡ length self.now }
     {
         self.items.len()
     }
 
+    /// Whether there is no word.
     pub fn is_empty(&self) -> bool
         ensures { result ≡ (length self.now == 0) }
     {
@@ -75,6 +77,7 @@ impl<'a> Words<'a> {
         self.items.get(index)
     }
 
+    /// The words as a slice.
     pub fn as_slice(&self) -> &[Word<'a>]
         ensures { views result.now ≡ self.now }
     {
