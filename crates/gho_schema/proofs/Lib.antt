@@ -1,5 +1,6 @@
 pub mod Ascii
 pub mod Columns
+pub mod NameSets
 pub mod Front
 pub mod Orders
 pub mod ReadRows

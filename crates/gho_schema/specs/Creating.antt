@@ -1,6 +1,6 @@
 -- Which texts of CREATE TABLE are read so far, and the schema that each declares (MySQL's manual, "CREATE TABLE
 -- Statement"): INT columns, one of which is the PRIMARY KEY.
-use Rattle.std.specs.Prelude.{codes, ℕ, zero, suc, Bool, true, false, not, ◌&&◌, ◌==◌, nat_le, List, [], ◌∷◌, length, count_by, position, unwrap_or, Option, Some, None, if◌then◌else◌}
+use Rattle.std.specs.Prelude.{codes, ℕ, zero, suc, Bool, true, false, not, ◌&&◌, ◌==◌, nat_le, List, [], ◌∷◌, ◌++◌, length, count_by, position, unwrap_or, Option, Some, None, if◌then◌else◌}
 use Rattle.std.specs.List.{list_any}
 use Rattle.std.specs.Str.{bytes_eq}
 use Rattle.gho_values.specs.declared.kind.Kind.{Kind}
@@ -63,10 +63,14 @@ columns_at (suc limit) sign text = columns_behind (columns_at limit 44) text (si
 unfoldable pub has_name : List Column → List ℕ → Bool
 has_name columns name = list_any (λ column. same_name column.name name) columns
 
+-- none of the columns has the name of one before it
+unfoldable pub differ_from : List Column → List Column → Bool
+differ_from before [] = true
+differ_from before (column ∷ columns) = not (has_name before column.name) && differ_from (before ++ column ∷ []) columns
+
 -- no two columns have one name
-unfoldable pub names_differ : List Column → Bool
-names_differ [] = true
-names_differ (column ∷ others) = not (has_name others column.name) && names_differ others
+abbrev pub names_differ : List Column → Bool
+names_differ columns = differ_from [] columns
 
 -- whether the column is the PRIMARY KEY, which alone is NOT NULL so far
 abbrev pub is_key : Column → Bool

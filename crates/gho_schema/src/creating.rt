@@ -6,6 +6,7 @@ ghost use Rattle.gho_schema.specs.Names.{is_table_name};
 ghost use Rattle.gho_schema.specs.Reading.{Reads};
 ghost use Rattle.gho_schema.specs.Creating.{int_kind, column_name_at, primary_key_at, int_column, column_at, columns_at, has_name, names_differ, is_key, schema_of, schema_at};
 
+use crate::distinct::names_differ;
 use crate::fault::SchemaFault;
 use crate::names::{begins_no_column, is_column_name, is_table_name, same_name};
 use crate::reading::{is_blank, keyword_at, name_at, sign_at};
@@ -97,19 +98,6 @@ fn columns_at(alloc: Global, text: &[u8]) -> Result<(Columns, &[u8]), SchemaFaul
     Ok((columns, rest))
 }
 
-/// Whether no two columns have one name.
-#[tactic(auto, unfolding(crate::specs::Creating::names_differ))]
-fn names_differ(columns: &[Column]) -> bool
-    ensures { result ≡ names_differ columns.now }
-{
-    for (i, column) in columns.iter().enumerate() {
-        if has_name(&columns[i + 1..], &column.name) {
-            return false;
-        }
-    }
-    true
-}
-
 /// Whether one of the columns has this name, whatever the case of letters.
 #[tactic(auto, unfolding(crate::specs::Creating::has_name))]
 pub fn has_name(columns: &[Column], name: &Name) -> bool
@@ -165,7 +153,8 @@ pub fn read_schema(alloc: Global, text: &str, migrated: &str) -> Result<Schema, 
     let (name, rest) = name_at(rest).ok_or(SchemaFault::NotBuilt)?;
     let (columns, rest) = columns_at(alloc, rest)?;
     let rest = sign_at(b')', rest).ok_or(SchemaFault::NotBuilt)?;
-    if !is_blank(rest) || !is_table(name, migrated) || !are_columns(columns.as_slice()) {
+    let are_columns = are_columns(alloc, columns.as_slice())?;
+    if !is_blank(rest) || !is_table(name, migrated) || !are_columns {
         return Err(SchemaFault::NotBuilt);
     }
     Ok(schema_of(alloc, name_of(alloc, name)?, columns)?)
@@ -177,8 +166,9 @@ fn is_table(name: &[u8], migrated: &str) -> bool
     name == migrated.as_bytes() && is_table_name(name)
 }
 
-fn are_columns(columns: &[Column]) -> bool
-    ensures { result ≡ (names_differ columns.now && (count_by is_key columns.now == 1)) }
+fn are_columns(alloc: Global, columns: &[Column]) -> Result<bool, AllocError>
+    ensures { IfOk result (λ are. are ≡ (names_differ columns.now && (count_by is_key columns.now == 1))) }
 {
-    names_differ(columns) && columns.iter().filter(|column| !column.nullable).count() == 1
+    let one_key = columns.iter().filter(|column| !column.nullable).count() == 1;
+    Ok(names_differ(alloc, columns)? && one_key)
 }

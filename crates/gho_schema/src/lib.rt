@@ -2,6 +2,7 @@
 #![tactic(auto)]
 
 mod creating;
+mod distinct;
 mod fault;
 mod keyed;
 pub mod laws;
