@@ -126,3 +126,11 @@ impl Text {
         *self.text.allocator()
     }
 }
+
+impl Duplicate for Text {
+    fn copy(&self) -> Result<Text, AllocError> {
+        Ok(Text {
+            text: self.text.clone()?,
+        })
+    }
+}

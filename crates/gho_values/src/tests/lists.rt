@@ -70,6 +70,8 @@ fn texts_grow(rt: HostRuntime) -> Result<(), Fail> {
     text.push_char('🐬')?;
     text.push_number(-12)?;
     assert_eq!(rt; text.as_str(), "a🐬-12");
+    let copy = text.copy()?;
+    assert_eq!(rt; copy.as_str(), "a🐬-12");
     let mut other = Text::new(text.allocator());
     other.push_str("b")?;
     assert_eq!(rt; other.as_str(), "b");
