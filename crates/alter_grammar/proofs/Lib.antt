@@ -1,2 +1,3 @@
+pub mod AddedColumns
 pub mod ImagesSoFar
 pub mod RowImages

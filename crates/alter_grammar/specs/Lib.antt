@@ -1,3 +1,4 @@
 pub mod Altering
 pub mod Clauses
 pub mod Images
+pub mod Laws

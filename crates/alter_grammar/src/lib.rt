@@ -6,6 +6,7 @@ mod clause;
 mod fault;
 mod image_fault;
 mod imaging;
+pub mod laws;
 mod map;
 mod reading;
 
