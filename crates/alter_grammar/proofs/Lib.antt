@@ -1,2 +1,3 @@
 pub mod ImagesSoFar
+pub mod Rest
 pub mod RowImages
