@@ -1,6 +1,6 @@
 -- Making the images of rows one after the other, as a loop does.
 use Rattle.std.proofs.Common.{◌≡◌, ℕ, ◌+◌, ◌<◌, ◌≤◌, List, [], ◌∷◌, ◌++◌, length, drop, get_or, Option, Some, None, refl, sym, ap, ◌∙◌, append_assoc}
-use Rattle.std.proofs.lemmas.List.{append-nil, drop_more, drop_all}
+use Rattle.std.proofs.lemmas.List.{append-nil, drop_all}
 use Rattle.std.specs.Result.{result_ok}
 use Rattle.gho_values.specs.declared.value.Value.{Value}
 use Rattle.gho_schema.specs.Reading.{◌>>=◌}
@@ -9,6 +9,7 @@ use Rattle.alter_grammar.specs.declared.fault.AlterFault.TheVariants as faults
 use Rattle.alter_grammar.specs.declared.map.MapColumn.{MapColumn}
 use Rattle.alter_grammar.specs.Clauses.{Fails}
 use Rattle.alter_grammar.specs.Images.{image, images}
+use Rattle.alter_grammar.proofs.Rest.{from_here}
 
 abbrev pub Row : Type 0
 Row = List Value
@@ -20,9 +21,6 @@ with_front front read = read >>= λ rows. Some (front ++ rows)
 regroup : (front : List Row) (row : Row) (others : Option (List Row)) → with_front front (others >>= λ rows. Some (row ∷ rows)) ≡ with_front (front ++ row ∷ []) others
 regroup front row (Some rows) = ap (λ (rs : List Row). Some rs) (simp append_assoc)
 regroup front row None = refl
-
-from_here : (rows : List Row) (i : ℕ) (row : Row) → i < length rows → row ≡ get_or rows i row → drop i rows ≡ row ∷ drop (i + 1) rows
-from_here rows i row lt is = drop_more rows i row lt ∙ ap (λ (r : Row). r ∷ drop (i + 1) rows) (sym is)
 
 pub goes_on : (front : List Row) (map : List MapColumn) (rows : List Row) (i : ℕ) (row made : Row) (total : Option (List Row))
     → i < length rows → row ≡ get_or rows i row → result_ok (image map row) ≡ Some made

@@ -1,3 +1,4 @@
 pub mod AddedColumns
 pub mod ImagesSoFar
+pub mod Rest
 pub mod RowImages

@@ -1,14 +1,14 @@
 -- Making a row's image value by value, as a loop does.
 use Rattle.std.proofs.Common.{◌≡◌, ℕ, ◌+◌, ◌<◌, ◌≤◌, List, [], ◌∷◌, ◌++◌, length, drop, get_or, Result, Ok, Err, refl, sym, ap, ◌∙◌, append_assoc}
-use Rattle.std.proofs.lemmas.List.{append-nil, drop_more, drop_all}
+use Rattle.std.proofs.lemmas.List.{append-nil, drop_all}
 use Rattle.gho_values.specs.declared.value.Value.{Value}
-use Rattle.gho_values.specs.declared.fault.Unfit.{Unfit}
 use Rattle.gho_values.specs.Storing.{stores}
 use Rattle.alter_grammar.specs.declared.map.MapColumn.{MapColumn}
 use Rattle.alter_grammar.specs.declared.image_fault.UnfitAt.{UnfitAt}
 use Rattle.alter_grammar.specs.declared.image_fault.ImageFault.{ImageFault}
 use Rattle.alter_grammar.specs.declared.image_fault.ImageFault.TheVariants as faults
-use Rattle.alter_grammar.specs.Images.{source, before, value_first, image_from, Fits, Images}
+use Rattle.alter_grammar.specs.Images.{source, before, image_from, Fits, Images}
+use Rattle.alter_grammar.proofs.Rest.{from_here}
 
 -- the values so far, and those that are still made
 abbrev pub with_front : List Value → Result (List Value) UnfitAt → Result (List Value) UnfitAt
@@ -18,9 +18,6 @@ with_front front (Err unfit) = Err unfit
 regroup : (front : List Value) (v : Value) (others : Result (List Value) UnfitAt) → with_front front (before v others) ≡ with_front (front ++ v ∷ []) others
 regroup front v (Ok values) = ap (λ (vs : List Value). Ok vs) (simp append_assoc)
 regroup front v (Err unfit) = refl
-
-from_here : (map : List MapColumn) (i : ℕ) (new : MapColumn) → i < length map → new ≡ get_or map i new → drop i map ≡ new ∷ drop (i + 1) map
-from_here map i new lt is = drop_more map i new lt ∙ ap (λ (m : MapColumn). m ∷ drop (i + 1) map) (sym is)
 
 pub goes_on : (front : List Value) (map : List MapColumn) (i column : ℕ) (new : MapColumn) (row : List Value) (v : Value) (total : Result (List Value) UnfitAt)
     → i < length map → new ≡ get_or map i new → stores (source new.origin row) new.kind new.nullable ≡ Ok v

@@ -1,5 +1,5 @@
 -- The table that the clauses of an ALTER leave (MySQL's manual, "ALTER TABLE Statement").
-use Rattle.std.specs.Prelude.{ℕ, ◌+◌, Bool, true, false, ◌||◌, nat_le, List, [], ◌∷◌, ◌++◌, length, Option, Some, None, if◌then◌else◌}
+use Rattle.std.specs.Prelude.{ℕ, ◌+◌, Bool, false, ◌||◌, nat_le, List, [], ◌∷◌, ◌++◌, length, Option, Some, None, if◌then◌else◌}
 use Rattle.std.specs.Result.{result_ok}
 use Rattle.gho_values.specs.declared.value.Value.{Value}
 use Rattle.gho_values.specs.Storing.{stores}
@@ -8,12 +8,10 @@ use Rattle.gho_schema.specs.declared.schema.Column.{Column}
 use Rattle.gho_schema.specs.Reading.{◌>>=◌}
 use Rattle.gho_schema.specs.Creating.{has_name}
 use Rattle.alter_grammar.specs.declared.clause.Clause.{Clause}
-use Rattle.alter_grammar.specs.declared.clause.Clause.TheVariants.{Add, Drop, Rename, Change, AddIndex, DropIndex}
+use Rattle.alter_grammar.specs.declared.clause.Clause.TheVariants.{Add}
 use Rattle.alter_grammar.specs.declared.clause.NewColumn.{NewColumn}
-use Rattle.alter_grammar.specs.declared.clause.Spot.{Spot}
-use Rattle.alter_grammar.specs.declared.clause.Spot.TheVariants.{Unsaid, First, After}
+use Rattle.alter_grammar.specs.declared.clause.Spot.TheVariants.{Unsaid}
 use Rattle.alter_grammar.specs.declared.map.MapColumn.{MapColumn}
-use Rattle.alter_grammar.specs.declared.map.Origin.{Origin}
 use Rattle.alter_grammar.specs.declared.map.Origin.TheVariants.{Old, Added}
 
 -- the columns from this place on, each as it was

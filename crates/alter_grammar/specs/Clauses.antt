@@ -1,5 +1,5 @@
 -- Which texts of ALTER TABLE are read so far, and their clauses (MySQL's manual, "ALTER TABLE Statement").
-use Rattle.std.specs.Prelude.{◌≡◌, codes, ℕ, ℤ, false, ◌&&◌, List, [], ◌∷◌, Option, Some, None, Result, Ok, Err, if◌then◌else◌}
+use Rattle.std.specs.Prelude.{◌≡◌, codes, ℕ, ℤ, false, List, [], ◌∷◌, Option, Some, None, Result, Ok, Err, if◌then◌else◌}
 use Rattle.gho_values.specs.declared.value.Value.TheVariants.{Num}
 use Rattle.gho_schema.specs.Names.{is_column_name}
 use Rattle.gho_schema.specs.Reading.{◌>>=◌, name_at, keyword_at, number_at, is_blank}

@@ -17,3 +17,6 @@ pub use image_fault::{ImageFault, UnfitAt};
 pub use imaging::{image, images};
 pub use map::{ColumnMap, MapColumn, Origin};
 pub use reading::read_alter;
+
+#[cfg(test)]
+mod tests;

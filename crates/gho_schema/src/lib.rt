@@ -18,3 +18,6 @@ pub use names::{begins_no_column, is_column_name, is_table_name, same_name};
 pub use reading::{is_blank, keyword_at, name_at, number_at, sign_at};
 pub use rows::read_row;
 pub use schema::{Column, Columns, Index, Indexes, Places, Schema};
+
+#[cfg(test)]
+mod tests;

@@ -1,6 +1,5 @@
-use Rattle.std.proofs.Common.{◌≡◌, arith}
+use Rattle.std.proofs.Common.{arith}
 use Rattle.std.proofs.lemmas.Result.{err_from_is_err_and}
-use Rattle.alter_grammar.specs.Images.{image}
 use Rattle.alter_grammar.proofs.RowImages.{goes_on, fails, is_full}
 use Rattle.alter_grammar.proofs.imaging.image.Goals as goal
 

@@ -1,5 +1,4 @@
 use Rattle.std.proofs.lemmas.Result.{err_from_is_err_and}
-use Rattle.alter_grammar.specs.Images.{images}
 use Rattle.alter_grammar.proofs.ImagesSoFar.{goes_on, fails, is_full}
 use Rattle.alter_grammar.proofs.imaging.images.Goals as goal
 
