@@ -5,3 +5,4 @@ pub mod Values
 pub mod Numbers
 pub mod Slices
 pub mod Reprinted
+pub mod NumberWords

@@ -11,7 +11,7 @@ use Rattle.std.proofs.lemmas.Str.Parse.{IsNumeralModel, numerals_by_value, tells
 use Rattle.std.proofs.lemmas.Bool.{eqb-true, eqb-false, leb-true}
 use Rattle.std.proofs.lemmas.List.{length-drop, get_or-drop}
 use Rattle.sql_words.specs.Front.{begins_number, sign_width, digit_count, most_digits}
-use Rattle.sql_words.specs.Meaning.{is_number, signed}
+use Rattle.sql_words.specs.Meaning.{is_number, signed, AreDigits}
 
 own : IsNumeralModel (λ ds. all_ascii_digits ds ≡ true) (digits_value 10)
 own = numerals_by_value _ tells_all_ascii_digits
@@ -32,25 +32,19 @@ ok_from_OkIff : {E : Type 0} (r : Result ℤ E) (P : Type 0) (v : ℤ) → OkIff
 ok_from_OkIff (Ok x) P v is holds = ap (λ z. Ok z) is.1
 ok_from_OkIff (Err e) P v is holds = absurd (is holds)
 
--- at least one digit and at most 38, and nothing else
-record AreDigits (ds : List ℕ) : Type 0 where
-  digits : all_ascii_digits ds ≡ true
-  some : 0 < length ds
-  few : length ds ≤ 38
-
 small : (ds : List ℕ) → AreDigits ds → digits_value 10 ds < 2 ^ 127
-small ds are = let big : 10 ^ 38 < 2 ^ 127 = lit< tt in omega (arith, big, digits_value_short own ds 38 are.digits are.few)
+small ds are = let big : 10 ^ 38 < 2 ^ 127 = lit< tt in omega (arith, big, digits_value_short own ds 38 are.all are.few)
 
 -- what the digits behind the first s bytes make of a parse
 module _ {E : Type 0} (bytes : List ℕ) (r : Result ℤ E) (parsed : ParsesSigned w128 10 bytes r) where
   below_zero : get_or bytes 0 0 ≡ 45 → AreDigits (drop 1 bytes) → r ≡ Ok (neg_ℤ (pos (digits_value 10 (drop 1 bytes))))
-  below_zero e are = ok_from_OkIff r _ _ (parse_signed_minus own w128 bytes r parsed e) (are.digits, are.some, omega (arith, small (drop 1 bytes) are))
+  below_zero e are = ok_from_OkIff r _ _ (parse_signed_minus own w128 bytes r parsed e) (are.all, are.some, omega (arith, small (drop 1 bytes) are))
 
   behind_plus : get_or bytes 0 0 ≡ 43 → AreDigits (drop 1 bytes) → r ≡ Ok (pos (digits_value 10 (drop 1 bytes)))
-  behind_plus e are = ok_from_OkIff r _ _ (parse_signed_plus own w128 bytes r parsed e) (are.digits, are.some, small (drop 1 bytes) are)
+  behind_plus e are = ok_from_OkIff r _ _ (parse_signed_plus own w128 bytes r parsed e) (are.all, are.some, small (drop 1 bytes) are)
 
   plain : (get_or bytes 0 0 ≡ 43 → ⊥) → (get_or bytes 0 0 ≡ 45 → ⊥) → AreDigits bytes → r ≡ Ok (pos (digits_value 10 bytes))
-  plain p m are = ok_from_OkIff r _ _ (parse_signed_plain own w128 bytes r parsed p m) (are.digits, are.some, small bytes are)
+  plain p m are = ok_from_OkIff r _ _ (parse_signed_plain own w128 bytes r parsed p m) (are.all, are.some, small bytes are)
 
   by_sign : (plus minus : Bool) → nat_eq (get_or bytes 0 0) 43 ≡ plus → nat_eq (get_or bytes 0 0) 45 ≡ minus → AreDigits (drop (cond (plus || minus) 1 0) bytes)
       → r ≡ Ok (cond minus (neg_ℤ (pos (digits_value 10 (drop (cond (plus || minus) 1 0) bytes)))) (pos (digits_value 10 (drop (cond (plus || minus) 1 0) bytes))))
@@ -69,15 +63,27 @@ some_digits : (ds : List ℕ) → is_ascii_digit (get_or ds 0 0) ≡ true → 0 
 some_digits [] e = absurd cc
 some_digits (d ∷ ds) e = omega arith
 
-number_digits : (bytes : List ℕ) → is_number bytes ≡ true → AreDigits (drop (sign_width bytes) bytes)
-number_digits bytes e =
+-- what the test for a number says
+pub record IsNumber (bytes : List ℕ) : Type 0 where
+  pub begun : begins_number bytes ≡ true
+  pub few : digit_count bytes ≤ most_digits
+  pub whole : sign_width bytes + digit_count bytes ≡ length bytes
+
+pub number_parts : (bytes : List ℕ) → is_number bytes ≡ true → IsNumber bytes
+number_parts bytes e =
+    let parts = three_parts (begins_number bytes) (nat_le (digit_count bytes) most_digits) (nat_eq (sign_width bytes + digit_count bytes) (length bytes)) e in
+    record { begun = parts.0; few = leb-true _ _ parts.1; whole = eqb-true _ _ parts.2 }
+
+-- the digits behind the sign are all that follows it
+pub count_whole : (bytes : List ℕ) → IsNumber bytes → digit_count bytes ≡ length (drop (sign_width bytes) bytes)
+count_whole bytes is = omega (arith, is.whole, length-drop (sign_width bytes) bytes)
+
+pub number_digits : (bytes : List ℕ) → IsNumber bytes → AreDigits (drop (sign_width bytes) bytes)
+number_digits bytes is =
     let s = sign_width bytes in
-    let parts = three_parts (begins_number bytes) (nat_le (digit_count bytes) most_digits) (nat_eq (s + digit_count bytes) (length bytes)) e in
-    let few : digit_count bytes ≤ 38 = leb-true _ _ parts.1 in
-    let all : s + digit_count bytes ≡ length bytes = eqb-true _ _ parts.2 in
-    let same : digit_count bytes ≡ length (drop s bytes) = omega (arith, all, length-drop s bytes) in
+    let same = count_whole bytes is in
     let here : get_or (drop s bytes) 0 0 ≡ get_or bytes s 0 = get_or-drop s bytes 0 0 ∙ ap (λ i. get_or bytes i 0) (add-zero s) in
-    record { digits = digits_all (drop s bytes) same; some = some_digits (drop s bytes) (ap is_ascii_digit here ∙ parts.0); few = omega (arith, few, same) }
+    record { all = digits_all (drop s bytes) same; some = some_digits (drop s bytes) (ap is_ascii_digit here ∙ is.begun); few = omega (arith, is.few, same) }
 
 pub number_parsed : {E : Type 0} (bytes : List ℕ) (r : Result ℤ E) → ParsesSigned w128 10 bytes r → is_number bytes ≡ true → r ≡ Ok (signed bytes)
-number_parsed bytes r parsed e = by_sign bytes r parsed (nat_eq (get_or bytes 0 0) 43) (nat_eq (get_or bytes 0 0) 45) refl refl (number_digits bytes e)
+number_parsed bytes r parsed e = by_sign bytes r parsed (nat_eq (get_or bytes 0 0) 43) (nat_eq (get_or bytes 0 0) 45) refl refl (number_digits bytes (number_parts bytes e))

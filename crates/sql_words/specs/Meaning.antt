@@ -1,5 +1,6 @@
 -- What a word stands for, by its bytes. Each is None where the bytes are no one such word.
-use Rattle.std.specs.Prelude.{ℕ, ℤ, pos, neg_ℤ, ◌+◌, Bool, false, ◌&&◌, ◌==◌, nat_le, if◌then◌else◌, List, length, drop, slice_index, Option, Some, None}
+use Rattle.std.specs.Prelude.{◌≡◌, ℕ, ℤ, pos, neg_ℤ, ◌+◌, ◌<◌, ◌≤◌, Bool, true, false, ◌&&◌, ◌==◌, nat_le, if◌then◌else◌, List, length, drop, slice_index, Option, Some, None}
+use Rattle.std.specs.Str.{all_ascii_digits}
 use Rattle.std.specs.Str.Parse.{digits_value}
 use Rattle.sql_words.specs.declared.word.WordClass.{WordClass}
 use Rattle.sql_words.specs.declared.word.WordClass.TheVariants.{Name, Quoted, Number, Text, Bytes, Sign}
@@ -41,6 +42,12 @@ signed bytes =
 -- what a number stands for ("Numeric Literals")
 abbrev pub number_value : List ℕ → Option ℤ
 number_value bytes = if is_number bytes then Some (signed bytes) else None
+
+-- 1 to 38 digits, and nothing else
+pub record AreDigits (digits : List ℕ) : Type 0 where
+  pub all : all_ascii_digits digits ≡ true
+  pub some : 0 < length digits
+  pub few : length digits ≤ most_digits
 
 -- the bytes are one name in backquotes
 abbrev pub is_quoted_name : List ℕ → Bool

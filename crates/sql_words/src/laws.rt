@@ -1,14 +1,16 @@
 //! What holds of the definitions alone: that a word which is printed is read again.
 
-ghost use Rattle.std.specs.Prelude.{◌≡◌, ℕ, ◌+◌, ◌<◌, List, [], ◌∷◌, ◌++◌, length, false, Some, Ok};
+ghost use Rattle.std.specs.Prelude.{◌≡◌, ℕ, ℤ, pos, neg_ℤ, ◌+◌, ◌<◌, List, [], ◌∷◌, ◌++◌, length, slice_index, false, Some, Ok};
+ghost use Rattle.std.specs.Char.{is_ascii_digit};
 ghost use Rattle.std.specs.List.{AllByRecursion};
+ghost use Rattle.std.specs.Str.Parse.{digits_value};
 ghost use Rattle.sql_words.specs.declared.word.WordClass.{WordClass};
-ghost use Rattle.sql_words.specs.declared.word.WordClass.TheVariants.{Text, Bytes};
+ghost use Rattle.sql_words.specs.declared.word.WordClass.TheVariants.{Text, Bytes, Number};
 ghost use Rattle.sql_words.specs.declared.front.Front.TheVariants.{Found};
 ghost use Rattle.sql_words.specs.Characters.{begins_with};
 ghost use Rattle.sql_words.specs.Front.{front_at};
 ghost use Rattle.sql_words.specs.Reading.{with_word, words_behind, words_of};
-ghost use Rattle.sql_words.specs.Meaning.{text_value, bytes_value};
+ghost use Rattle.sql_words.specs.Meaning.{text_value, bytes_value, number_value, AreDigits};
 ghost use Rattle.sql_words.specs.Printed.{printed_text, printed_bytes};
 
 /// What stands at the front is the first word, and the others are those of what follows it.
@@ -28,4 +30,13 @@ pub fn printed_bytes_are_read()
     ensures front { (place : ℕ) (value rest : List ℕ) → AllByRecursion (λ b. b < 256) value → front_at place (printed_bytes value ++ rest) ≡ Ok (Found Bytes (length (printed_bytes value))) }
     ensures word { (value : List ℕ) → AllByRecursion (λ b. b < 256) value → words_of (printed_bytes value) ≡ Ok (record { class = Bytes; text = printed_bytes value; place = 0 } ∷ []) }
     ensures value { (value : List ℕ) → AllByRecursion (λ b. b < 256) value → bytes_value (printed_bytes value) ≡ Some value }
+{}
+
+/// A sign and 1 to 38 digits, or such digits alone, are one word, which stands for the number that they spell.
+pub fn numbers_are_read()
+    ensures front { (place : ℕ) (bytes rest : List ℕ) (number : ℤ) → number_value bytes ≡ Some number → is_ascii_digit (slice_index rest 0) ≡ false → front_at place (bytes ++ rest) ≡ Ok (Found Number (length bytes)) }
+    ensures word { (bytes : List ℕ) (number : ℤ) → number_value bytes ≡ Some number → words_of bytes ≡ Ok (record { class = Number; text = bytes; place = 0 } ∷ []) }
+    ensures unsigned { (digits : List ℕ) → AreDigits digits → number_value digits ≡ Some (pos (digits_value 10 digits)) }
+    ensures behind_plus { (digits : List ℕ) → AreDigits digits → number_value (43 ∷ digits) ≡ Some (pos (digits_value 10 digits)) }
+    ensures behind_minus { (digits : List ℕ) → AreDigits digits → number_value (45 ∷ digits) ≡ Some (neg_ℤ (pos (digits_value 10 digits))) }
 {}

@@ -9,7 +9,9 @@ mod quoted;
 mod reading;
 mod word;
 
-pub use laws::{printed_bytes_are_read, printed_texts_are_read, words_follow_one_another};
+pub use laws::{
+    numbers_are_read, printed_bytes_are_read, printed_texts_are_read, words_follow_one_another,
+};
 pub use reading::words;
 pub use word::{Word, WordClass, WordFault, Words};
 
