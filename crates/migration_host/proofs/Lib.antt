@@ -1,4 +1,5 @@
 pub mod Buffers
+pub mod DoneAlters
 pub mod PlanTables
 pub mod Promises
 pub mod RowTexts

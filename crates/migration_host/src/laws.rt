@@ -1,7 +1,8 @@
 //! What holds of all plans: each function's contract is a law.
 
-ghost use Rattle.migration_host.specs.Laws.{AcceptedPlansHaveTables};
+ghost use Rattle.migration_host.specs.Laws.{AcceptedPlansHaveTables, TakenAltersAreDone};
 
+use alter_grammar::laws::rows_have_images;
 use gho_schema::laws::{ordered_rows_are_apart, put_keeps_order, read_rows_fit};
 
 /// The rows of an accepted plan are a table of its schema.
@@ -11,4 +12,12 @@ pub fn accepted_plans_have_tables()
     read_rows_fit();
     put_keeps_order();
     ordered_rows_are_apart();
+}
+
+/// Where an accepted plan's clauses are taken, the altered table is there.
+pub fn taken_alters_are_done()
+    ensures { TakenAltersAreDone }
+{
+    accepted_plans_have_tables();
+    rows_have_images();
 }
