@@ -1,5 +1,10 @@
 -- What is read of a text fits its columns.
-use Rattle.std.proofs.Common.{◌≡◌, ℕ, Bool, true, false, cond, List, [], ◌∷◌, Option, Some, None, Result, Ok, Err, refl, sym, ap, subst, codes, ◌∙◌}
+use Rattle.std.proofs.Common.{◌≡◌, ℕ, Bool, true, false, cond, List, [], ◌∷◌, Option, Some, None, Result, Ok, Err, refl, sym, ap, subst, codes, ◌∙◌, ◌&&◌, ◌==◌, ◌<◌, length, nat_lt, count_by, position, unwrap_or, inl, inr, arith}
+use Rattle.std.proofs.lemmas.Bool.{and_parts, cases_Bool, false≢true}
+use Rattle.std.proofs.lemmas.Bool.Decides.{nat_tests}
+use Rattle.std.specs.List.{position_or_len}
+use Rattle.std.specs.Str.{bytes_eq}
+use Rattle.gho_schema.specs.Names.{is_table_name}
 use Rattle.std.specs.Result.{result_ok}
 use Rattle.gho_values.specs.declared.value.Value.{Value}
 use Rattle.gho_values.specs.declared.value.Value.TheVariants.{Num}
@@ -9,7 +14,7 @@ use Rattle.gho_values.specs.Laws.{StoresAgain}
 use Rattle.gho_schema.specs.declared.schema.Schema.{Schema}
 use Rattle.gho_schema.specs.declared.schema.Column.{Column}
 use Rattle.gho_schema.specs.Reading.{◌>>=◌, keyword_at, name_at, number_at, sign_at, is_blank}
-use Rattle.gho_schema.specs.Creating.{columns_at, schema_of, schema_at}
+use Rattle.gho_schema.specs.Creating.{columns_at, names_differ, is_key, schema_of, schema_at}
 use Rattle.gho_schema.specs.Rows.{value_at, values_at, row_at}
 use Rattle.gho_schema.specs.Tables.{IsRow}
 
@@ -61,11 +66,21 @@ row_fits again columns text row is =
     let rest = bound (sign_at 41 values.x.1) (λ r. cond (is_blank r) (Some values.x.0) None) row values.goes_on in
     subst (IsRow columns) (let_through (is_blank rest.x) values.x.0 row rest.goes_on) (values_fit again columns 40 text values.x values.read_is)
 
--- a schema that is read has one unique key
+-- a test that let a value through held
+tested : {A : Type 0} (b : Bool) (x y : A) → cond b (Some x) None ≡ Some y → b ≡ true
+tested true x y is = refl
+tested false x y is = absurd (cc)
+
+some_column : (columns : List Column) → (count_by is_key columns == 1) ≡ true → 0 < length columns
+some_column [] one = absurd (false≢true one)
+some_column (c ∷ cs) one = omega arith
+
+-- a schema that is read has one unique key, and a column
 pub record OneKey (schema : Schema) : Type 0 where
   pub name : List ℕ
   pub columns : List Column
   pub is : schema_of name columns ≡ schema
+  pub some : 0 < length columns
 
 pub one_key : (migrated text : List ℕ) (schema : Schema) → schema_at migrated text ≡ Some schema → OneKey schema
 unfolding schema_at
@@ -75,4 +90,18 @@ one_key migrated text schema is =
     let name = bound (name_at table.x) _ schema table.goes_on in
     let columns = bound (columns_at 64 40 name.x.1) _ schema name.goes_on in
     let rest = bound (sign_at 41 columns.x.1) _ schema columns.goes_on in
-    record { name = name.x.0; columns = columns.x.0; is = let_through _ (schema_of name.x.0 columns.x.0) schema rest.goes_on }
+    let named = bytes_eq name.x.0 migrated && is_table_name name.x.0 in
+    let fit = names_differ columns.x.0 && count_by is_key columns.x.0 == 1 in
+    let all = tested (is_blank rest.x && (named && fit)) (schema_of name.x.0 columns.x.0) schema rest.goes_on in
+    let behind = and_parts (is_blank rest.x) (named && fit) all in
+    let both = and_parts named fit behind.1 in
+    let one = and_parts (names_differ columns.x.0) (count_by is_key columns.x.0 == 1) both.1 in
+    record { name = name.x.0; columns = columns.x.0; is = let_through (is_blank rest.x && (named && fit)) (schema_of name.x.0 columns.x.0) schema rest.goes_on; some = some_column columns.x.0 one.1 }
+
+-- the place of the first that passes is one of the list, as is the first
+pub place_within : {X : Type 0} (p : X → Bool) (xs : List X) → 0 < length xs → unwrap_or (position p xs) 0 < length xs
+place_within p xs some =
+    elim (cases_Bool (nat_lt (position_or_len p xs) (length xs))) [
+      | inl is ↦ rw is (grind (arith, nat_tests))
+      | inr isnt ↦ rw isnt some
+    ]

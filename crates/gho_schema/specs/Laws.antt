@@ -6,7 +6,7 @@ use Rattle.gho_schema.specs.declared.schema.Schema.{Schema}
 use Rattle.gho_schema.specs.declared.schema.Column.{Column}
 use Rattle.gho_schema.specs.Creating.{schema_at}
 use Rattle.gho_schema.specs.Rows.{row_at, key_places, put}
-use Rattle.gho_schema.specs.Tables.{IsRow, Ascends, Apart}
+use Rattle.gho_schema.specs.Tables.{IsRow, Ascends, Apart, HasKeyPlaces}
 
 -- A row that is read is one of its columns.
 abbrev pub ReadRowsFit : Type 0
@@ -21,3 +21,7 @@ PutKeepsOrder =
 -- In a table that is read, rows in order of the clustered key don't clash.
 abbrev pub OrderedRowsAreApart : Type 0
 OrderedRowsAreApart = (migrated text : List ℕ) (schema : Schema) (rows : List (List Value)) → schema_at migrated text ≡ Some schema → Ascends (key_places schema) rows → Apart schema.uniques rows
+
+-- In a schema that is read, each key's places are places of columns.
+abbrev pub ReadSchemasHaveKeyPlaces : Type 0
+ReadSchemasHaveKeyPlaces = (migrated text : List ℕ) (schema : Schema) → schema_at migrated text ≡ Some schema → HasKeyPlaces schema

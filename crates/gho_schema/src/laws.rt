@@ -1,6 +1,6 @@
 //! What holds of all schemas and rows that are read: each function's contract is a law.
 
-ghost use Rattle.gho_schema.specs.Laws.{ReadRowsFit, PutKeepsOrder, OrderedRowsAreApart};
+ghost use Rattle.gho_schema.specs.Laws.{ReadRowsFit, PutKeepsOrder, OrderedRowsAreApart, ReadSchemasHaveKeyPlaces};
 
 use gho_values::laws::{keys_are_ordered, stored_values_store_again};
 
@@ -21,4 +21,9 @@ pub fn put_keeps_order()
 /// In a table that is read, rows in order of the clustered key don't clash.
 pub fn ordered_rows_are_apart()
     ensures { OrderedRowsAreApart }
+{}
+
+/// In a schema that is read, each key's places are places of columns.
+pub fn read_schemas_have_key_places()
+    ensures { ReadSchemasHaveKeyPlaces }
 {}
