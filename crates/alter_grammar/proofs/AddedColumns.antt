@@ -1,5 +1,5 @@
 -- The image of a row behind which a column is added.
-use Rattle.std.proofs.Common.{◌≡◌, ℕ, ◌+◌, Bool, true, false, cond, List, [], ◌∷◌, ◌++◌, length, Option, Some, None, unwrap_or, Result, Ok, Err, refl, sym, ap, subst, ◌∙◌, append_assoc, arith}
+use Rattle.std.proofs.Common.{◌≡◌, ℕ, ◌+◌, Bool, true, false, cond, List, [], ◌∷◌, ◌++◌, length, Option, Some, None, unwrap_or, Result, Ok, Err, refl, sym, ap, subst, ◌∙◌, append_assoc, map, arith}
 use Rattle.std.proofs.lemmas.List.{append-nil, length-append}
 use Rattle.std.specs.List.{AllByRecursion, slice_get}
 use Rattle.std.specs.Result.{result_ok}
@@ -72,16 +72,17 @@ row_more [] (v ∷ vs) column value fits stored = absurd fits
 row_more (c ∷ cs) [] column value fits stored = absurd fits
 row_more (c ∷ cs) (v ∷ vs) column value fits stored = (fits.0, row_more cs vs column value fits.1 stored)
 
-all_images : (schema : Schema) (column : NewColumn) (value : Value) (rows : List (List Value)) → stores value column.kind false ≡ Ok value → AllByRecursion (IsRow schema.columns) rows → HaveImages (with_column schema column value) rows
+-- the rows, each with the value behind it
+abbrev pub extended : Value → List (List Value) → List (List Value)
+extended value rows = map (λ row. row ++ value ∷ []) rows
+
+pub all_images : (schema : Schema) (column : NewColumn) (value : Value) (rows : List (List Value)) → stores value column.kind false ≡ Ok value → AllByRecursion (IsRow schema.columns) rows
+    → (images (with_column schema column value).1 rows ≡ Some (extended value rows)) × AllByRecursion (IsRow (with_column schema column value).0.columns) (extended value rows)
 unfolding images
-all_images schema column value [] again fit = record { made = []; are = refl; fit = tt }
+all_images schema column value [] again fit = (refl, tt)
 all_images schema column value (row ∷ rows) again fit =
     let others = all_images schema column value rows again fit.1 in
-    record {
-      made = (row ++ value ∷ []) ∷ others.made;
-      are = rw (added_image schema column value row again fit.0, others.are) refl;
-      fit = (row_more schema.columns row (record { name = column.name; kind = column.kind; nullable = false; default = Some value }) value fit.0 again, others.fit);
-    }
+    (rw (added_image schema column value row again fit.0, others.0) refl, (row_more schema.columns row (record { name = column.name; kind = column.kind; nullable = false; default = Some value }) value fit.0 again, others.1))
 
 -- the default of an added column stores as itself
 default_again : StoresAgain → (column : NewColumn) (nullable : Option Bool) (default : Option Value) (value : Value) → stored_default column nullable default ≡ Some value → stores value column.kind false ≡ Ok value
@@ -98,14 +99,31 @@ kept_out : {A : Type 0} (b : Bool) (x y : A) → cond b None (Some x) ≡ Some y
 kept_out true x y is = absurd (cc)
 kept_out false x y is = cc
 
-added_rows : StoresAgain → (schema : Schema) (column : NewColumn) (rows : List (List Value)) (new : Altered) → AllByRecursion (IsRow schema.columns) rows → added schema column ≡ Some new → HaveImages new rows
+-- which column was added, and with which default
+pub record Adds (schema : Schema) (new : Altered) : Type 0 where
+  pub column : NewColumn
+  pub value : Value
+  pub again : stores value column.kind false ≡ Ok value
+  pub is : with_column schema column value ≡ new
+
+adds_one : StoresAgain → (schema : Schema) (column : NewColumn) (new : Altered) → added schema column ≡ Some new → Adds schema new
 unfolding added
-added_rows again schema column rows new fit is =
+adds_one again schema column new is =
     let value = bound (stored_default column column.nullable column.default) _ new is in
-    subst (λ (n : Altered). HaveImages n rows) (kept_out _ (with_column schema column value.x) new value.goes_on)
-    (all_images schema column value.x rows (default_again again column column.nullable column.default value.x value.read_is) fit)
+    record {
+      column = column;
+      value = value.x;
+      again = default_again again column column.nullable column.default value.x value.read_is;
+      is = kept_out _ (with_column schema column value.x) new value.goes_on;
+    }
+
+pub adds : StoresAgain → (schema : Schema) (clauses : List Clause) (new : Altered) → altered schema clauses ≡ Some new → Adds schema new
+unfolding altered
+adds again schema (Add column Unsaid ∷ []) new is = adds_one again schema column new is
+adds again schema clauses new is = absurd (cc)
 
 pub altered_rows : StoresAgain → (schema : Schema) (rows : List (List Value)) (clauses : List Clause) (new : Altered) → AllByRecursion (IsRow schema.columns) rows → altered schema clauses ≡ Some new → HaveImages new rows
-unfolding altered
-altered_rows again schema rows (Add column Unsaid ∷ []) new fit is = added_rows again schema column rows new fit is
-altered_rows again schema rows clauses new fit is = absurd (cc)
+altered_rows again schema rows clauses new fit is =
+    let found = adds again schema clauses new is in
+    let all = all_images schema found.column found.value rows found.again fit in
+    subst (λ (n : Altered). HaveImages n rows) found.is (record { made = extended found.value rows; are = all.0; fit = all.1 })

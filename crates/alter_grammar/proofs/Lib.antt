@@ -1,4 +1,5 @@
 pub mod AddedColumns
+pub mod AlteredTables
 pub mod ImagesSoFar
 pub mod Rest
 pub mod RowImages
