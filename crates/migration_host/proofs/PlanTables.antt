@@ -7,8 +7,8 @@ use Rattle.gho_schema.specs.declared.schema.Schema.{Schema}
 use Rattle.gho_schema.specs.Reading.{◌>>=◌}
 use Rattle.gho_schema.specs.Creating.{schema_at}
 use Rattle.gho_schema.specs.Rows.{row_at, key_places, put}
-use Rattle.gho_schema.specs.Tables.{IsRow, Ascends, IsTable}
-use Rattle.gho_schema.specs.Laws.{ReadRowsFit, PutKeepsOrder, OrderedRowsAreApart}
+use Rattle.gho_schema.specs.Tables.{IsRow, Ascends, HasKeyPlaces, IsTable}
+use Rattle.gho_schema.specs.Laws.{ReadRowsFit, PutKeepsOrder, OrderedRowsAreApart, ReadSchemasHaveKeyPlaces}
 use Rattle.gho_schema.proofs.ReadRows.{bound, let_through}
 use Rattle.alter_grammar.specs.Clauses.{clauses_at}
 use Rattle.migration_host.specs.declared.TheConstants.{PLAN_LIMIT}
@@ -63,26 +63,26 @@ behind_fit read keeps schema count (Some value) new is =
     in_fit read keeps schema items.x new items.goes_on
 
 -- a table of a plan is one
-table_fits : ReadRowsFit → PutKeepsOrder → OrderedRowsAreApart → (name : List ℕ) (members : Members) (table : Schema × List (List Value)) → table_at name members ≡ Some table → IsTable table.0 table.1
+table_fits : ReadRowsFit → PutKeepsOrder → OrderedRowsAreApart → ReadSchemasHaveKeyPlaces → (name : List ℕ) (members : Members) (table : Schema × List (List Value)) → table_at name members ≡ Some table → IsTable table.0 table.1 × HasKeyPlaces table.0
 unfolding table_at
-table_fits read keeps apart name members table is =
+table_fits read keeps apart keyed name members table is =
     let create = bound (text_at (codes "create") members) _ table is in
     let schema = bound (schema_at name create.x) _ table create.goes_on in
     let rows = bound (rows_behind schema.x (member_count members) (get_member (codes "rows") members)) (λ rows. Some (schema.x, rows)) table schema.goes_on in
     let fits = behind_fit read keeps schema.x (member_count members) (get_member (codes "rows") members) rows.x rows.read_is in
     let whole : IsTable schema.x rows.x = record { rows_fit = fits.fit; ascends = fits.ascends; apart = apart name create.x schema.x rows.x schema.read_is fits.ascends } in
-    subst (λ (t : Schema × List (List Value)). IsTable t.0 t.1) (some_is (schema.x, rows.x) table rows.goes_on) whole
+    subst (λ (t : Schema × List (List Value)). IsTable t.0 t.1 × HasKeyPlaces t.0) (some_is (schema.x, rows.x) table rows.goes_on) (whole, keyed name create.x schema.x schema.read_is)
 
-plan_fits : ReadRowsFit → PutKeepsOrder → OrderedRowsAreApart → (members : Members) (plan : Plan) → plan_at members ≡ Some plan → IsTable plan.schema plan.rows
+plan_fits : ReadRowsFit → PutKeepsOrder → OrderedRowsAreApart → ReadSchemasHaveKeyPlaces → (members : Members) (plan : Plan) → plan_at members ≡ Some plan → IsTable plan.schema plan.rows × HasKeyPlaces plan.schema
 unfolding plan_at
-plan_fits read keeps apart members plan is =
+plan_fits read keeps apart keyed members plan is =
     let name = bound (text_at (codes "table") members) _ plan is in
     let alter = bound (text_at (codes "alter") members) _ plan name.goes_on in
     let tables = bound (tables_at members) _ plan alter.goes_on in
     let table = bound (table_at name.x tables.x) _ plan tables.goes_on in
     let clauses = bound (clauses_at alter.x) _ plan table.goes_on in
     let made : Plan = record { schema = table.x.0; rows = table.x.1; alter = clauses.x } in
-    subst (λ (p : Plan). IsTable p.schema p.rows) (let_through _ made plan clauses.goes_on) (table_fits read keeps apart name.x tables.x table.x table.read_is)
+    subst (λ (p : Plan). IsTable p.schema p.rows × HasKeyPlaces p.schema) (let_through _ made plan clauses.goes_on) (table_fits read keeps apart keyed name.x tables.x table.x table.read_is)
 
 short_enough : (b : Bool) (r : Result Plan Refusal) (plan : Plan) → cond b (Err TooLong) r ≡ Ok plan → r ≡ Ok plan
 short_enough true r plan is = absurd (cc)
@@ -92,11 +92,11 @@ is_built : (o : Option Plan) (plan : Plan) → plan_in o ≡ Ok plan → o ≡ S
 is_built None plan is = absurd (cc)
 is_built (Some plan') plan is = cc
 
-document_fits : ReadRowsFit → PutKeepsOrder → OrderedRowsAreApart → (found : Option Members) (plan : Plan) → plan_of (document_in found) ≡ Ok plan → IsTable plan.schema plan.rows
-document_fits read keeps apart None plan is = absurd (cc)
-document_fits read keeps apart (Some members) plan is = plan_fits read keeps apart members plan (is_built (plan_at members) plan is)
+document_fits : ReadRowsFit → PutKeepsOrder → OrderedRowsAreApart → ReadSchemasHaveKeyPlaces → (found : Option Members) (plan : Plan) → plan_of (document_in found) ≡ Ok plan → IsTable plan.schema plan.rows × HasKeyPlaces plan.schema
+document_fits read keeps apart keyed None plan is = absurd (cc)
+document_fits read keeps apart keyed (Some members) plan is = plan_fits read keeps apart keyed members plan (is_built (plan_at members) plan is)
 
-pub plans_fit : ReadRowsFit → PutKeepsOrder → OrderedRowsAreApart → (bytes : List ℕ) (plan : Plan) → reads bytes ≡ Ok plan → IsTable plan.schema plan.rows
+pub plans_fit : ReadRowsFit → PutKeepsOrder → OrderedRowsAreApart → ReadSchemasHaveKeyPlaces → (bytes : List ℕ) (plan : Plan) → reads bytes ≡ Ok plan → IsTable plan.schema plan.rows × HasKeyPlaces plan.schema
 unfolding reads
-plans_fit read keeps apart bytes plan is =
-    document_fits read keeps apart (document bytes) plan (short_enough (nat_lt PLAN_LIMIT (length bytes)) (plan_of (document_in (document bytes))) plan is)
+plans_fit read keeps apart keyed bytes plan is =
+    document_fits read keeps apart keyed (document bytes) plan (short_enough (nat_lt PLAN_LIMIT (length bytes)) (plan_of (document_in (document bytes))) plan is)

@@ -14,6 +14,7 @@ use Rattle.migration_host.specs.Whole.{ReadsWhole}
 use Rattle.migration_host.specs.Plans.{reads, replays, altered_of, table_in}
 use Rattle.migration_host.specs.Reports.{report_of, refused_text, usage_text, read_fault_text}
 use Rattle.migration_host.specs.Endings.{Taking, Giving, Replays, ReadAndReplayed, TellsUsage, TellsReadFault, ComesTo, GivesAll, GivesFront, Ends, status_number, is_replay}
+use Rattle.migration_host.specs.Laws.{AlteredPlansAreTables}
 use Rattle.migration_host.specs.Promises.{PrintsReport, PrintsRefusal, PrintsUsage, IsUsageOrLost}
 
 -- the status that the bytes come to is one of two
@@ -72,8 +73,8 @@ refuses : (r : Result (Schema × List (List Value)) Refusal) (text : List ℕ) �
 refuses (Ok table) text comes = absurd (cc (comes.0))
 refuses (Err refusal) text comes = record { refusal = refusal; refused = refl; text_is = comes.1 }
 
-report_given : (words : List (List ℕ)) (source : Taking) (sink : Giving) → GivesAll words source sink Done → PrintsReport source.before source.after sink.before sink.after
-report_given words source sink ends =
+report_given : AlteredPlansAreTables → (words : List (List ℕ)) (source : Taking) (sink : Giving) → GivesAll words source sink Done → PrintsReport source.before source.after sink.before sink.after
+report_given tables words source sink ends =
     let read : ReadAndReplayed source Done ends.text = done_from_bytes source ends.text (is_replay words) ends.comes in
     let found : Accepted (reads read.bytes) ends.text = accepted_plan (reads read.bytes) ends.text read.comes in
     record {
@@ -83,6 +84,7 @@ report_given words source sink ends =
       accepted = found.accepted;
       table = found.table;
       altered = found.altered;
+      is_table = tables read.bytes found.plan found.table found.accepted found.altered;
       given = subst (λ text. Appends sink.before sink.after text) found.text_is ends.given;
     }
 
@@ -114,13 +116,13 @@ fault_given words source sink ends =
     (told.rose, subst (λ text. Appends sink.before sink.after text) told.text_is ends.given)
 
 -- status 0
-pub done : (words : List (List ℕ)) (source : Taking) (sink : Giving) (status : Status) → Ends words source sink status → status_number status ≡ 0 → PrintsReport source.before source.after sink.before sink.after
-done words source sink Done ends is = report_given words source sink ends
-done words source sink Usage ends is = absurd (omega arith)
-done words source sink Refused ends is = absurd (omega arith)
-done words source sink ReadFault ends is = absurd (omega arith)
-done words source sink WriteFault ends is = absurd (omega arith)
-done words source sink NoMemory ends is = absurd (omega arith)
+pub done : AlteredPlansAreTables → (words : List (List ℕ)) (source : Taking) (sink : Giving) (status : Status) → Ends words source sink status → status_number status ≡ 0 → PrintsReport source.before source.after sink.before sink.after
+done tables words source sink Done ends is = report_given tables words source sink ends
+done tables words source sink Usage ends is = absurd (omega arith)
+done tables words source sink Refused ends is = absurd (omega arith)
+done tables words source sink ReadFault ends is = absurd (omega arith)
+done tables words source sink WriteFault ends is = absurd (omega arith)
+done tables words source sink NoMemory ends is = absurd (omega arith)
 
 -- status 1
 pub usage : (words : List (List ℕ)) (source : Taking) (sink : Giving) (status : Status) → Ends words source sink status → status_number status ≡ 1

@@ -3,6 +3,7 @@ use Rattle.std.specs.Prelude.{◌≡◌, codes, ℕ, Bool, true, false, List, []
 use Rattle.std.specs.Io.KnownBytes.{Appends, Consumes}
 use Rattle.gho_values.specs.declared.value.Value.{Value}
 use Rattle.gho_schema.specs.declared.schema.Schema.{Schema}
+use Rattle.gho_schema.specs.Tables.{IsTable}
 use Rattle.alter_grammar.specs.Images.{altered_table}
 use Rattle.migration_host.specs.declared.plan.Plan.{Plan}
 use Rattle.migration_host.specs.declared.plan.fault.Refusal.{Refusal}
@@ -19,7 +20,7 @@ pub record EndsUnder (words : List (List ℕ)) (source : Taking) (sink : Giving)
   pub ends : Ends words source sink status
 
 -- Status 0: the source was read whole, its bytes are an accepted plan, and what is given is the report of that plan's
--- altered table.
+-- altered table, which is a table.
 pub record PrintsReport (left_before left_after held_before held_after : Option (List ℕ)) : Type 0 where
   pub bytes : List ℕ
   pub whole : ReadsWhole left_before left_after bytes
@@ -27,6 +28,7 @@ pub record PrintsReport (left_before left_after held_before held_after : Option 
   pub accepted : reads bytes ≡ Ok plan
   pub table : Schema × List (List Value)
   pub altered : altered_table plan.schema plan.rows plan.alter ≡ Some table
+  pub is_table : IsTable table.0 table.1
   pub given : Appends held_before held_after (report_of table.0 table.1)
 
 -- Status 2: the source was read whole, and what is given is the code of the first refusal of its bytes.

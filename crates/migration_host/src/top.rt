@@ -9,6 +9,7 @@ ghost use Rattle.migration_host.specs.Promises.{EndsUnder, PrintsReport, PrintsR
 ghost use Rattle.migration_host.specs.Reports.{read_fault_text};
 
 use crate::edges::{Gate, Sink, Source};
+use crate::laws::altered_plans_are_tables;
 use crate::line::Line;
 use crate::plan::{PlanFault, Refusal, read_plan};
 use crate::report::report;
@@ -154,6 +155,7 @@ pub fn ghost_<R: Threads + Wait + Sync, S: Source, K: Sink, G: Gate + Sync>(
 
     ensures no_memory { result.status ≡ 6 → Appends (K.held sink.old) (K.held sink.new) [] }
 {
+    altered_plans_are_tables();
     let status = ending(alloc, line, source, sink);
     Ended {
         status: status.number(),
