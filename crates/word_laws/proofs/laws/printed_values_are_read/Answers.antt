@@ -1,7 +1,7 @@
 use Rattle.gho_values.specs.declared.value.Value.TheVariants.{Null, Num, Text, Blob}
 use Rattle.word_laws.proofs.ReadBack.{null_is_name, text_reads_back, bytes_read_back, number_reads_back}
 use Rattle.word_laws.specs.ReadBack.{IsLiteral, ReadsBack}
-use Rattle.word_laws.proofs.printed_values_are_read.Goals as goal
+use Rattle.word_laws.proofs.laws.printed_values_are_read.Goals as goal
 
 pub returns : goal.returns
 returns c = record {
