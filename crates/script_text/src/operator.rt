@@ -16,7 +16,7 @@ pub enum OperatorWord {
     ChunkSize(u32),
     /// Cut over as soon as all is copied and applied.
     Unpostpone,
-    /// Stop at once.
+    /// Give the migration up.
     Panic,
     /// Nothing, for a turn.
     Wait,

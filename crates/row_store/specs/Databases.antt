@@ -1,0 +1,136 @@
+-- *Database*: tables with different names, and what is asked of them and done to them.
+use Rattle.std.specs.Prelude.{◌≡◌, ℕ, ◌<◌, Bool, false, not, ◌&&◌, if◌then◌else◌, List, [], ◌∷◌, map, filter, find, unwrap_or, Option, Some, None, Result, Ok, Err}
+use Rattle.std.specs.List.{AllByRecursion, list_any}
+use Rattle.std.specs.Option.{option_map_or}
+use Rattle.std.specs.Str.{bytes_eq}
+use Rattle.gho_values.specs.declared.value.Value.{Value}
+use Rattle.gho_values.specs.declared.span.Span.{Span}
+use Rattle.gho_values.specs.Spans.{has}
+use Rattle.gho_schema.specs.declared.schema.Schema.{Schema}
+use Rattle.gho_schema.specs.Rows.{key_of, key_places, put}
+use Rattle.gho_schema.specs.Tables.{IsTable, clash}
+use Rattle.row_store.specs.RowLists.{is_at, without_key}
+use Rattle.row_store.specs.declared.renaming.Pair.{Pair}
+use Rattle.row_store.specs.declared.renaming.NotRenamed.{NotRenamed}
+use Rattle.row_store.specs.declared.renaming.NotRenamed.TheVariants.{Stands, Missing}
+use Rattle.row_store.specs.declared.renaming.RenameFault.{RenameFault}
+use Rattle.row_store.specs.declared.renaming.RenameFault.TheVariants as faults
+
+-- a table: its schema, and its rows in order of the clustered key
+pub record TableRows : Type 0 where
+  pub schema : Schema
+  pub rows : List (List Value)
+
+-- tables in order of adding
+abbrev pub Database : Type 0
+Database = List TableRows
+
+-- The table has this name. Letters of either case differ in the names of tables (MySQL's manual, "Identifier Case
+-- Sensitivity", as on Unix).
+abbrev pub is_named : List ℕ → TableRows → Bool
+is_named name table = bytes_eq table.schema.name name
+
+-- the table of this name, where one has it
+abbrev pub find_table : List ℕ → Database → Option TableRows
+find_table name tables = find (is_named name) tables
+
+-- whether a table has this name
+abbrev pub has_table : List ℕ → Database → Bool
+has_table name tables = list_any (is_named name) tables
+
+-- no table has the name of another
+abbrev pub NamesDiffer : Database → Type 0
+NamesDiffer [] = Unit {0}
+NamesDiffer (table ∷ tables) = (has_table table.schema.name tables ≡ false) × NamesDiffer tables
+
+-- *Database*: tables with different names.
+pub record IsDatabase (tables : Database) : Type 0 where
+  pub names_differ : NamesDiffer tables
+  pub each_is_table : AllByRecursion (λ table. IsTable table.schema table.rows) tables
+
+-- the row with this clustered key, where one has it
+abbrev pub row_at_key : TableRows → List Value → Option (List Value)
+row_at_key table key = find (is_at (key_places table.schema) key) table.rows
+
+-- the row has the clustered key that is named, where one is named
+abbrev pub is_besides : List ℕ → Option (List Value) → List Value → Bool
+is_besides places None row = false
+is_besides places (Some key) row = is_at places key row
+
+-- the row of least clustered key that clashes with this one, besides the row of the key that is named
+abbrev pub clashing : TableRows → List Value → Option (List Value) → Option (List Value)
+clashing table row besides = find (λ other. clash table.schema.uniques row other && not (is_besides (key_places table.schema) besides other)) table.rows
+
+-- the rows whose clustered keys lie in the span, in order
+abbrev pub rows_in : TableRows → Span → List (List Value)
+rows_in table span = filter (λ row. has span (key_of (key_places table.schema) row)) table.rows
+
+-- the tables with this change of the one of this name
+abbrev pub with_change : List ℕ → (TableRows → TableRows) → Database → Database
+with_change name change tables = map (λ table. if is_named name table then change table else table) tables
+
+-- the tables, where the one of this name has these rows
+abbrev pub with_rows : List ℕ → List (List Value) → Database → Database
+with_rows name rows tables = with_change name (λ table. record { schema = table.schema; rows = rows }) tables
+
+-- The tables with a row more in the one of this name, in its place in order of the clustered key. Where a row has its
+-- key already, all is as it was.
+abbrev pub put_row : List ℕ → List Value → Database → Database
+put_row name row tables = with_change name (λ table. record { schema = table.schema; rows = unwrap_or (put (key_places table.schema) row table.rows) table.rows }) tables
+
+-- the tables without the row of this key in the one of this name
+abbrev pub remove_row : List ℕ → List Value → Database → Database
+remove_row name key tables = with_change name (λ table. record { schema = table.schema; rows = without_key (key_places table.schema) key table.rows }) tables
+
+-- the tables but the one of this name
+abbrev pub without_table : List ℕ → Database → Database
+without_table name tables = filter (λ table. not (is_named name table)) tables
+
+-- the tables, where the one of this name has another
+abbrev pub with_name : List ℕ → List ℕ → Database → Database
+with_name old new tables = with_change old (λ table. record { schema = record table.schema { name = new }; rows = table.rows }) tables
+
+-- The tables after RENAME TABLE, whose pairs are taken from left to right; or why none is renamed: at its pair a table
+-- of the new name stands, or no table of the old name does (MySQL's manual, "RENAME TABLE Statement"; that the new name
+-- is looked at first is this project's rule).
+unfoldable pub rename_tables : List Pair → Database → Result Database NotRenamed
+rename_tables [] tables = Ok tables
+rename_tables (pair ∷ pairs) tables =
+    if has_table pair.new tables then Err Stands
+    else (if has_table pair.old tables then rename_tables pairs (with_name pair.old pair.new tables) else Err Missing)
+
+-- the number of a refusal (MySQL's manual, "Server Error Message Reference")
+abbrev pub rename_number : NotRenamed → ℕ
+rename_number Stands = 1050
+rename_number Missing = 1146
+
+-- the fault is why no table is renamed, or want of memory
+abbrev pub IsRenameFault : Result Database NotRenamed → RenameFault → Type 0
+IsRenameFault after (faults.Refused reason) = after ≡ Err reason
+IsRenameFault after faults.Memory = Unit {0}
+
+-- what contracts see of a stored table: besides, for how many more rows it has room
+pub record StoredTable : Type 0 where
+  pub table : TableRows
+  pub spare : ℕ
+
+-- the tables alone
+abbrev pub database : List StoredTable → Database
+database tables = map (λ stored. stored.table) tables
+
+-- the row may be put into the table: there is room for it, and no row has its clustered key
+pub record CanPut (stored : StoredTable) (row : List Value) : Type 0 where
+  pub room : 0 < stored.spare
+  pub new_key : row_at_key stored.table (key_of (key_places stored.table.schema) row) ≡ None
+
+-- the stored table of this name, where one has it
+abbrev pub find_stored : List ℕ → List StoredTable → Option StoredTable
+find_stored name tables = find (λ stored. is_named name stored.table) tables
+
+-- the stored tables but the one of this name
+abbrev pub others : List ℕ → List StoredTable → List StoredTable
+others name tables = filter (λ stored. not (is_named name stored.table)) tables
+
+-- for how many more rows the table of this name has room
+abbrev pub spare_in : List ℕ → List StoredTable → ℕ
+spare_in name tables = option_map_or (λ stored. stored.spare) (find_stored name tables) 0
