@@ -1,0 +1,16 @@
+-- What a plan says.
+use Rattle.std.specs.Prelude.{ℕ, List}
+use Rattle.row_store.specs.Databases.{TableRows, Database}
+use Rattle.alter_grammar.specs.declared.clause.Clause.{Clause}
+use Rattle.script_text.specs.declared.script.ScriptLine.{ScriptLine}
+
+-- an accepted plan
+pub record PlanData : Type 0 where
+  -- the name of the table to migrate
+  pub table : List ℕ
+  -- the clauses of the ALTER
+  pub alter : List Clause
+  -- the opening tables, in the plan's order
+  pub tables : Database
+  -- each client's script
+  pub clients : List (List ScriptLine)

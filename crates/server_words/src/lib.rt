@@ -1,0 +1,17 @@
+//! What sessions ask of the server, what it answers, and the journal of a run: the words that the server, the tool and
+//! the promises about both share.
+#![tactic(auto)]
+
+mod answer;
+mod cause;
+mod ended;
+mod entry;
+mod request;
+mod session;
+
+pub use answer::Answer;
+pub use cause::{Cause, Verdict};
+pub use ended::{EndedTxn, Mark, Replies, Reply, TxnEnd, TxnLine, TxnLines};
+pub use entry::{Asked, Entry, Journal};
+pub use request::Request;
+pub use session::{Limits, Session, Sessions, Waiting, Waits};

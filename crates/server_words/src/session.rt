@@ -1,0 +1,44 @@
+//! What the server keeps of each session.
+
+use crate::request::Request;
+use event_codec::Events;
+use gho_values::Sequence;
+
+/// How often a waiting session is polled before its wait times out.
+#[derive(Clone, Copy, Debug, PartialEq, Eq)]
+pub struct Limits {
+    /// Of a client's session.
+    pub client_wait: u32,
+    /// Of a session of the tool's.
+    pub tool_wait: u32,
+}
+
+/// A live session.
+#[derive(Debug, Drop)]
+pub struct Session {
+    /// Its number; sessions count from 1 in the order of connecting.
+    pub number: u32,
+    /// Whether it is the tool's, and no client's.
+    pub is_tool: bool,
+    /// Whether it is in a transaction.
+    pub in_transaction: bool,
+    /// What its transaction wrote so far.
+    pub writes: Events,
+    /// How often its waiting request was polled.
+    pub polls: u32,
+}
+
+/// Sessions in the order of connecting.
+pub type Sessions = Sequence<Session>;
+
+/// A request that waits.
+#[derive(Debug, Drop)]
+pub struct Waiting {
+    /// The session that asked.
+    pub session: u32,
+    /// What it asked.
+    pub request: Request,
+}
+
+/// Waiting requests in the order in which they came.
+pub type Waits = Sequence<Waiting>;
