@@ -81,7 +81,7 @@ turns_of actor journal = count_by (λ entry. same_actor entry.actor actor) journ
 
 -- the script of a client; clients are numbered from 1
 abbrev pub script_of : ℕ → PlanData → Option (List ScriptLine)
-script_of client plan = slice_get plan.clients (client - 1)
+script_of client plan = if client == 0 then None else slice_get plan.clients (client - 1)
 
 -- what a line asks; BEGIN, COMMIT and ROLLBACK aren't built yet
 abbrev pub word_asks : ScriptWord → Option Asked

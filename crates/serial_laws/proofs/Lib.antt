@@ -1,0 +1,15 @@
+mod Lists
+mod Sorted
+mod Sessions
+mod Names
+mod Cuts
+mod Images
+mod Tables
+mod Stages
+mod Early
+mod Chunks
+mod Copies
+mod Late
+mod Journals
+mod Living
+mod Steps

@@ -1,0 +1,232 @@
+-- What a client's statement leaves of a table is a table.
+use Rattle.std.proofs.Common.{◌≡◌, ℕ, ◌+◌, ◌==◌, Bool, true, false, ◌&&◌, ◌||◌, not, List, [], ◌∷◌, ◌++◌, length, Option, Some, None, Result, Ok, Err, Ordering, Less, Equal, Greater, cond, refl, sym, ap, ◌∙◌, subst, inl, inr, arith, suc}
+use Rattle.std.proofs.lemmas.Bool.{false≢true, eqb-true}
+use Rattle.std.specs.Ordering.{match_ordering}
+use Rattle.std.specs.Option.{unwrap_or, option_to_list}
+use Rattle.std.specs.List.{AllByRecursion, find, filter}
+use Rattle.std.specs.Str.{bytes_eq}
+use Rattle.gho_values.specs.declared.value.Value.{Value}
+use Rattle.gho_values.specs.declared.fault.Unfit.{Unfit}
+use Rattle.gho_values.specs.Storing.{stores}
+use Rattle.gho_values.specs.Comparing.{compare_keys}
+use Rattle.gho_values.specs.Laws.{StoresAgain}
+use Rattle.gho_schema.specs.declared.schema.Schema.{Schema}
+use Rattle.gho_schema.specs.declared.schema.Column.{Column}
+use Rattle.gho_schema.specs.declared.schema.Index.{Index}
+use Rattle.gho_schema.specs.Rows.{key_of, key_places, has_key, with_row, put}
+use Rattle.gho_schema.specs.Tables.{IsRow, IsTable, Ascends, Apart, clash}
+use Rattle.gho_schema.specs.Laws.{PutKeepsOrder}
+use Rattle.alter_grammar.specs.declared.image_fault.UnfitAt.{UnfitAt}
+use Rattle.alter_grammar.specs.Images.{value_first}
+use Rattle.event_codec.specs.declared.event.RowEvent.{RowEvent}
+use Rattle.event_codec.specs.declared.event.Change.TheVariants.{Write, Delete}
+use Rattle.row_store.specs.RowLists.{is_at, without_key}
+use Rattle.row_store.specs.Databases.{TableRows, Database, find_table, clashing, row_at_key}
+use Rattle.script_text.specs.declared.statement.Statement.{Statement}
+use Rattle.script_text.specs.declared.statement.Statement.TheVariants as statements
+use Rattle.script_text.specs.declared.statement.Condition.{Condition}
+use Rattle.script_text.specs.declared.statement.Shown.TheVariants as shown
+use Rattle.server_words.specs.declared.answer.Answer.{Answer}
+use Rattle.server_words.specs.declared.answer.Answer.TheVariants as answers
+use Rattle.server_words.specs.Statements.{Said, only, stored_from, stored_row, written_unless, written_or, inserts, deletes, deletes_row, selects, sought, at_key, of_table, says, refuses, refuses_value}
+use Rattle.server_words.specs.States.{after_events, changed, without_row}
+use Rattle.serial_laws.proofs.Lists.{all-so, none_found}
+use Rattle.serial_laws.proofs.Sorted.{Row, Total, Before}
+use Rattle.serial_laws.proofs.Images.{Ties, clash_turned, not_true}
+
+-- what two results in a row make
+pub record Parts (stored : Result Value Unfit) (more : Result (List Value) UnfitAt) (row : Row) : Type 0 where
+  pub value : Value
+  pub values : List Value
+  pub stored_is : stored ≡ Ok value
+  pub more_is : more ≡ Ok values
+  pub is : row ≡ value ∷ values
+
+parts_of : (place : ℕ) (stored : Result Value Unfit) (more : Result (List Value) UnfitAt) (row : Row) → value_first place stored more ≡ Ok row → Parts stored more row
+parts_of place (Ok value) (Ok values) row is = record { value = value; values = values; stored_is = refl; more_is = refl; is = cc }
+parts_of place (Ok value) (Err at) row is = absurd (cc)
+parts_of place (Err reason) more row is = absurd (cc)
+
+-- a row that is stored is a row of its columns
+pub stored_fits : StoresAgain → (place : ℕ) (columns : List Column) (values row : List Value) → length values ≡ length columns → stored_from place columns values ≡ Ok row → IsRow columns row
+unfolding stored_from
+stored_fits again place [] [] row long is = let e : [] ≡ row = cc in subst (IsRow []) e tt
+stored_fits again place [] (value ∷ values) row long is = absurd (omega arith)
+stored_fits again place (column ∷ columns) [] row long is = absurd (omega arith)
+stored_fits again place (column ∷ columns) (value ∷ values) row long is =
+    let parts : Parts (stores value column.kind column.nullable) (stored_from (place + 1) columns values) row = parts_of place (stores value column.kind column.nullable) (stored_from (place + 1) columns values) row is in
+    let fewer : length values ≡ length columns = omega arith in
+    subst (IsRow (column ∷ columns)) (sym parts.is) (again value column.kind column.nullable parts.value parts.stored_is, stored_fits again (place + 1) columns values parts.values fewer parts.more_is)
+
+-- whatever holds of a row and of others holds of all once it is in its place
+placed_all : (P : Row → Type 0) (o : Ordering) (row first : Row) (rows placed : List Row) → P row → P first → AllByRecursion P rows → AllByRecursion P placed
+    → AllByRecursion P (match_ordering o (row ∷ first ∷ rows) (row ∷ first ∷ rows) (first ∷ placed))
+placed_all P Less row first rows placed r f others p = (r, (f, others))
+placed_all P Equal row first rows placed r f others p = (r, (f, others))
+placed_all P Greater row first rows placed r f others p = (f, p)
+
+all-with_row : (P : Row → Type 0) (places : List ℕ) (row : Row) (rows : List Row) → P row → AllByRecursion P rows → AllByRecursion P (with_row places row rows)
+unfolding with_row
+all-with_row P places row [] r others = (r, tt)
+all-with_row P places row (first ∷ rows) r others =
+    placed_all P (compare_keys (key_of places row) (key_of places first)) row first rows (with_row places row rows) r others.0 others.1 (all-with_row P places row rows r others.1)
+
+-- a row that clashes with none leaves rows apart
+placed_apart : (uniques : List Index) (o : Ordering) (row first : Row) (rows placed : List Row) → AllByRecursion (λ other. clash uniques row other ≡ false) (first ∷ rows) → Apart uniques (first ∷ rows)
+    → AllByRecursion (λ other. clash uniques first other ≡ false) placed → Apart uniques placed → Apart uniques (match_ordering o (row ∷ first ∷ rows) (row ∷ first ∷ rows) (first ∷ placed))
+placed_apart uniques Less row first rows placed none apart behind more = (none, apart)
+placed_apart uniques Equal row first rows placed none apart behind more = (none, apart)
+placed_apart uniques Greater row first rows placed none apart behind more = (behind, more)
+
+apart-with_row : Total → Ties → (uniques : List Index) (places : List ℕ) (row : Row) (rows : List Row) → AllByRecursion (λ other. clash uniques row other ≡ false) rows → Apart uniques rows → Apart uniques (with_row places row rows)
+unfolding with_row
+apart-with_row total ties uniques places row [] none apart = (tt, tt)
+apart-with_row total ties uniques places row (first ∷ rows) none apart =
+    let first_row : clash uniques first row ≡ false = not_true (clash uniques first row) (λ clashes. false≢true (sym none.0 ∙ clash_turned total ties uniques first row clashes)) in
+    placed_apart uniques (compare_keys (key_of places row) (key_of places first)) row first rows (with_row places row rows) none apart
+    (all-with_row (λ other. clash uniques first other ≡ false) places row rows first_row apart.0) (apart-with_row total ties uniques places row rows none.1 apart.1)
+
+-- the table with a row more, where the row has a new key
+put_at : PutKeepsOrder → Total → Ties → (schema : Schema) (row : Row) (rows : List Row) (b : Bool) → has_key (key_places schema) rows (key_of (key_places schema) row) ≡ b → IsTable schema rows → IsRow schema.columns row
+    → AllByRecursion (λ other. clash schema.uniques row other ≡ false) rows → IsTable schema (unwrap_or (cond b None (Some (with_row (key_places schema) row rows))) rows)
+put_at order total ties schema row rows true is table fits none = table
+put_at order total ties schema row rows false is table fits none =
+    let placed : put (key_places schema) row rows ≡ Some (with_row (key_places schema) row rows) = rw is refl in
+    let kept = order schema.columns (key_places schema) row rows (with_row (key_places schema) row rows) table.rows_fit table.ascends fits placed in
+    record { rows_fit = kept.0; ascends = kept.1; apart = apart-with_row total ties schema.uniques (key_places schema) row rows none table.apart }
+
+pub put_keeps_table : PutKeepsOrder → Total → Ties → (schema : Schema) (row : Row) (rows : List Row) → IsTable schema rows → IsRow schema.columns row → AllByRecursion (λ other. clash schema.uniques row other ≡ false) rows
+    → IsTable schema (unwrap_or (put (key_places schema) row rows) rows)
+put_keeps_table order total ties schema row rows table fits none = put_at order total ties schema row rows (has_key (key_places schema) rows (key_of (key_places schema) row)) refl table fits none
+
+-- some of a table's rows are a table
+all_kept_at : {X : Type 0} (P : X → Type 0) (b : Bool) (x : X) (kept : List X) → P x → AllByRecursion P kept → AllByRecursion P (cond b (x ∷ kept) kept)
+all_kept_at P true x kept here more = (here, more)
+all_kept_at P false x kept here more = more
+
+all_kept : {X : Type 0} (P : X → Type 0) (test : X → Bool) (xs : List X) → AllByRecursion P xs → AllByRecursion P (filter test xs)
+all_kept P test [] all = tt
+all_kept P test (x ∷ xs) all = all_kept_at P (test x) x (filter test xs) all.0 (all_kept P test xs all.1)
+
+ascends_kept_at : (places : List ℕ) (b : Bool) (row : Row) (kept : List Row) → AllByRecursion (Before places row) kept → Ascends places kept → Ascends places (cond b (row ∷ kept) kept)
+ascends_kept_at places true row kept here more = (here, more)
+ascends_kept_at places false row kept here more = more
+
+ascends_kept : (places : List ℕ) (test : Row → Bool) (rows : List Row) → Ascends places rows → Ascends places (filter test rows)
+ascends_kept places test [] ascends = tt
+ascends_kept places test (row ∷ rows) ascends = ascends_kept_at places (test row) row (filter test rows) (all_kept (Before places row) test rows ascends.0) (ascends_kept places test rows ascends.1)
+
+apart_kept_at : (uniques : List Index) (b : Bool) (row : Row) (kept : List Row) → AllByRecursion (λ other. clash uniques row other ≡ false) kept → Apart uniques kept → Apart uniques (cond b (row ∷ kept) kept)
+apart_kept_at uniques true row kept here more = (here, more)
+apart_kept_at uniques false row kept here more = more
+
+apart_kept : (uniques : List Index) (test : Row → Bool) (rows : List Row) → Apart uniques rows → Apart uniques (filter test rows)
+apart_kept uniques test [] apart = tt
+apart_kept uniques test (row ∷ rows) apart =
+    apart_kept_at uniques (test row) row (filter test rows) (all_kept (λ other. clash uniques row other ≡ false) test rows apart.0) (apart_kept uniques test rows apart.1)
+
+pub filter_keeps_table : (schema : Schema) (test : Row → Bool) (rows : List Row) → IsTable schema rows → IsTable schema (filter test rows)
+filter_keeps_table schema test rows table = record {
+  rows_fit = all_kept (IsRow schema.columns) test rows table.rows_fit;
+  ascends = ascends_kept (key_places schema) test rows table.ascends;
+  apart = apart_kept schema.uniques test rows table.apart;
+}
+
+-- what a statement leaves of the one table
+pub record Leaves (schema : Schema) (rows : List Row) (said : Said) : Type 0 where
+  pub left : List Row
+  pub tables : after_events (record { schema = schema; rows = rows } ∷ []) said.events ≡ record { schema = schema; rows = left } ∷ []
+  pub is_table : IsTable schema left
+
+-- what is known where one works
+pub record Known : Type 0 where
+  pub total : Total
+  pub ties : Ties
+  pub again : StoresAgain
+  pub order : PutKeepsOrder
+
+-- where nothing is written all stays
+leaves_all : (schema : Schema) (rows : List Row) (answer : Answer) → IsTable schema rows → Leaves schema rows (only answer)
+unfolding after_events
+leaves_all schema rows answer table = record { left = rows; tables = refl; is_table = table }
+
+not_clashing : (a b : Bool) → (a && not b) ≡ false → b ≡ false → a ≡ false
+not_clashing true b is free = absurd (false≢true (sym is ∙ ap not free))
+not_clashing false b is free = refl
+
+leaves_written : Known → (schema : Schema) (rows : List Row) (name : List ℕ) (row : Row) (found : Option Row) → clashing (record { schema = schema; rows = rows }) row None ≡ found → bytes_eq schema.name name ≡ true → IsTable schema rows → IsRow schema.columns row
+    → Leaves schema rows (written_unless name row found)
+unfolding after_events
+leaves_written known schema rows name row (Some other) is named table fits = record { left = rows; tables = refl; is_table = table }
+leaves_written known schema rows name row None is named table fits =
+    record {
+      left = unwrap_or (put (key_places schema) row rows) rows;
+      tables = rw named refl;
+      is_table = put_keeps_table known.order known.total known.ties schema row rows table fits
+          (all-so (λ other. (clash schema.uniques row other && not false) ≡ false) (λ other. clash schema.uniques row other ≡ false) (λ other not. not_clashing (clash schema.uniques row other) false not refl) rows
+          (none_found (λ other. clash schema.uniques row other && not false) rows is));
+    }
+
+leaves_stored : Known → (schema : Schema) (rows : List Row) (name : List ℕ) (values : List Value) (stored : Result (List Value) UnfitAt) → stored_row schema.columns values ≡ stored → length values ≡ length schema.columns → bytes_eq schema.name name ≡ true
+    → IsTable schema rows → Leaves schema rows (written_or name (record { schema = schema; rows = rows }) stored)
+leaves_stored known schema rows name values (Err at) is long named table = leaves_all schema rows (refuses_value at) table
+leaves_stored known schema rows name values (Ok row) is long named table =
+    leaves_written known schema rows name row (clashing (record { schema = schema; rows = rows }) row None) refl named table (stored_fits known.again 0 schema.columns values row long is)
+
+leaves_counted : Known → (schema : Schema) (rows : List Row) (name : List ℕ) (values : List Value) (b : Bool) → (length values == length schema.columns) ≡ b → bytes_eq schema.name name ≡ true → IsTable schema rows
+    → Leaves schema rows (cond b (written_or name (record { schema = schema; rows = rows }) (stored_row schema.columns values)) (only (refuses 1136)))
+leaves_counted known schema rows name values true is named table =
+    leaves_stored known schema rows name values (stored_row schema.columns values) refl (eqb-true (length values) (length schema.columns) is) named table
+leaves_counted known schema rows name values false is named table = leaves_all schema rows (refuses 1136) table
+
+leaves_inserted : Known → (schema : Schema) (rows : List Row) (name : List ℕ) (values : List Value) → bytes_eq schema.name name ≡ true → IsTable schema rows → Leaves schema rows (inserts name values (record { schema = schema; rows = rows }))
+unfolding inserts
+leaves_inserted known schema rows name values named table = leaves_counted known schema rows name values (length values == length schema.columns) refl named table
+
+leaves_removed : (schema : Schema) (rows : List Row) (name : List ℕ) (found : Option Row) → bytes_eq schema.name name ≡ true → IsTable schema rows → Leaves schema rows (deletes_row name found)
+unfolding after_events
+leaves_removed schema rows name None named table = record { left = rows; tables = refl; is_table = table }
+leaves_removed schema rows name (Some row) named table =
+    record {
+      left = without_key (key_places schema) (key_of (key_places schema) row) rows;
+      tables = rw named (rw named refl);
+      is_table = filter_keeps_table schema (λ other. not (is_at (key_places schema) (key_of (key_places schema) row) other)) rows table;
+    }
+
+leaves_sought : (schema : Schema) (rows : List Row) (name : List ℕ) (key : Result (List Value) Answer) → bytes_eq schema.name name ≡ true → IsTable schema rows
+    → Leaves schema rows (at_key key (λ k. deletes_row name (row_at_key (record { schema = schema; rows = rows }) k)))
+leaves_sought schema rows name (Err refusal) named table = leaves_all schema rows refusal table
+leaves_sought schema rows name (Ok key) named table = leaves_removed schema rows name (row_at_key (record { schema = schema; rows = rows }) key) named table
+
+leaves_deleted : (schema : Schema) (rows : List Row) (name : List ℕ) (condition : Condition) → bytes_eq schema.name name ≡ true → IsTable schema rows → Leaves schema rows (deletes name condition (record { schema = schema; rows = rows }))
+unfolding deletes
+leaves_deleted schema rows name condition named table = leaves_sought schema rows name (sought schema condition) named table
+
+leaves_read : (schema : Schema) (rows : List Row) (key : Result (List Value) Answer) (shows : List Value → Answer) → IsTable schema rows → Leaves schema rows (at_key key (λ k. only (shows k)))
+leaves_read schema rows (Err refusal) shows table = leaves_all schema rows refusal table
+leaves_read schema rows (Ok key) shows table = leaves_all schema rows (shows key) table
+
+leaves_selected : (schema : Schema) (rows : List Row) (condition : Condition) → IsTable schema rows → Leaves schema rows (selects condition (record { schema = schema; rows = rows }))
+unfolding selects
+leaves_selected schema rows condition table =
+    leaves_read schema rows (sought schema condition) (λ key. answers.Rows (option_to_list (row_at_key (record { schema = schema; rows = rows }) key))) table
+
+leaves_of : (schema : Schema) (rows : List Row) (name : List ℕ) (b : Bool) → bytes_eq schema.name name ≡ b → IsTable schema rows → (said : TableRows → Said) → (bytes_eq schema.name name ≡ true → Leaves schema rows (said (record { schema = schema; rows = rows })))
+    → Leaves schema rows (of_table (cond b (Some (record { schema = schema; rows = rows })) None) said)
+leaves_of schema rows name true is table said leaves = leaves is
+leaves_of schema rows name false is table said leaves = leaves_all schema rows (refuses 1146) table
+
+-- what any statement leaves of the one table is a table
+pub leaves_said : Known → (schema : Schema) (rows : List Row) (statement : Statement) → IsTable schema rows → Leaves schema rows (says (record { schema = schema; rows = rows } ∷ []) statement)
+unfolding says
+leaves_said known schema rows (statements.Insert name None values) table =
+    leaves_of schema rows name (bytes_eq schema.name name) refl table (inserts name values) (λ named. leaves_inserted known schema rows name values named table)
+leaves_said known schema rows (statements.Insert name (Some columns) values) table = leaves_all schema rows (refuses 1235) table
+leaves_said known schema rows (statements.Replace name columns values) table = leaves_all schema rows (refuses 1235) table
+leaves_said known schema rows (statements.Delete name condition) table =
+    leaves_of schema rows name (bytes_eq schema.name name) refl table (deletes name condition) (λ named. leaves_deleted schema rows name condition named table)
+leaves_said known schema rows (statements.Update name sets condition) table = leaves_all schema rows (refuses 1235) table
+leaves_said known schema rows (statements.Select name shown.All condition) table =
+    leaves_of schema rows name (bytes_eq schema.name name) refl table (selects condition) (λ named. leaves_selected schema rows condition table)
+leaves_said known schema rows (statements.Select name (shown.Columns columns) condition) table = leaves_all schema rows (refuses 1235) table
+leaves_said known schema rows (statements.Select name shown.Count condition) table = leaves_all schema rows (refuses 1235) table

@@ -1,0 +1,39 @@
+-- What holds of every journal: its history is serial. The functions of the module `laws` prove each.
+use Rattle.std.specs.Prelude.{◌≡◌, ℕ, true, List, [], ◌∷◌, Some, Ok}
+use Rattle.gho_values.specs.declared.value.Value.{Value}
+use Rattle.gho_schema.specs.declared.schema.Schema.{Schema}
+use Rattle.gho_schema.specs.Rows.{key_of, key_places}
+use Rattle.gho_schema.specs.Tables.{IsRow, IsTable, clash}
+use Rattle.alter_grammar.specs.Altering.{Altered, altered}
+use Rattle.alter_grammar.specs.Images.{image}
+use Rattle.row_store.specs.Databases.{TableRows, IsDatabase}
+use Rattle.server_words.specs.declared.entry.Entry.{Entry}
+use Rattle.plan_text.specs.PlanData.{PlanData}
+use Rattle.plan_text.specs.Journals.{IsFaithful, state_at}
+use Rattle.plan_text.specs.Histories.{history, Serial, tables_left}
+use Rattle.tool_program.specs.Programs.{Follows}
+
+-- What an ALTER keeps of a table: its name; of a row that has an image, the clustered key; that images are rows of the
+-- new columns; and that images clash only where their rows do.
+pub record KeepsRows (schema : Schema) (new : Altered) : Type 0 where
+  pub name : new.0.name ≡ schema.name
+  pub key : (row made : List Value) → IsRow schema.columns row → image new.1 row ≡ Ok made → key_of (key_places new.0) made ≡ key_of (key_places schema) row
+  pub apart : (row other made others : List Value) → IsRow schema.columns row → IsRow schema.columns other → image new.1 row ≡ Ok made → image new.1 other ≡ Ok others → clash new.0.uniques made others ≡ true
+      → clash schema.uniques row other ≡ true
+
+-- A plan whose one table is a table, and whose ALTER keeps its rows: what every accepted plan is.
+pub record IsMigratable (plan : PlanData) : Type 0 where
+  pub table : TableRows
+  pub only : plan.tables ≡ table ∷ []
+  pub named : table.schema.name ≡ plan.table
+  pub is_table : IsTable table.schema table.rows
+  pub new : Altered
+  pub alters : altered table.schema plan.alter ≡ Some new
+  pub keeps : KeepsRows table.schema new
+
+-- *Journals are serial*: where a plan is migratable, and a journal is faithful and follows the program, its history leads
+-- from the opening tables to those that are left.
+abbrev pub JournalsAreSerial : Type 0
+JournalsAreSerial =
+    (plan : PlanData) (journal : List Entry) → IsMigratable plan → IsFaithful plan journal → Follows plan journal
+    → Serial plan plan.tables (history plan journal) (tables_left plan (state_at plan journal).tables)
