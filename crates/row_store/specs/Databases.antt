@@ -1,5 +1,5 @@
 -- *Database*: tables with different names, and what is asked of them and done to them.
-use Rattle.std.specs.Prelude.{◌≡◌, ℕ, ◌<◌, Bool, false, not, ◌&&◌, if◌then◌else◌, List, [], ◌∷◌, map, filter, find, unwrap_or, Option, Some, None, Result, Ok, Err}
+use Rattle.std.specs.Prelude.{◌≡◌, ℕ, ◌<◌, Bool, false, not, ◌&&◌, if◌then◌else◌, List, [], ◌∷◌, map, filter, find, unwrap_or, Option, None, Result, Ok, Err}
 use Rattle.std.specs.List.{AllByRecursion, list_any}
 use Rattle.std.specs.Option.{option_map_or}
 use Rattle.std.specs.Str.{bytes_eq}
@@ -9,7 +9,7 @@ use Rattle.gho_values.specs.Spans.{has}
 use Rattle.gho_schema.specs.declared.schema.Schema.{Schema}
 use Rattle.gho_schema.specs.Rows.{key_of, key_places, put}
 use Rattle.gho_schema.specs.Tables.{IsTable, clash}
-use Rattle.row_store.specs.RowLists.{is_at, without_key}
+use Rattle.row_store.specs.RowLists.{is_at, is_besides, without_key}
 use Rattle.row_store.specs.declared.renaming.Pair.{Pair}
 use Rattle.row_store.specs.declared.renaming.NotRenamed.{NotRenamed}
 use Rattle.row_store.specs.declared.renaming.NotRenamed.TheVariants.{Stands, Missing}
@@ -51,11 +51,6 @@ pub record IsDatabase (tables : Database) : Type 0 where
 -- the row with this clustered key, where one has it
 abbrev pub row_at_key : TableRows → List Value → Option (List Value)
 row_at_key table key = find (is_at (key_places table.schema) key) table.rows
-
--- the row has the clustered key that is named, where one is named
-abbrev pub is_besides : List ℕ → Option (List Value) → List Value → Bool
-is_besides places None row = false
-is_besides places (Some key) row = is_at places key row
 
 -- the row of least clustered key that clashes with this one, besides the row of the key that is named
 abbrev pub clashing : TableRows → List Value → Option (List Value) → Option (List Value)

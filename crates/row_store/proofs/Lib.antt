@@ -1,0 +1,5 @@
+pub mod Ascending
+pub mod FoundRows
+pub mod Orders
+pub mod Partitions
+pub mod RowsBetween
