@@ -1,11 +1,11 @@
 -- Where the row of a key stands, and where a new one goes.
-use Rattle.std.proofs.Common.{◌≡◌, ℕ, ◌+◌, Bool, true, false, not, List, [], ◌∷◌, insert, remove, find, filter, cond, Option, Some, None, Ordering, Less, Equal, Greater, refl, sym, ap, ◌∙◌}
+use Rattle.std.proofs.Common.{◌≡◌, ℕ, ◌+◌, Bool, true, false, not, List, [], ◌∷◌, insert, remove, find, filter, cond, Option, Some, None, Ordering, Less, Equal, Greater, refl, sym, ap, ◌∙◌, ◌||◌, unwrap_or}
 use Rattle.std.proofs.lemmas.Option.{slice_get_within}
 use Rattle.std.specs.Option.{option_and_then}
 use Rattle.std.specs.Ordering.{is_eq, is_gt, match_ordering}
-use Rattle.std.specs.List.{AllByRecursion, prefix_len, slice_get}
+use Rattle.std.specs.List.{list_any, AllByRecursion, prefix_len, slice_get}
 use Rattle.gho_values.specs.Comparing.{compare_keys}
-use Rattle.gho_schema.specs.Rows.{key_of, with_row}
+use Rattle.gho_schema.specs.Rows.{key_of, has_key, put, with_row}
 use Rattle.gho_schema.specs.Tables.{Ascends}
 use Rattle.row_store.specs.RowLists.{is_at, comes_before, without_key, StandsAt}
 use Rattle.row_store.proofs.Orders.{Row, not_greater}
@@ -129,3 +129,16 @@ stands_at places key rows n row ascends is there passes =
       row = here ∙ sym there;
       without = one_to_remove places key rows row ascends here ∙ ap (λ (k : ℕ). remove rows k) (sym is);
     }
+
+-- a row that has no row's key is put among the rows
+none_has : (b others : Bool) (row : Row) (rest : Option Row) → cond b (Some row) rest ≡ None → (rest ≡ None → others ≡ false) → (b || others) ≡ false
+none_has true others row rest none behind = absurd cc
+none_has false others row rest none behind = behind none
+
+has_none : (places : List ℕ) (key : Row) (rows : List Row) → find (is_at places key) rows ≡ None → has_key places rows key ≡ false
+unfolding has_key
+has_none places key [] none = refl
+has_none places key (row ∷ rows) none = none_has (is_at places key row) (list_any (is_at places key) rows) row (find (is_at places key) rows) none (has_none places key rows)
+
+pub put_new : (places : List ℕ) (row : Row) (rows : List Row) → find (is_at places (key_of places row)) rows ≡ None → unwrap_or (put places row rows) rows ≡ with_row places row rows
+put_new places row rows none = rw (has_none places (key_of places row) rows none) refl

@@ -8,7 +8,9 @@ mod places;
 mod renaming;
 mod span_rows;
 mod table;
+mod tables;
 
 pub use renaming::{NotRenamed, Pair, Pairs, RenameFault};
 pub use span_rows::SpanRows;
 pub use table::Table;
+pub use tables::{AddFault, Tables};

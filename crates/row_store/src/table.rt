@@ -1,18 +1,19 @@
 //! A table: a schema, and rows in order of the clustered key.
 
-ghost use Rattle.std.specs.Prelude.{◌≡◌, ◌≤◌, ◌<◌, ◌+◌, ◌==◌, [], None, length, option_copied, OnOk};
+ghost use Rattle.std.specs.Prelude.{◌≡◌, ◌≤◌, ◌<◌, ◌+◌, ◌==◌, [], None, length, option_copied, IfOk, OnOk};
 ghost use Rattle.gho_schema.specs.Rows.{key_of, key_places, with_row};
 ghost use Rattle.gho_schema.specs.Tables.{Ascends};
 ghost use Rattle.row_store.specs.RowLists.{without_key};
-ghost use Rattle.row_store.specs.Databases.{row_at_key, clashing, rows_in};
+ghost use Rattle.row_store.specs.Databases.{row_at_key, clashing, rows_in, name_table};
 
 use crate::finding::{clash_by_key, first_clash, key_place, row_of_key};
 use crate::places::{place_of_row, rows_between};
 use crate::span_rows::SpanRows;
 use gho_schema::Schema;
-use gho_values::{Key, Row, Span};
+use gho_values::{Duplicate, Key, Name, Row, Span};
 use std::alloc::{AllocError, Global};
 use std::marker::Model;
+use std::mem;
 
 /// A table with its rows. Contracts see besides for how many more rows it has room.
 #[derive(Debug, Drop)]
@@ -32,6 +33,16 @@ impl Model for Table {
     ghost view = { λ t. record { table = record { schema = t.schema; rows = t.rows.items }; spare = vec_capacity t.rows - vec_len t.rows } };
 
     ghost invariant = { λ t. Ascends (key_places t.schema) t.rows.items };
+}
+
+fn copy_of(alloc: Global, rows: &[Row]) -> Result<Vec<Row>, AllocError>
+    ensures { IfOk result (λ copy. copy.items ≡ rows.now) }
+{
+    let mut copy = Vec::with_capacity(alloc, rows.len())?;
+    for row in rows {
+        copy.push(row.copy()?)?;
+    }
+    Ok(copy)
 }
 
 impl Table {
@@ -110,6 +121,25 @@ impl Table {
         ensures { result ≡ rows_in self.now.table span.now }
     {
         SpanRows::new(rows_between(self.schema.key_places(), span, self.rows.as_slice()))
+    }
+
+    /// A copy of the table, with what room it may have.
+    pub fn copy_table(&self, alloc: Global) -> Result<Table, AllocError>
+        ensures { IfOk result (λ copy. copy.table ≡ self.now.table) }
+    {
+        Ok(Table {
+            schema: self.schema.copy()?,
+            rows: copy_of(alloc, self.rows.as_slice())?,
+        })
+    }
+
+    /// Gives the table another name, and answers the one that it had. It takes no memory.
+    pub(crate) fn set_name(&mut self, name: Name) -> Name
+        ensures table { self.new.table ≡ name_table name self.old.table }
+        ensures spare { self.new.spare ≡ self.old.spare }
+        ensures name { result ≡ self.old.table.schema.name }
+    {
+        mem::replace(&mut self.schema.name, name)
     }
 
     /// Makes room for so many more rows.
