@@ -1,5 +1,5 @@
 -- *Database*: tables with different names, and what is asked of them and done to them.
-use Rattle.std.specs.Prelude.{◌≡◌, ℕ, ◌<◌, Bool, false, not, ◌&&◌, if◌then◌else◌, List, [], ◌∷◌, map, filter, find, unwrap_or, Option, Some, None, Result, Ok, Err}
+use Rattle.std.specs.Prelude.{◌≡◌, ℕ, Bool, false, not, ◌&&◌, if◌then◌else◌, List, [], ◌∷◌, map, filter, find, unwrap_or, Option, None, Result, Ok, Err}
 use Rattle.std.specs.List.{AllByRecursion, list_any}
 use Rattle.std.specs.Option.{option_map_or}
 use Rattle.std.specs.Str.{bytes_eq}
@@ -9,7 +9,7 @@ use Rattle.gho_values.specs.Spans.{has}
 use Rattle.gho_schema.specs.declared.schema.Schema.{Schema}
 use Rattle.gho_schema.specs.Rows.{key_of, key_places, put}
 use Rattle.gho_schema.specs.Tables.{IsTable, clash}
-use Rattle.row_store.specs.RowLists.{is_at, without_key}
+use Rattle.row_store.specs.RowLists.{is_at, is_besides, without_key}
 use Rattle.row_store.specs.declared.renaming.Pair.{Pair}
 use Rattle.row_store.specs.declared.renaming.NotRenamed.{NotRenamed}
 use Rattle.row_store.specs.declared.renaming.NotRenamed.TheVariants.{Stands, Missing}
@@ -52,11 +52,6 @@ pub record IsDatabase (tables : Database) : Type 0 where
 abbrev pub row_at_key : TableRows → List Value → Option (List Value)
 row_at_key table key = find (is_at (key_places table.schema) key) table.rows
 
--- the row has the clustered key that is named, where one is named
-abbrev pub is_besides : List ℕ → Option (List Value) → List Value → Bool
-is_besides places None row = false
-is_besides places (Some key) row = is_at places key row
-
 -- the row of least clustered key that clashes with this one, besides the row of the key that is named
 abbrev pub clashing : TableRows → List Value → Option (List Value) → Option (List Value)
 clashing table row besides = find (λ other. clash table.schema.uniques row other && not (is_besides (key_places table.schema) besides other)) table.rows
@@ -73,22 +68,34 @@ with_change name change tables = map (λ table. if is_named name table then chan
 abbrev pub with_rows : List ℕ → List (List Value) → Database → Database
 with_rows name rows tables = with_change name (λ table. record { schema = table.schema; rows = rows }) tables
 
--- The tables with a row more in the one of this name, in its place in order of the clustered key. Where a row has its
--- key already, all is as it was.
+-- The table with a row more, in its place in order of the clustered key. Where a row has its key already, it stays as
+-- it was.
+abbrev pub put_in_table : List Value → TableRows → TableRows
+put_in_table row table = record { schema = table.schema; rows = unwrap_or (put (key_places table.schema) row table.rows) table.rows }
+
+-- the tables with a row more in the one of this name
 abbrev pub put_row : List ℕ → List Value → Database → Database
-put_row name row tables = with_change name (λ table. record { schema = table.schema; rows = unwrap_or (put (key_places table.schema) row table.rows) table.rows }) tables
+put_row name row tables = with_change name (put_in_table row) tables
+
+-- the table without the row of this key
+abbrev pub remove_from_table : List Value → TableRows → TableRows
+remove_from_table key table = record { schema = table.schema; rows = without_key (key_places table.schema) key table.rows }
 
 -- the tables without the row of this key in the one of this name
 abbrev pub remove_row : List ℕ → List Value → Database → Database
-remove_row name key tables = with_change name (λ table. record { schema = table.schema; rows = without_key (key_places table.schema) key table.rows }) tables
+remove_row name key tables = with_change name (remove_from_table key) tables
 
 -- the tables but the one of this name
 abbrev pub without_table : List ℕ → Database → Database
 without_table name tables = filter (λ table. not (is_named name table)) tables
 
+-- the table with another name
+abbrev pub name_table : List ℕ → TableRows → TableRows
+name_table name table = record { schema = record table.schema { name = name }; rows = table.rows }
+
 -- the tables, where the one of this name has another
 abbrev pub with_name : List ℕ → List ℕ → Database → Database
-with_name old new tables = with_change old (λ table. record { schema = record table.schema { name = new }; rows = table.rows }) tables
+with_name old new tables = with_change old (name_table new) tables
 
 -- The tables after RENAME TABLE, whose pairs are taken from left to right; or why none is renamed: at its pair a table
 -- of the new name stands, or no table of the old name does (MySQL's manual, "RENAME TABLE Statement"; that the new name
@@ -118,10 +125,17 @@ pub record StoredTable : Type 0 where
 abbrev pub database : List StoredTable → Database
 database tables = map (λ stored. stored.table) tables
 
--- the row may be put into the table: there is room for it, and no row has its clustered key
-pub record CanPut (stored : StoredTable) (row : List Value) : Type 0 where
-  pub room : 0 < stored.spare
-  pub new_key : row_at_key stored.table (key_of (key_places stored.table.schema) row) ≡ None
+-- the stored table with another name
+abbrev pub name_stored : List ℕ → StoredTable → StoredTable
+name_stored name stored = record { table = name_table name stored.table; spare = stored.spare }
+
+-- the room of each table
+abbrev pub spares : List StoredTable → List ℕ
+spares tables = map (λ stored. stored.spare) tables
+
+-- no row of the table has the clustered key of this one
+abbrev pub IsNewIn : List Value → TableRows → Type 0
+IsNewIn row table = row_at_key table (key_of (key_places table.schema) row) ≡ None
 
 -- the stored table of this name, where one has it
 abbrev pub find_stored : List ℕ → List StoredTable → Option StoredTable

@@ -1,0 +1,11 @@
+use Rattle.std.proofs.Common.{◌≡◌, length}
+use Rattle.gho_values.specs.Comparing.{compare_keys}
+use Rattle.gho_schema.specs.Rows.{key_of}
+use Rattle.row_store.proofs.comparing.compare_rows.Given as goal
+
+-- the values that are left decide
+abbrev pub invariant-loop-value : goal.invariant-loop-value
+invariant-loop-value l = compare_keys l.ours l.theirs ≡ compare_keys (key_of l.places l.row) (key_of l.places l.other)
+
+abbrev pub decreases-loop-value : goal.decreases-loop-value
+decreases-loop-value l = length l.ours
