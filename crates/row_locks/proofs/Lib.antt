@@ -1,0 +1,3 @@
+pub mod HeldLocks
+pub mod NumberLocks
+pub mod Refusers

@@ -1,0 +1,45 @@
+-- Which row locks are granted. Shared and exclusive locks are as MySQL's manual has them ("InnoDB Locking"); that spans refuse each other wherever their ends leave room, rows or none, is this project's rule.
+use Rattle.std.specs.Prelude.{ℕ, Bool, ◌&&◌, ◌||◌, not, if◌then◌else◌, ◌==◌, nat_eq, min, List, [], ◌∷◌, Option, Some, None}
+use Rattle.std.specs.Cmp.Lexicographic.{pointwise}
+use Rattle.gho_values.specs.Spans.{meets}
+use Rattle.row_locks.specs.declared.lock.Lock.{Lock}
+use Rattle.row_locks.specs.declared.lock.HeldLock.{HeldLock}
+use Rattle.row_locks.specs.declared.lock.Asked2.{Asked2}
+use Rattle.row_locks.specs.declared.lock.Asked2.TheVariants as answers
+
+-- The two locks are on the same key of the same table.
+abbrev pub same_place : Lock → Lock → Bool
+same_place a b = pointwise nat_eq a.table b.table && a.key == b.key
+
+-- Different sessions can't hold both: they are on the same key, one of them is exclusive, and their spans meet.
+unfoldable pub conflict : Lock → Lock → Bool
+conflict a b = same_place a b && (a.exclusive || b.exclusive) && meets a.span b.span
+
+-- The session that holds the lock, where that refuses the session's.
+unfoldable pub refusal : ℕ → Lock → HeldLock → Option ℕ
+refusal session lock held = if not (held.session == session) && conflict held.lock lock then Some held.session else None
+
+-- The lesser of two sessions, or the one that is there.
+abbrev pub least : Option ℕ → Option ℕ → Option ℕ
+least None b = b
+least (Some a) None = Some a
+least (Some a) (Some b) = Some (min a b)
+
+-- The least session that refuses the lock to the session.
+unfoldable pub refuser_of_lock : List HeldLock → ℕ → Lock → Option ℕ
+refuser_of_lock [] session lock = None
+refuser_of_lock (other ∷ held) session lock = least (refusal session lock other) (refuser_of_lock held session lock)
+
+-- The least session that refuses one of the locks to the session.
+unfoldable pub refuser_of_set : List HeldLock → ℕ → List Lock → Option ℕ
+refuser_of_set held session [] = None
+refuser_of_set held session (lock ∷ set) = least (refuser_of_lock held session lock) (refuser_of_set held session set)
+
+-- The answer where this session refuses, or none does.
+abbrev pub answer_by : Option ℕ → Asked2
+answer_by None = answers.Granted
+answer_by (Some by) = answers.Waits by
+
+-- The answer to a session that asks for the locks: it gets all, or waits for the least session that refuses one.
+abbrev pub answer_to : List HeldLock → ℕ → List Lock → Asked2
+answer_to held session set = answer_by (refuser_of_set held session set)

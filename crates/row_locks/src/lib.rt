@@ -1,0 +1,13 @@
+//! Locks on spans of a key's values: who holds which, and who refuses whom.
+#![tactic(auto)]
+
+pub mod laws;
+mod lock;
+mod locks;
+mod refusing;
+
+pub use lock::{Asked2, HeldLock, Lock, LockSet};
+pub use locks::RowLocks;
+
+#[cfg(test)]
+mod tests;

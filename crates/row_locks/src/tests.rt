@@ -1,0 +1,6 @@
+//! Lists of calls with answers worked out by hand.
+
+mod keys;
+mod lists;
+mod sets;
+mod trial;
