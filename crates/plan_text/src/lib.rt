@@ -1,8 +1,6 @@
 //! Plans, and what a journal of one means.
 #![tactic(auto)]
 
-use gho_values::Sequence;
-use script_text::Script;
+mod plan;
 
-/// The scripts of the clients, in the clients order.
-pub type Scripts = Sequence<Script>;
+pub use plan::{Plan, Scripts};

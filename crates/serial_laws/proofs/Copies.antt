@@ -24,7 +24,8 @@ use Rattle.server_words.specs.declared.answer.Answer.{Answer}
 use Rattle.server_words.specs.declared.answer.Answer.TheVariants as answers
 use Rattle.server_words.specs.declared.request.Request.TheVariants as requests
 use Rattle.server_words.specs.declared.session.Session.{Session}
-use Rattle.server_words.specs.Statements.{Said, only, refuses_value}
+use Rattle.server_words.specs.declared.said.Said.{Said}
+use Rattle.server_words.specs.Statements.{only, refuses_value}
 use Rattle.server_words.specs.States.{State, after_event, after_events, view, session_of, writes_of, is_in_transaction, with_session, wrote, with_writes, committed, at_rest}
 use Rattle.server_words.specs.Chunks.{keys_of}
 use Rattle.server_words.specs.Copying.{copies, copies_row, copies_image, copies_unless}

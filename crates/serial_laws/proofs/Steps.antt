@@ -19,7 +19,8 @@ use Rattle.server_words.specs.declared.request.Request.{Request}
 use Rattle.server_words.specs.declared.request.Request.TheVariants as requests
 use Rattle.server_words.specs.Along.{Along, Along-both, Along-keeps}
 use Rattle.server_words.specs.Alone.{alone, lines_run, reply_of}
-use Rattle.server_words.specs.Statements.{says, Said}
+use Rattle.server_words.specs.declared.said.Said.{Said}
+use Rattle.server_words.specs.Statements.{says}
 use Rattle.server_words.specs.States.{State, view, session_of, after_events, is_in_transaction, writes_of, with_writes}
 use Rattle.server_words.specs.Serving.{answered, serves}
 use Rattle.plan_text.specs.PlanData.{PlanData}

@@ -28,7 +28,10 @@ use Rattle.script_text.specs.declared.statement.Condition.{Condition}
 use Rattle.script_text.specs.declared.statement.Shown.TheVariants as shown
 use Rattle.server_words.specs.declared.answer.Answer.{Answer}
 use Rattle.server_words.specs.declared.answer.Answer.TheVariants as answers
-use Rattle.server_words.specs.Statements.{Said, only, stored_from, stored_row, written_unless, written_or, inserts, deletes, deletes_row, selects, sought, at_key, of_table, says, refuses, refuses_value}
+use Rattle.server_words.specs.declared.said.Said.{Said}
+use Rattle.server_words.specs.declared.said.Sought.{Sought}
+use Rattle.server_words.specs.declared.said.Sought.TheVariants as found_key
+use Rattle.server_words.specs.Statements.{only, stored_from, stored_row, written_unless, written_or, inserts, deletes, deletes_row, selects, sought, at_key, of_table, says, refuses, refuses_value}
 use Rattle.server_words.specs.States.{after_events, changed, without_row}
 use Rattle.serial_laws.proofs.Lists.{all-so, none_found}
 use Rattle.serial_laws.proofs.Sorted.{Row, Total, Before}
@@ -193,18 +196,18 @@ leaves_removed schema rows name (Some row) named table =
       is_table = filter_keeps_table schema (λ other. not (is_at (key_places schema) (key_of (key_places schema) row) other)) rows table;
     }
 
-leaves_sought : (schema : Schema) (rows : List Row) (name : List ℕ) (key : Result (List Value) Answer) → bytes_eq schema.name name ≡ true → IsTable schema rows
+leaves_sought : (schema : Schema) (rows : List Row) (name : List ℕ) (key : Sought) → bytes_eq schema.name name ≡ true → IsTable schema rows
     → Leaves schema rows (at_key key (λ k. deletes_row name (row_at_key (record { schema = schema; rows = rows }) k)))
-leaves_sought schema rows name (Err refusal) named table = leaves_all schema rows refusal table
-leaves_sought schema rows name (Ok key) named table = leaves_removed schema rows name (row_at_key (record { schema = schema; rows = rows }) key) named table
+leaves_sought schema rows name (found_key.Refused refusal) named table = leaves_all schema rows refusal table
+leaves_sought schema rows name (found_key.Key key) named table = leaves_removed schema rows name (row_at_key (record { schema = schema; rows = rows }) key) named table
 
 leaves_deleted : (schema : Schema) (rows : List Row) (name : List ℕ) (condition : Condition) → bytes_eq schema.name name ≡ true → IsTable schema rows → Leaves schema rows (deletes name condition (record { schema = schema; rows = rows }))
 unfolding deletes
 leaves_deleted schema rows name condition named table = leaves_sought schema rows name (sought schema condition) named table
 
-leaves_read : (schema : Schema) (rows : List Row) (key : Result (List Value) Answer) (shows : List Value → Answer) → IsTable schema rows → Leaves schema rows (at_key key (λ k. only (shows k)))
-leaves_read schema rows (Err refusal) shows table = leaves_all schema rows refusal table
-leaves_read schema rows (Ok key) shows table = leaves_all schema rows (shows key) table
+leaves_read : (schema : Schema) (rows : List Row) (key : Sought) (shows : List Value → Answer) → IsTable schema rows → Leaves schema rows (at_key key (λ k. only (shows k)))
+leaves_read schema rows (found_key.Refused refusal) shows table = leaves_all schema rows refusal table
+leaves_read schema rows (found_key.Key key) shows table = leaves_all schema rows (shows key) table
 
 leaves_selected : (schema : Schema) (rows : List Row) (condition : Condition) → IsTable schema rows → Leaves schema rows (selects condition (record { schema = schema; rows = rows }))
 unfolding selects

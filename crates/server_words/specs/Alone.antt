@@ -16,7 +16,8 @@ use Rattle.server_words.specs.declared.ended.TxnLine.{TxnLine}
 use Rattle.server_words.specs.declared.ended.EndedTxn.{EndedTxn}
 use Rattle.server_words.specs.declared.ended.Reply.{Reply}
 use Rattle.server_words.specs.declared.ended.Reply.TheVariants as replies
-use Rattle.server_words.specs.Statements.{Said, only, says}
+use Rattle.server_words.specs.declared.said.Said.{Said}
+use Rattle.server_words.specs.Statements.{only, says}
 use Rattle.server_words.specs.States.{after_events}
 
 -- replies, and the database afterwards

@@ -8,7 +8,8 @@ use Rattle.alter_grammar.specs.Images.{image}
 use Rattle.event_codec.specs.declared.event.Change.TheVariants.{Write}
 use Rattle.row_store.specs.Databases.{TableRows, Database, find_table, row_at_key, clashing}
 use Rattle.server_words.specs.declared.answer.Answer.TheVariants as answers
-use Rattle.server_words.specs.Statements.{Said, only, refuses_value, of_table}
+use Rattle.server_words.specs.declared.said.Said.{Said}
+use Rattle.server_words.specs.Statements.{only, refuses_value, of_table}
 
 -- the image is written, unless it clashes with a row that is there
 abbrev pub copies_unless : List ℕ → List Value → Option (List Value) → Said

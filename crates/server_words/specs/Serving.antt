@@ -8,7 +8,8 @@ use Rattle.server_words.specs.declared.answer.Answer.{Answer}
 use Rattle.server_words.specs.declared.answer.Answer.TheVariants as answers
 use Rattle.server_words.specs.declared.request.Request.{Request}
 use Rattle.server_words.specs.declared.request.Request.TheVariants as requests
-use Rattle.server_words.specs.Statements.{Said, says, refuses}
+use Rattle.server_words.specs.declared.said.Said.{Said}
+use Rattle.server_words.specs.Statements.{says, refuses}
 use Rattle.server_words.specs.Chunks.{keys_of, ends_of, chunk_end, span_keys}
 use Rattle.server_words.specs.Copying.{copies}
 use Rattle.server_words.specs.States.{State, view, session_of, with_session, begun, at_rest, committed, with_writes, writes_of}

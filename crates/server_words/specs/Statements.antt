@@ -25,11 +25,9 @@ use Rattle.script_text.specs.declared.statement.Shown.TheVariants as shown
 use Rattle.script_text.specs.declared.statement.Set.{Set}
 use Rattle.server_words.specs.declared.answer.Answer.{Answer}
 use Rattle.server_words.specs.declared.answer.Answer.TheVariants as answers
-
--- an answer, and the events that are written with it
-pub record Said : Type 0 where
-  pub answer : Answer
-  pub events : List RowEvent
+use Rattle.server_words.specs.declared.said.Said.{Said}
+use Rattle.server_words.specs.declared.said.Sought.{Sought}
+use Rattle.server_words.specs.declared.said.Sought.TheVariants as found
 
 -- an answer that writes nothing
 abbrev pub only : Answer → Said
@@ -73,28 +71,28 @@ is_only place (other ∷ []) = place == other
 is_only place (other ∷ (next ∷ more)) = false
 
 -- what the column compares with the literal, as a key
-abbrev pub sought_value : ℕ → Result Value Unfit → Result (List Value) Answer
-sought_value place (Ok value) = Ok (value ∷ [])
-sought_value place (Err reason) = Err (refuses_value (record { column = place; unfit = reason }))
+abbrev pub sought_value : ℕ → Result Value Unfit → Sought
+sought_value place (Ok value) = found.Key (value ∷ [])
+sought_value place (Err reason) = found.Refused (refuses_value (record { column = place; unfit = reason }))
 
-abbrev pub sought_in : ℕ → Value → Option Column → Result (List Value) Answer
-sought_in place value None = Err (refuses 1054)
+abbrev pub sought_in : ℕ → Value → Option Column → Sought
+sought_in place value None = found.Refused (refuses 1054)
 sought_in place value (Some column) = sought_value place (seeks value column.kind)
 
 -- a column that stands, and is the clustered key
-abbrev pub sought_at : Schema → Value → Option ℕ → Result (List Value) Answer
-sought_at schema value None = Err (refuses 1054)
-sought_at schema value (Some place) = if is_only place (key_places schema) then sought_in place value (slice_get schema.columns place) else Err (refuses 1235)
+abbrev pub sought_at : Schema → Value → Option ℕ → Sought
+sought_at schema value None = found.Refused (refuses 1054)
+sought_at schema value (Some place) = if is_only place (key_places schema) then sought_in place value (slice_get schema.columns place) else found.Refused (refuses 1235)
 
 -- The key that a condition asks for, or why it is refused: so far an equality on the clustered key, which has one column.
-unfoldable pub sought : Schema → Condition → Result (List Value) Answer
+unfoldable pub sought : Schema → Condition → Sought
 sought schema (Equal (set ∷ [])) = sought_at schema set.value (position (λ column. same_name column.name set.column) schema.columns)
-sought schema condition = Err (refuses 1235)
+sought schema condition = found.Refused (refuses 1235)
 
 -- what is said at the key, or the refusal
-abbrev pub at_key : Result (List Value) Answer → (List Value → Said) → Said
-at_key (Err refusal) said = only refusal
-at_key (Ok key) said = said key
+abbrev pub at_key : Sought → (List Value → Said) → Said
+at_key (found.Refused refusal) said = only refusal
+at_key (found.Key key) said = said key
 
 -- the row is removed, where there is one
 abbrev pub deletes_row : List ℕ → Option (List Value) → Said

@@ -7,11 +7,15 @@ mod cause;
 mod ended;
 mod entry;
 mod request;
+mod said;
+mod serve;
 mod session;
 
-pub use answer::Answer;
+pub use answer::{Answer, KeyRange};
 pub use cause::{Cause, Verdict};
 pub use ended::{EndedTxn, Mark, Replies, Reply, TxnEnd, TxnLine, TxnLines};
 pub use entry::{Asked, Entry, Journal};
 pub use request::Request;
+pub use said::{Said, Sought};
+pub use serve::Serve;
 pub use session::{Limits, Session, Sessions, Waiting, Waits};
