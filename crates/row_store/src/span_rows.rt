@@ -28,6 +28,13 @@ impl<'a> SpanRows<'a> {
     {
         SpanRows { rest: rows }
     }
+
+    /// The rows that are left, as a slice.
+    pub fn as_slice(&self) -> &'a [Row]
+        ensures { result.now ≡ self.now }
+    {
+        self.rest
+    }
 }
 
 impl<'a> Iterator for SpanRows<'a> {

@@ -1,2 +1,4 @@
+mod Cuts
 mod Lists
 mod StoredRows
+mod Written

@@ -1,7 +1,9 @@
 //! The in-memory server: its answers are those of the plain server.
 #![tactic(auto)]
 
-
-
+mod applying;
+mod chunk;
+mod copying;
 mod refusing;
+mod sessions;
 mod statement;
