@@ -1,4 +1,5 @@
 mod Cuts
+mod Edited
 mod Lists
 mod StoredRows
 mod Written

@@ -5,5 +5,8 @@ mod applying;
 mod chunk;
 mod copying;
 mod refusing;
+mod server;
 mod sessions;
 mod statement;
+
+pub use server::Server;
