@@ -1,12 +1,12 @@
 -- One session of many with a change.
 use Rattle.std.proofs.Common.{◌≡◌, ℕ, zero, suc, ◌+◌, ◌==◌, arith, Bool, true, false, List, [], ◌∷◌, length, get_or, Option, Some, None, Result, Ok, Err, ◌++◌, OnOk, cond, refl, sym, ap, ◌∙◌, subst, position}
-use Rattle.std.proofs.lemmas.Bool.{lt-ltb, le-ltb, ltb-true, ltb-false}
+use Rattle.std.proofs.lemmas.Bool.{lt-ltb, le-ltb, ltb-true, ltb-false, false≢true}
 use Rattle.std.specs.Prelude.{nat_lt}
 use Rattle.std.specs.List.{slice_set, position_or_len}
 use Rattle.std.specs.Option.{option_map}
 use Rattle.server_words.specs.declared.session.Session.{Session}
 use Rattle.event_codec.specs.declared.event.RowEvent.{RowEvent}
-use Rattle.server_words.specs.States.{with_session, wrote}
+use Rattle.server_words.specs.States.{with_session, session_of, writes_of, is_in_transaction, wrote}
 
 abbrev pub has_number : ℕ → Session → Bool
 has_number number session = session.number == number
@@ -59,3 +59,30 @@ pub written_ok : {E : Type 0} (result : Result (Unit {0}) E) (number : ℕ) (ses
     → OnOk result (into ≡ session.writes ++ more) → OnOk result (slice_set sessions place (record session { writes = into }) ≡ with_session number (wrote more) sessions)
 written_ok (Ok done) number sessions place session more into is at grown = rw grown (edited number (wrote more) sessions place session is at)
 written_ok (Err fault) number sessions place session more into is at grown = tt
+
+pub found_at : (number : ℕ) (sessions : List Session) (place : ℕ) (session : Session) → position (has_number number) sessions ≡ Some place → session ≡ get_or sessions place session → session_of number sessions ≡ Some session
+found_at number [] place session is at = absurd (cc)
+found_at number (first ∷ sessions) place session is at =
+    some_place (has_number number first) (position (has_number number) sessions) place (session_of number (first ∷ sessions) ≡ Some session) (sym (first_place (has_number number) first sessions) ∙ is)
+      (λ here zero_is. let same : session ≡ first = subst (λ n. session ≡ get_or (first ∷ sessions) n session) zero_is at in rw here (ap (λ s. Some s) (sym same)))
+      (λ there n some suc_is.
+        let at' : session ≡ get_or sessions n session = subst (λ k. session ≡ get_or (first ∷ sessions) k session) suc_is at in
+        rw there (found_at number sessions n session some at'))
+
+pub not_found : (number : ℕ) (sessions : List Session) → position (has_number number) sessions ≡ None → session_of number sessions ≡ None
+not_found number [] none = refl
+not_found number (first ∷ sessions) none =
+    none_place (has_number number first) (position (has_number number) sessions) (session_of number (first ∷ sessions) ≡ None) (sym (first_place (has_number number) first sessions) ∙ none)
+      (λ other more. rw other (not_found number sessions more))
+
+-- what a session in a transaction has written once it wrote more
+wrote_at : (number : ℕ) (more : List RowEvent) (first : Session) (sessions : List Session) (b : Bool) → has_number number first ≡ b → is_in_transaction (cond b (Some first) (session_of number sessions)) ≡ true
+    → (is_in_transaction (session_of number sessions) ≡ true → writes_of (session_of number (with_session number (wrote more) sessions)) ≡ writes_of (session_of number sessions) ++ more)
+    → writes_of (session_of number (cond b (wrote more first ∷ sessions) (first ∷ with_session number (wrote more) sessions))) ≡ writes_of (cond b (Some first) (session_of number sessions)) ++ more
+wrote_at number more first sessions true is busy others = rw is refl
+wrote_at number more first sessions false is busy others = rw is (others busy)
+
+pub wrote_more : (number : ℕ) (more : List RowEvent) (sessions : List Session) → is_in_transaction (session_of number sessions) ≡ true → writes_of (session_of number (with_session number (wrote more) sessions)) ≡ writes_of (session_of number sessions) ++ more
+unfolding with_session
+wrote_more number more [] busy = absurd (false≢true busy)
+wrote_more number more (first ∷ sessions) busy = wrote_at number more first sessions (has_number number first) refl busy (wrote_more number more sessions)

@@ -2,4 +2,5 @@ mod Cuts
 mod Edited
 mod Lists
 mod StoredRows
+mod Views
 mod Written

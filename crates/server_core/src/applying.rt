@@ -104,7 +104,7 @@ pub fn apply(alloc: Global, tables: &mut Tables, event: &RowEvent) -> Result<(),
 
 /// Does to the tables what events say, one by one. Where there is no memory, some of them may be done.
 #[tactic(auto, unfolding(server_words::specs::States::after_events))]
-fn apply_each(
+pub fn apply_each(
     alloc: Global,
     tables: &mut Tables,
     events: &[RowEvent],

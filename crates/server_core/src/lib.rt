@@ -8,5 +8,8 @@ mod refusing;
 mod server;
 mod sessions;
 mod statement;
+mod view;
+
+
 
 pub use server::Server;

@@ -50,14 +50,18 @@ pub fn begin(sessions: &mut Vec<Session>, number: u32)
     }
 }
 
-/// The transaction of this session is over; what it wrote is forgotten.
-pub fn rest(alloc: Global, sessions: &mut Vec<Session>, number: u32)
-    ensures { sessions.new.items ≡ with_session number at_rest sessions.old.items }
+/// The transaction of this session is over. What it wrote is given.
+pub fn rest(alloc: Global, sessions: &mut Vec<Session>, number: u32) -> Events
+    ensures sessions { sessions.new.items ≡ with_session number at_rest sessions.old.items }
+    ensures writes { result ≡ writes_of (session_of number sessions.old.items) }
 {
-    if let Some(place) = place_of(sessions.as_slice(), number) {
-        let session = &mut sessions[place];
-        session.in_transaction = false;
-        session.writes = Sequence::new(alloc);
+    match place_of(sessions.as_slice(), number) {
+        Some(place) => {
+            let session = &mut sessions[place];
+            session.in_transaction = false;
+            mem::replace(&mut session.writes, Sequence::new(alloc))
+        }
+        None => Sequence::new(alloc),
     }
 }
 
