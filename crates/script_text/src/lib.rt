@@ -18,3 +18,6 @@ pub use operator::{Command, Commands, OperatorWord};
 pub use script::{Script, ScriptLine, ScriptWord};
 pub use scripts::read_script;
 pub use statement::{Comparison, Comparisons, Condition, Set, Sets, Shown, Sign, Statement};
+
+#[cfg(test)]
+mod tests;
