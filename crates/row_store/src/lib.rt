@@ -4,6 +4,7 @@
 mod comparing;
 mod finding;
 mod key_values;
+pub mod laws;
 mod places;
 mod renaming;
 mod span_rows;
