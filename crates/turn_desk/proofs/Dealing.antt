@@ -1,9 +1,11 @@
 -- Dealing a pass to each worker, one after another.
-use Rattle.std.proofs.Common.{◌≡◌, ℕ, suc, ◌+◌, ◌-◌, ◌<◌, ◌≤◌, List, [], ◌∷◌, ◌++◌, map, sym, ap, ◌∙◌, arith, append_assoc}
+use Rattle.std.proofs.Common.{◌≡◌, ℕ, zero, suc, ◌+◌, ◌-◌, ◌<◌, ◌≤◌, List, [], ◌∷◌, ◌++◌, length, map, All, refl, sym, ap, ◌∙◌, arith, append_assoc}
+use Rattle.std.proofs.lemmas.List.{length-map}
+use Rattle.std.proofs.lemmas.List.Elements.{All-map}
 use Rattle.turn_desk.specs.declared.hand.Stage.TheVariants.{Rests}
 use Rattle.turn_desk.specs.declared.hand.Hand.{Hand}
 use Rattle.turn_desk.specs.Rule.{newcomer}
-use Rattle.turn_desk.specs.Turns.{DeskView, PassView, numbers_from, first_pass, first_passes}
+use Rattle.turn_desk.specs.Turns.{DeskView, PassView, numbers_from, first_pass, first_passes, IsPassOf}
 use Rattle.turn_desk.specs.Views.{worker_view, next, others}
 
 -- the numbers from one on that is below the last
@@ -12,6 +14,10 @@ numbers_more first last below = let e : last - first ≡ suc (last - (first + 1)
 
 pub numbers_none : (first last : ℕ) → last ≤ first → numbers_from first (last - first) ≡ []
 numbers_none first last past = let e : last - first ≡ 0 = omega arith in ap (numbers_from first) e
+
+length-numbers_from : (first count : ℕ) → length (numbers_from first count) ≡ count
+length-numbers_from first zero = refl
+length-numbers_from first (suc count) = let e = length-numbers_from (first + 1) count in omega arith
 
 module _ {O E : Type 0} where
   -- the seat that is dealt, and the seat that is left
@@ -32,3 +38,10 @@ module _ {O E : Type 0} where
       ∙ ap (λ (p : PassView O E). passes ++ p ∷ rest) is
       ∙ ap (λ (l : List ℕ). passes ++ map (first_pass desk) l) (sym (numbers_more first last below))
       ∙ before
+
+-- the first passes are as many as the workers, and each is the desk's
+pub length-first_passes : {O : Type 0} (E : Type 0) (desk : DeskView O) → length (first_passes {O = O} {E = E} desk) ≡ desk.workers
+length-first_passes {O} E desk = length-map (numbers_from 0 desk.workers) (first_pass {O = O} {E = E} desk) ∙ length-numbers_from 0 desk.workers
+
+pub first_passes_ours : {O : Type 0} (E : Type 0) (desk : DeskView O) → All (IsPassOf {O = O} {E = E} desk) (first_passes desk)
+first_passes_ours {O} E desk = All-map (IsPassOf {O = O} {E = E} desk) (first_pass desk) (numbers_from 0 desk.workers) (λ k d inside. (refl, refl))

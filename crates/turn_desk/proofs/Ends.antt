@@ -38,24 +38,24 @@ one_slot [] y one at = absurd (omega arith)
 one_slot (x ∷ []) y one at = ap (λ z. z ∷ []) (some-injective x y at)
 one_slot (x ∷ z ∷ xs) y one at = absurd (omega arith)
 
-module _ {O E : Type 0} where
+module _ {O E : Type 0} (opening : O) where
   abbrev pub hands : List (PassView O E) → List (Hand O E)
-  hands passes = map (λ pass. hand_of pass) passes
+  hands passes = map (hand_of opening) passes
 
-  each_pass : (P : Hand O E → Type 0) (passes : List (PassView O E)) → All P (hands passes) → All (λ pass. P (hand_of pass)) passes
-  each_pass P [] all = All-nil (λ (pass : PassView O E). P (hand_of pass))
-  each_pass P (p ∷ ps) all = All-cons (λ (pass : PassView O E). P (hand_of pass)) p ps (All-head P (hand_of p) (hands ps) all) (each_pass P ps (All-tail P (hand_of p) (hands ps) all))
+  each_pass : (P : Hand O E → Type 0) (passes : List (PassView O E)) → All P (hands passes) → All (λ pass. P (hand_of opening pass)) passes
+  each_pass P [] all = All-nil (λ (pass : PassView O E). P (hand_of opening pass))
+  each_pass P (p ∷ ps) all = All-cons (λ (pass : PassView O E). P (hand_of opening pass)) p ps (All-head P (hand_of opening p) (hands ps) all) (each_pass P ps (All-tail P (hand_of opening p) (hands ps) all))
 
   all_workers : (passes : List (PassView O E)) → count_in is_worker (hands passes) ≡ length passes
   all_workers [] = refl
-  all_workers (p ∷ ps) = let r = all_workers ps in let c = count_in_append is_worker (hand_of p ∷ []) (hands ps) in omega arith
+  all_workers (p ∷ ps) = let r = all_workers ps in let c = count_in_append is_worker (hand_of opening p ∷ []) (hands ps) in omega arith
 
   none_holds : (passes : List (PassView O E)) → count_in holds_turn (hands passes) ≡ 0
-  none_holds passes = none_in holds_turn (hands passes) (All-map (λ (hand : Hand O E). holds_turn hand.role ≡ 0) (λ (pass : PassView O E). hand_of pass) passes (λ k d inside. refl))
+  none_holds passes = none_in holds_turn (hands passes) (All-map (λ (hand : Hand O E). holds_turn hand.role ≡ 0) (λ (pass : PassView O E). hand_of opening pass) passes (λ k d inside. refl))
 
   -- how often a number stands among those of the passes
   more : (n : ℕ) (p : PassView O E) (ps : List (PassView O E)) → count_in (is_number n) (hands (p ∷ ps)) ≡ one_if (p.worker == n) + count_in (is_number n) (hands ps)
-  more n p ps = let c = count_in_append (is_number n) (hand_of p ∷ []) (hands ps) in omega arith
+  more n p ps = let c = count_in_append (is_number n) (hand_of opening p ∷ []) (hands ps) in omega arith
 
   -- a number that stands among them is one of a pass
   stands : (n : ℕ) (passes : List (PassView O E)) → 0 < count_in (is_number n) (hands passes) → Contains (map (λ pass. pass.worker) passes) n
@@ -88,39 +88,39 @@ module _ {O E : Type 0} where
       i j d (omega arith) (omega arith)
 
 module _ {B O E : Type 0} (opening_of : B → O) (entries_in : B → List (Entry E)) (opening : O) (workers : ℕ) where
-  module _ (s : State (Option B) (List (Hand O E))) (h : AgreesWith opening_of entries_in opening workers s) (id : ℕ) (passes : List (PassView O E)) (at : get_elem? s.views id ≡ some (hands passes)) (all : length passes ≡ workers) where
+  module _ (s : State (Option B) (List (Hand O E))) (h : AgreesWith opening_of entries_in opening workers s) (id : ℕ) (passes : List (PassView O E)) (at : get_elem? s.views id ≡ some (hands opening passes)) (all : length passes ≡ workers) where
     -- no other seat has a worker
     no_worker : count is_worker (set s.views id []) ≡ 0
-    no_worker = let c = count_set is_worker s.views id (hands passes) [] at in let w = all_workers passes in let q = h.crew in omega (arith, w)
+    no_worker = let c = count_set is_worker s.views id (hands opening passes) [] at in let w = all_workers opening passes in let q = h.crew in omega (arith, w)
 
     -- nobody holds the turn, so that the book is in its slot
-    pub closes : IsHome opening_of entries_in opening workers h.entries s.homes
+    pub closes : IsHome opening_of entries_in opening h.entries s.homes
     closes = h.home
-        (let c = count_set holds_turn s.views id (hands passes) [] at in
+        (let c = count_set holds_turn s.views id (hands opening passes) [] at in
         let l = count_less holds_turn is_worker holds_less (set s.views id []) in
-        let n = none_holds passes in
+        let n = none_holds opening passes in
         let z = no_worker in omega (arith, n, z))
 
-    numbered : (n : ℕ) → count_in (is_number n) (hands passes) ≡ count (is_number n) s.views
+    numbered : (n : ℕ) → count_in (is_number n) (hands opening passes) ≡ count (is_number n) s.views
     numbered n =
-        let c = count_set (is_number n) s.views id (hands passes) [] at in
+        let c = count_set (is_number n) s.views id (hands opening passes) [] at in
         let l = count_less (is_number n) is_worker (number_less n) (set s.views id []) in
         let z = no_worker in omega (arith, z)
 
-    fits : All (λ pass. Fits opening workers h.drawn h.served h.entries (hand_of pass)) passes
-    fits = each_pass (Fits opening workers h.drawn h.served h.entries) passes (h.hands id (hands passes) at)
+    fits : All (λ pass. Fits opening workers h.drawn h.served h.entries (hand_of opening pass)) passes
+    fits = each_pass opening (Fits opening workers h.drawn h.served h.entries) passes (h.hands id (hands opening passes) at)
 
     -- the list has the passes' own turns and no others
     pub lists : DeskList h.entries passes
     lists = record {
       own = λ k d inside. sym (fits k d inside).2.1;
-      once = differ passes (λ n within. let c = numbered n in let q = h.numbers n (below n within) in omega arith);
+      once = differ opening passes (λ n within. let c = numbered n in let q = h.numbers n (below n within) in omega arith);
       no_others = λ k d inside. own_of_some (get_or h.entries k d).worker (h.named k d inside);
       seen = λ k d inside. (fits k d inside).1;
     }
       where
         own_of_some : (n : ℕ) → n < workers → Contains (map (λ pass. pass.worker) passes) n
-        own_of_some n under = stands n passes (let c = numbered n in let q = h.numbers n under in omega arith)
+        own_of_some n under = stands opening n passes (let c = numbered n in let q = h.numbers n under in omega arith)
 
         below : (n : ℕ) → Contains (map (λ pass. pass.worker) passes) n → n < workers
         below n within = All-contains (λ (m : ℕ). m < workers) (map (λ pass. pass.worker) passes) n (All-map (λ (m : ℕ). m < workers) (λ (pass : PassView O E). pass.worker) passes (λ k d inside. (fits k d inside).2.0)) within
@@ -132,7 +132,7 @@ module _ {B O E : Type 0} (opening_of : B → O) (entries_in : B → List (Entry
     pub opened : opening_of book ≡ opening
     pub list : DeskList (entries_in book) passes
 
-  pub closed : (id : ℕ) (view : List (Hand O E)) (passes : List (PassView O E)) (ws : List ℕ) (slots : List (Option B)) → view ≡ hands passes → length passes ≡ workers
+  pub closed : (id : ℕ) (view : List (Hand O E)) (passes : List (PassView O E)) (ws : List ℕ) (slots : List (Option B)) → view ≡ hands opening passes → length passes ≡ workers
       → Final (Seen (AgreesWith opening_of entries_in opening workers) id view) ws slots → Closed passes slots
   closed id view passes ws slots are all (s, (h, at), same, long, kept) =
       let here = at ∙ ap (λ (v : List (Hand O E)). some v) are in

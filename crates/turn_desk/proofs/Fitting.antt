@@ -48,7 +48,7 @@ module _ {X : Type 0} where
 
 module _ {O E : Type 0} (opening : O) (workers : ℕ) where
   -- one more ticket was drawn
-  pub later_stage : (drawn served : ℕ) (entries seen : List (Entry E)) (stage : Stage) → FitsStage opening workers drawn served entries seen stage → FitsStage opening workers (drawn + 1) served entries seen stage
+  pub later_stage : (drawn served : ℕ) (entries seen : List (Entry E)) (stage : Stage) → FitsStage workers drawn served entries seen stage → FitsStage workers (drawn + 1) served entries seen stage
   later_stage drawn served entries seen Rests fits = tt
   later_stage drawn served entries seen (Waits ticket) fits = let a = fits.0 in let b = fits.1 in (omega arith, omega arith)
   later_stage drawn served entries seen (Holds ticket) fits = let b = fits.1 in (fits.0, omega arith, fits.2)
@@ -56,12 +56,12 @@ module _ {O E : Type 0} (opening : O) (workers : ℕ) where
   pub later : (drawn served : ℕ) (entries : List (Entry E)) (hand : Hand O E) → Fits opening workers drawn served entries hand → Fits opening workers (drawn + 1) served entries hand
   later drawn served entries hand fits = (fits.0, fits.1, go hand.role fits.2)
     where
-      go : (role : Role E) → FitsRole opening workers drawn served entries hand.seen role → FitsRole opening workers (drawn + 1) served entries hand.seen role
+      go : (role : Role E) → FitsRole workers drawn served entries hand.seen role → FitsRole workers (drawn + 1) served entries hand.seen role
       go (Worker number own stage) f = (f.0, f.1, later_stage drawn served entries hand.seen stage f.2)
       go Witness f = tt
 
   -- one more ticket was served, which the hand hasn't
-  pub passed_stage : (drawn served : ℕ) (entries seen : List (Entry E)) (stage : Stage) → stage_has_ticket served stage ≡ 0 → FitsStage opening workers drawn served entries seen stage → FitsStage opening workers drawn (served + 1) entries seen stage
+  pub passed_stage : (drawn served : ℕ) (entries seen : List (Entry E)) (stage : Stage) → stage_has_ticket served stage ≡ 0 → FitsStage workers drawn served entries seen stage → FitsStage workers drawn (served + 1) entries seen stage
   passed_stage drawn served entries seen Rests none fits = tt
   passed_stage drawn served entries seen (Waits ticket) none fits = let other = apart ticket served none in let a = fits.0 in (omega arith, fits.1)
   passed_stage drawn served entries seen (Holds ticket) none fits = absurd (apart ticket served none fits.0)
@@ -69,12 +69,12 @@ module _ {O E : Type 0} (opening : O) (workers : ℕ) where
   pub passed : (drawn served : ℕ) (entries : List (Entry E)) (hand : Hand O E) → has_ticket served hand.role ≡ 0 → Fits opening workers drawn served entries hand → Fits opening workers drawn (served + 1) entries hand
   passed drawn served entries hand none fits = (fits.0, fits.1, go hand.role none fits.2)
     where
-      go : (role : Role E) → has_ticket served role ≡ 0 → FitsRole opening workers drawn served entries hand.seen role → FitsRole opening workers drawn (served + 1) entries hand.seen role
+      go : (role : Role E) → has_ticket served role ≡ 0 → FitsRole workers drawn served entries hand.seen role → FitsRole workers drawn (served + 1) entries hand.seen role
       go (Worker number own stage) n f = (f.0, f.1, passed_stage drawn served entries hand.seen stage n f.2)
       go Witness n f = tt
 
   -- one more entry, of another worker, while the hand doesn't hold the turn
-  pub longer_stage : (drawn served : ℕ) (entries more seen : List (Entry E)) (stage : Stage) → stage_has_ticket served stage ≡ 0 → FitsStage opening workers drawn served entries seen stage → FitsStage opening workers drawn served more seen stage
+  pub longer_stage : (drawn served : ℕ) (entries more seen : List (Entry E)) (stage : Stage) → stage_has_ticket served stage ≡ 0 → FitsStage workers drawn served entries seen stage → FitsStage workers drawn served more seen stage
   longer_stage drawn served entries more seen Rests none fits = tt
   longer_stage drawn served entries more seen (Waits ticket) none fits = fits
   longer_stage drawn served entries more seen (Holds ticket) none fits = absurd (apart ticket served none fits.0)
@@ -82,7 +82,7 @@ module _ {O E : Type 0} (opening : O) (workers : ℕ) where
   pub lengthened : (drawn served : ℕ) (entries : List (Entry E)) (e : Entry E) (hand : Hand O E) → has_ticket served hand.role ≡ 0 → is_number e.worker hand.role ≡ 0 → Fits opening workers drawn served entries hand → Fits opening workers drawn served (entries ++ e ∷ []) hand
   lengthened drawn served entries e hand none other fits = (fits.0, StartsWith-more entries (e ∷ []) hand.seen fits.1, go hand.role none other fits.2)
     where
-      go : (role : Role E) → has_ticket served role ≡ 0 → is_number e.worker role ≡ 0 → FitsRole opening workers drawn served entries hand.seen role → FitsRole opening workers drawn served (entries ++ e ∷ []) hand.seen role
+      go : (role : Role E) → has_ticket served role ≡ 0 → is_number e.worker role ≡ 0 → FitsRole workers drawn served entries hand.seen role → FitsRole workers drawn served (entries ++ e ∷ []) hand.seen role
       go (Worker number own stage) n m f =
           (f.0, f.1 ∙ sym (entries_of-other number entries e (λ same. apart number e.worker m (sym same))), longer_stage drawn served entries (entries ++ e ∷ []) hand.seen stage n f.2)
       go Witness n m f = tt
@@ -94,12 +94,12 @@ module _ {O E : Type 0} (opening : O) (workers : ℕ) where
       below : (ticket : ℕ) → ticket < drawn → one_if (ticket == drawn) ≡ 0
       below ticket lt = counts_zero ticket drawn (λ same. omega arith)
 
-      at_stage : (stage : Stage) → FitsStage opening workers drawn served entries hand.seen stage → stage_has_ticket drawn stage ≡ 0
+      at_stage : (stage : Stage) → FitsStage workers drawn served entries hand.seen stage → stage_has_ticket drawn stage ≡ 0
       at_stage Rests f = refl
       at_stage (Waits ticket) f = below ticket f.1
       at_stage (Holds ticket) f = below ticket f.1
 
-      go : (role : Role E) → FitsRole opening workers drawn served entries hand.seen role → has_ticket drawn role ≡ 0
+      go : (role : Role E) → FitsRole workers drawn served entries hand.seen role → has_ticket drawn role ≡ 0
       go (Worker number own stage) f = at_stage stage f.2
       go Witness f = refl
 
@@ -107,12 +107,12 @@ module _ {O E : Type 0} (opening : O) (workers : ℕ) where
   pub idle_hand : (drawn served : ℕ) (entries : List (Entry E)) (hand : Hand O E) → has_ticket served hand.role ≡ 0 → Fits opening workers drawn served entries hand → holds_turn hand.role ≡ 0
   idle_hand drawn served entries hand zero_is fits = go hand.role zero_is fits.2
     where
-      at_stage : (stage : Stage) → stage_has_ticket served stage ≡ 0 → FitsStage opening workers drawn served entries hand.seen stage → stage_holds stage ≡ 0
+      at_stage : (stage : Stage) → stage_has_ticket served stage ≡ 0 → FitsStage workers drawn served entries hand.seen stage → stage_holds stage ≡ 0
       at_stage Rests n f = refl
       at_stage (Waits ticket) n f = refl
       at_stage (Holds ticket) n f = absurd (apart ticket served n f.0)
 
-      go : (role : Role E) → has_ticket served role ≡ 0 → FitsRole opening workers drawn served entries hand.seen role → holds_turn role ≡ 0
+      go : (role : Role E) → has_ticket served role ≡ 0 → FitsRole workers drawn served entries hand.seen role → holds_turn role ≡ 0
       go (Worker number own stage) n f = at_stage stage n f.2
       go Witness n f = refl
 

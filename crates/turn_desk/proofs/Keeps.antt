@@ -209,7 +209,7 @@ module _ {B O E : Type 0} (opening_of : B → O) (entries_in : B → List (Entry
                 (h.hands j u e k d inside))
                 (only (λ (hand : Hand O E). holds_turn hand.role ≡ 0) (hand_at (Waits ticket)) refl)))
 
-            home : IsHome opening_of entries_in opening workers h.entries s.homes
+            home : IsHome opening_of entries_in opening h.entries s.homes
             home = h.home idle
 
             book : B

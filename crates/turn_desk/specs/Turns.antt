@@ -1,5 +1,5 @@
 -- The list of a desk, and what its passes know of it.
-use Rattle.std.specs.Prelude.{◌≡◌, ◌≢◌, ℕ, zero, suc, ◌+◌, ◌==◌, ltb, cond, List, [], ◌∷◌, ◌++◌, length, map, filter, All, AllPairs, Contains}
+use Rattle.std.specs.Prelude.{◌≡◌, ◌≢◌, ℕ, zero, suc, ◌+◌, ◌==◌, ltb, cond, List, [], ◌∷◌, ◌++◌, length, map, filter, All, AllPairs, Contains, Option, Some}
 use Rattle.atomic_table.specs.Seated.{TableId}
 use Rattle.turn_desk.specs.declared.book.Entry.{Entry}
 
@@ -22,11 +22,11 @@ pub record DeskView (O : Type 0) : Type 0 where
   pub opening : O
   pub workers : ℕ
 
--- A pass: the desk that it is for, its worker's number, the opening, the turns that its worker took, and the entries seen so far.
+-- A pass: the desk that it is for, its worker's number, what the book began with (none only where a pass is no desk's), the turns that its worker took, and the entries seen so far.
 pub record PassView (O E : Type 0) : Type 0 where
   pub table : TableId
   pub worker : ℕ
-  pub opening : O
+  pub opening : Option O
   pub own : List (Entry E)
   pub seen : List (Entry E)
 
@@ -42,13 +42,17 @@ pub record DeskList {O E : Type 0} (entries : List (Entry E)) (passes : List (Pa
   pub seen : All (λ pass. StartsWith entries pass.seen) passes
 
 module _ {O E : Type 0} where
+  -- The pass is for the desk of this table, whose book began with this opening.
+  abbrev pub IsOurs : TableId → O → PassView O E → Type 0
+  IsOurs table opening pass = (pass.table ≡ table) × (pass.opening ≡ Some opening)
+
   -- The pass is one that the desk gave.
   abbrev pub IsPassOf : DeskView O → PassView O E → Type 0
-  IsPassOf desk pass = (pass.table ≡ desk.table) × (pass.opening ≡ desk.opening)
+  IsPassOf desk pass = IsOurs desk.table desk.opening pass
 
   -- The pass of the worker of this number, before any turn.
   abbrev pub first_pass : DeskView O → ℕ → PassView O E
-  first_pass desk number = record { table = desk.table; worker = number; opening = desk.opening; own = []; seen = [] }
+  first_pass desk number = record { table = desk.table; worker = number; opening = Some desk.opening; own = []; seen = [] }
 
   -- The passes of a desk in order of the workers' numbers, before any turn.
   abbrev pub first_passes : DeskView O → List (PassView O E)

@@ -1,5 +1,5 @@
 -- What the steps make of the hands that a seat has.
-use Rattle.std.specs.Prelude.{ℕ, List, [], ◌∷◌, ◌++◌, length, take, drop, map}
+use Rattle.std.specs.Prelude.{ℕ, List, [], ◌∷◌, ◌++◌, length, take, drop, map, Option, Some, None}
 use Rattle.turn_desk.specs.declared.book.Entry.{Entry}
 use Rattle.turn_desk.specs.declared.hand.Stage.{Stage}
 use Rattle.turn_desk.specs.declared.hand.Stage.TheVariants.{Rests, Waits, Holds}
@@ -36,7 +36,11 @@ module _ {O E : Type 0} where
   abbrev pub worker_view : O → List (Entry E) → ℕ → List (Entry E) → Stage → List (Hand O E)
   worker_view opening seen number own stage = record { opening = opening; seen = seen; role = Worker number own stage } ∷ []
 
-  -- What the first hand has seen, its own turns, and its ticket.
+  -- What the first hand says: the opening, what it has seen, its own turns, and its ticket.
+  abbrev pub known_opening : List (Hand O E) → Option O
+  known_opening [] = None
+  known_opening (hand ∷ hands) = Some hand.opening
+
   abbrev pub seen_of : List (Hand O E) → List (Entry E)
   seen_of [] = []
   seen_of (hand ∷ hands) = hand.seen
@@ -78,6 +82,6 @@ module _ {O E : Type 0} where
   compared (told ∷ []) = told ∷ []
   compared (told ∷ mine ∷ hands) = record { opening = mine.opening; seen = longer told.seen mine.seen; role = mine.role } ∷ hands
 
-  -- The hand of a pass.
-  abbrev pub hand_of : PassView O E → Hand O E
-  hand_of pass = record { opening = pass.opening; seen = pass.seen; role = Worker pass.worker pass.own Rests }
+  -- The hand of a pass, whose book began with this opening.
+  abbrev pub hand_of : O → PassView O E → Hand O E
+  hand_of opening pass = record { opening = opening; seen = pass.seen; role = Worker pass.worker pass.own Rests }

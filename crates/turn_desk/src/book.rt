@@ -2,6 +2,7 @@
 ghost use Rattle.std.specs.Prelude.{◌≡◌, ◌≢◌, ◌↔◌, List, [], ◌∷◌, ◌++◌};
 
 /// One turn in a book's list: which worker took it, and what it adds.
+#[derive(Debug, Drop)]
 pub struct Entry<E> {
     pub worker: u32,
     pub event: E,

@@ -1,6 +1,7 @@
 //! How the book of a desk comes back.
 ghost use Rattle.std.specs.Prelude.{◌≡◌, ◌<◌, [], ◌∷◌, ◌++◌, length, map, All, Some};
 ghost use Rattle.std.specs.Mem.Slots.{slots_items, slots_len, IsFull};
+ghost use Rattle.turn_desk.specs.Turns.{IsOurs};
 ghost use Rattle.turn_desk.specs.Views.{hand_of};
 
 use crate::book::Book;
@@ -14,9 +15,9 @@ use std::alloc::Global;
 pub(crate) fn gather<B: Book>(board: &Board<B>, mut passes: Passes<B>) -> Place<B>
     requires some { 0 < length passes.items }
     requires words { board.now.table_id.words ≡ 3 }
-    requires passes { All (λ pass. pass.table ≡ board.now.table_id) passes.items }
+    requires passes { All (IsOurs board.now.table_id (B.opening board.now.key.book.value)) passes.items }
     ensures table { result.table_id ≡ board.now.table_id }
-    ensures hands { result.me ≡ (map hand_of passes.items, []) }
+    ensures hands { result.me ≡ (map (hand_of (B.opening board.now.key.book.value)) passes.items, []) }
 {
     let Some(last) = passes.pop() else {
         unreachable!()

@@ -19,7 +19,7 @@ use std::sync::Wait;
 /// A contract sees which desk it is, what the book began with, and how many workers there are.
 #[derive(Drop)]
 pub struct Desk<B: Book> {
-    pub(crate) board: OwnBoard<B>,
+    board: OwnBoard<B>,
 }
 
 impl<B: Book> Model for Desk<B> {
@@ -47,6 +47,8 @@ impl<B: Book> Desk<B> {
         ensures opening { IfOk result (λ opened. opened.0.opening ≡ B.opening book) }
         ensures workers { IfOk result (λ opened. opened.0.workers ≡ workers) }
         ensures passes { IfOk result (λ opened. opened.1.items ≡ first_passes opened.0) }
+        ensures count { IfOk result (λ opened. length opened.1.items ≡ workers) }
+        ensures ours { IfOk result (λ opened. All (IsPassOf opened.0) opened.1.items) }
         ensures err { IfErr result (λ refused. refused.0 ≡ book) }
     {
         let start = Start {
@@ -58,7 +60,7 @@ impl<B: Book> Desk<B> {
         };
         match lay(alloc, book, &start) {
             Ok((board, seat)) => {
-                deal(&board.shared, seat, &start, &mut passes);
+                deal(&board.shared, seat, workers, &mut passes);
                 Ok((Desk { board }, passes))
             }
             Err(book) => Err((book, AllocError)),

@@ -14,3 +14,6 @@ mod steps;
 pub use book::{Book, Entry, Turned};
 pub use desk::Desk;
 pub use pass::{Pass, Passes};
+
+#[cfg(test)]
+mod tests;

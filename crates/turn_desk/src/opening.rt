@@ -9,7 +9,6 @@ use crate::plays::Deal;
 use crate::rule::{Board, OwnBoard, Place, Start};
 use atomic_table::{Refused, Table};
 use std::alloc::Global;
-use std::snapshot::Snapshot;
 
 /// The words, and the slot with the book. The seat has the hands of all workers.
 pub(crate) fn lay<B: Book>(
@@ -44,19 +43,18 @@ pub(crate) fn lay<B: Book>(
 pub(crate) fn deal<B: Book>(
     board: &Board<B>,
     mut seat: Place<B>,
-    start: &Start<B>,
+    workers: u32,
     passes: &mut Passes<B>,
 )
-    requires board { (board.now.table_id.words ≡ 3) × (seat.table_id ≡ board.now.table_id) × (board.now.key ≡ start.now) }
-    requires seat { seat.me ≡ (newcomers (B.opening start.now.book.value) start.now.workers, []) }
-    requires room { (passes.old.items ≡ []) × (vec_len passes.old ≡ 0) × (start.now.workers ≤ vec_capacity passes.old) }
-    ensures { passes.new.items ≡ first_passes (record { table = board.now.table_id; opening = B.opening start.now.book.value; workers = start.now.workers }) }
+    requires board { (board.now.table_id.words ≡ 3) × (seat.table_id ≡ board.now.table_id) }
+    requires seat { seat.me ≡ (newcomers (B.opening board.now.key.book.value) workers, []) }
+    requires room { (passes.old.items ≡ []) × (vec_len passes.old ≡ 0) × (workers ≤ vec_capacity passes.old) }
+    ensures { passes.new.items ≡ first_passes (record { table = board.now.table_id; opening = B.opening board.now.key.book.value; workers = workers }) }
 {
-    for number in 0..start.workers {
+    for number in 0..workers {
         let pass = Pass {
             seat: board.split_seat::<Deal>(&mut seat),
             worker: number,
-            start: Snapshot::of(start),
         };
         passes.push_reserved(pass);
     }

@@ -1,10 +1,8 @@
 //! What one worker has of a desk.
 use crate::book::Book;
 use crate::hand::View;
-use crate::rule::Start;
 use atomic_table::Seat;
 use std::marker::Model;
-use std::snapshot::Snapshot;
 
 /// The right to take turns as one worker. It is good for the desk that gave it.
 ///
@@ -13,7 +11,6 @@ use std::snapshot::Snapshot;
 pub struct Pass<B: Book> {
     pub(crate) seat: Seat<Option<B>, View<B::Opening, B::Event>>,
     pub(crate) worker: u32,
-    pub(crate) start: Snapshot<Start<B>>,
 }
 
 impl<B: Book> Model for Pass<B> {
@@ -23,11 +20,11 @@ impl<B: Book> Model for Pass<B> {
 
     ghost use Rattle.std.specs.Prelude.{◌≡◌, []};
     ghost use Rattle.turn_desk.specs.declared.hand.Stage.TheVariants.{Rests};
-    ghost use Rattle.turn_desk.specs.Views.{worker_view, own_of, seen_of};
+    ghost use Rattle.turn_desk.specs.Views.{worker_view, known_opening, own_of, seen_of};
 
-    ghost view = { λ pass. record { table = pass.seat.table_id; worker = pass.worker; opening = B.opening pass.start.value.book.value; own = own_of pass.seat.me.0; seen = seen_of pass.seat.me.0 } };
+    ghost view = { λ pass. record { table = pass.seat.table_id; worker = pass.worker; opening = known_opening pass.seat.me.0; own = own_of pass.seat.me.0; seen = seen_of pass.seat.me.0 } };
 
-    ghost invariant = { λ pass. pass.seat.me ≡ (worker_view (B.opening pass.start.value.book.value) (seen_of pass.seat.me.0) pass.worker (own_of pass.seat.me.0) Rests, []) };
+    ghost invariant = { λ pass. (opening : B.Opening) × (pass.seat.me ≡ (worker_view opening (seen_of pass.seat.me.0) pass.worker (own_of pass.seat.me.0) Rests, [])) };
 }
 
 /// The passes of a desk.

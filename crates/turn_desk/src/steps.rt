@@ -76,9 +76,8 @@ pub(crate) fn take<B: Book>(board: &Board<B>, seat: &mut Place<B>, worker: u32) 
     ensures seat { IsSameSeat seat.old seat.new }
     ensures turned { (opening : B.Opening) (entries own : List (Entry B.Event)) → HoldsBook B.opening B.entries opening entries worker own entries seat.old.me → Ends B.is_over opening entries worker own result seat.new.me }
 {
-    let mut book = match board.exchange(seat, BOOK, None) {
-        Some(book) => book,
-        None => unreachable!(),
+    let Some(mut book) = board.exchange(seat, BOOK, None) else {
+        unreachable!()
     };
     let turned = book.take_turn(worker);
     match board.exchange(seat, BOOK, Some(book)) {

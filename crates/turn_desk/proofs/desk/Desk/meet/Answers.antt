@@ -16,5 +16,5 @@ load-requires g c = (
   search rules,
   compares_as _ _ _ _ _ _ _ _ _ _ _ _ _
       (ap (λ m. m.0) c.join_seat.ensures.2 ∙ ap (λ m. m.0 ++ c.into.inside.seat.me.0) c.split_seat-witness.ensures.4
-      ∙ joined _ _ _ _ _ _ _ _ c.from.inside.seat.me.0 c.into.inside.seat.me.0 (ap (λ m. m.0) c.from.invariant) (ap (λ m. m.0) c.into.invariant)),
+      ∙ joined _ _ _ _ _ _ _ _ c.from.inside.seat.me.0 c.into.inside.seat.me.0 (ap (λ m. m.0) c.from.invariant.1) (ap (λ m. m.0) c.into.invariant.1)),
 )
