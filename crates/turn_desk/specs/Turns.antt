@@ -1,4 +1,4 @@
--- The list of a desk, and what its passes know of it.
+-- The list of a desk, and what its passes know of it. The rules are this project's own.
 use Rattle.std.specs.Prelude.{◌≡◌, ◌≢◌, ℕ, zero, suc, ◌+◌, ◌==◌, ltb, cond, List, [], ◌∷◌, ◌++◌, length, map, filter, All, AllPairs, Contains, Option, Some}
 use Rattle.atomic_table.specs.Seated.{TableId}
 use Rattle.turn_desk.specs.declared.book.Entry.{Entry}
@@ -22,7 +22,7 @@ pub record DeskView (O : Type 0) : Type 0 where
   pub opening : O
   pub workers : ℕ
 
--- A pass: the desk that it is for, its worker's number, what the book began with (none only where a pass is no desk's), the turns that its worker took, and the entries seen so far.
+-- A pass: the desk that it is for, its worker's number, what the book began with (some, for every pass of a desk), the turns that its worker took, and the entries seen so far.
 pub record PassView (O E : Type 0) : Type 0 where
   pub table : TableId
   pub worker : ℕ
@@ -34,11 +34,15 @@ pub record PassView (O E : Type 0) : Type 0 where
 abbrev pub longer : {X : Type 0} → List X → List X → List X
 longer xs ys = cond (ltb (length xs) (length ys)) ys xs
 
--- The list of a closed desk, with its passes: each pass's own turns stand in it once and in their order, it has no other turns, and what each pass has seen is a beginning of it.
+-- A desk's list is the list of turns in the order in which they were counted. Each pass's own turns stand in it once and in their order, it has no other turns, and what each pass has seen is a beginning of it.
 pub record DeskList {O E : Type 0} (entries : List (Entry E)) (passes : List (PassView O E)) : Type 0 where
+  -- Each pass's own turns are the entries of its worker's number, in their order.
   pub own : All (λ pass. entries_of pass.worker entries ≡ pass.own) passes
+  -- No two passes are of one worker, so that a turn is one pass's own.
   pub once : AllPairs (λ one other. one.worker ≢ other.worker) passes
+  -- Each entry is of one of these workers.
   pub no_others : All (λ entry. Contains (map (λ pass. pass.worker) passes) entry.worker) entries
+  -- What each pass has seen is a beginning of the list.
   pub seen : All (λ pass. StartsWith entries pass.seen) passes
 
 module _ {O E : Type 0} where

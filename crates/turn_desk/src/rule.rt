@@ -1,4 +1,4 @@
-//! The rule of the desk's table, which each step keeps.
+//! The desk's table and its rule, which `specs/Rule.antt` states.
 use crate::book::Book;
 use crate::hand::View;
 use atomic_table::{Seat, Shared, Table, TableRule};
@@ -25,6 +25,7 @@ pub struct Start<B> {
     pub workers: u32,
 }
 
+/// The rule, for the proofs alone.
 pub struct InTurn<B> {
     book: PhantomData<B>,
 }
