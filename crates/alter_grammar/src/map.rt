@@ -1,6 +1,9 @@
 //! Where the values of an altered table's columns come from.
 
-use gho_values::{Kind, Sequence, Value};
+ghost use Rattle.std.specs.Prelude.{◌≡◌, IfOk};
+
+use gho_values::{Duplicate, Kind, Sequence, Value};
+use std::alloc::AllocError;
 
 /// A new column: what it stores, and of what.
 #[derive(Debug, Drop)]
@@ -24,3 +27,22 @@ pub enum Origin {
 
 /// The new columns in order.
 pub type ColumnMap = Sequence<MapColumn>;
+
+impl Duplicate for Origin {
+    fn copy(&self) -> Result<Origin, AllocError> {
+        Ok(match self {
+            Origin::Old(place) => Origin::Old(*place),
+            Origin::Added(value) => Origin::Added(value.copy()?),
+        })
+    }
+}
+
+impl Duplicate for MapColumn {
+    fn copy(&self) -> Result<MapColumn, AllocError> {
+        Ok(MapColumn {
+            kind: self.kind,
+            nullable: self.nullable,
+            origin: self.origin.copy()?,
+        })
+    }
+}

@@ -1,0 +1,46 @@
+//! Who takes turns.
+
+ghost use Rattle.std.specs.Prelude.{◌≡◌, IfOk};
+
+use gho_values::Duplicate;
+use std::alloc::AllocError;
+
+/// Who takes a turn: a part of the tool, or a client of the server.
+#[derive(Clone, Copy, Debug, PartialEq, Eq)]
+pub enum Actor {
+    /// The operator, who commands the tool.
+    Op,
+    /// The inspector, which looks at the tables before and after the migration.
+    Insp,
+    /// The copier, which copies rows chunk by chunk.
+    Copy,
+    /// The applier, which applies logged changes to the new table.
+    Apply,
+    /// The locker, which locks the tables for the cut-over.
+    Lock,
+    /// The renamer, whose RENAME is the cut-over.
+    Ren,
+    /// A client of the server; clients count from 1.
+    Client(u32),
+}
+
+impl Duplicate for Actor {
+    fn copy(&self) -> Result<Actor, AllocError> {
+        Ok(*self)
+    }
+}
+
+/// On which side of a call to the server its session is lost.
+#[derive(Clone, Copy, Debug, PartialEq, Eq)]
+pub enum Side {
+    /// Before the call: the server doesn't do it.
+    Before,
+    /// After the call: the server has done it, and nobody hears the answer.
+    After,
+}
+
+impl Duplicate for Side {
+    fn copy(&self) -> Result<Side, AllocError> {
+        Ok(*self)
+    }
+}

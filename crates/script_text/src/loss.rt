@@ -1,0 +1,34 @@
+//! Lost connections, and waits that end by timeout.
+
+ghost use Rattle.std.specs.Prelude.{◌≡◌, IfOk};
+
+use crate::actor::{Actor, Side};
+use gho_values::Duplicate;
+use std::alloc::AllocError;
+
+/// A turn at which an actor's connection is lost.
+#[derive(Clone, Copy, Debug, PartialEq, Eq)]
+pub enum Loss {
+    /// At the actor's n-th call, counted from 1.
+    Nth {
+        /// Whose connection.
+        actor: Actor,
+        /// Which of its calls.
+        n: u32,
+        /// Before or after the server does the call.
+        side: Side,
+    },
+    /// At this turn, where the actor has a connection then.
+    Turn {
+        /// The turn, counted from 1.
+        turn: u32,
+        /// Whose connection.
+        actor: Actor,
+    },
+}
+
+impl Duplicate for Loss {
+    fn copy(&self) -> Result<Loss, AllocError> {
+        Ok(*self)
+    }
+}

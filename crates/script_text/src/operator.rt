@@ -1,0 +1,47 @@
+//! What the operator commands.
+
+ghost use Rattle.std.specs.Prelude.{◌≡◌, IfOk};
+
+use gho_values::{Duplicate, Sequence};
+use std::alloc::AllocError;
+
+/// A command of the operator to the tool.
+#[derive(Clone, Copy, Debug, PartialEq, Eq)]
+pub enum OperatorWord {
+    /// Hold the copying of rows.
+    Throttle,
+    /// Copy rows again.
+    NoThrottle,
+    /// Copy so many rows a chunk from now on.
+    ChunkSize(u32),
+    /// Cut over as soon as all is copied and applied.
+    Unpostpone,
+    /// Stop at once.
+    Panic,
+    /// Nothing, for a turn.
+    Wait,
+}
+
+impl Duplicate for OperatorWord {
+    fn copy(&self) -> Result<OperatorWord, AllocError> {
+        Ok(*self)
+    }
+}
+
+/// A command, and how many of the operator's turns it takes.
+#[derive(Clone, Copy, Debug, PartialEq, Eq)]
+pub struct Command {
+    /// What is commanded.
+    pub word: OperatorWord,
+    /// How many turns it takes: one, but for a wait.
+    pub units: u32,
+}
+
+impl Duplicate for Command {
+    fn copy(&self) -> Result<Command, AllocError> {
+        Ok(*self)
+    }
+}
+
+/// Commands in order.
+pub type Commands = Sequence<Command>;

@@ -1,0 +1,52 @@
+//! Scripts of clients.
+
+ghost use Rattle.std.specs.Prelude.{◌≡◌, IfOk};
+
+use crate::statement::Statement;
+use gho_values::{Duplicate, Sequence};
+use std::alloc::AllocError;
+
+/// What a line of a script asks for.
+#[derive(Debug, Drop)]
+pub enum ScriptWord {
+    /// BEGIN or START TRANSACTION.
+    Begin,
+    /// COMMIT.
+    Commit,
+    /// ROLLBACK.
+    Rollback,
+    /// A statement.
+    Do(Statement),
+}
+
+impl Duplicate for ScriptWord {
+    fn copy(&self) -> Result<ScriptWord, AllocError> {
+        Ok(match self {
+            ScriptWord::Begin => ScriptWord::Begin,
+            ScriptWord::Commit => ScriptWord::Commit,
+            ScriptWord::Rollback => ScriptWord::Rollback,
+            ScriptWord::Do(statement) => ScriptWord::Do(statement.copy()?),
+        })
+    }
+}
+
+/// A line of a script.
+#[derive(Debug, Drop)]
+pub struct ScriptLine {
+    /// Its number in the script's text, counted from 1.
+    pub line: u32,
+    /// What it asks for.
+    pub word: ScriptWord,
+}
+
+impl Duplicate for ScriptLine {
+    fn copy(&self) -> Result<ScriptLine, AllocError> {
+        Ok(ScriptLine {
+            line: self.line,
+            word: self.word.copy()?,
+        })
+    }
+}
+
+/// The lines of a client's script, in order.
+pub type Script = Sequence<ScriptLine>;

@@ -1,0 +1,216 @@
+//! Statements over one table.
+
+ghost use Rattle.std.specs.Prelude.{◌≡◌, IfOk};
+
+use gho_values::{Duplicate, Name, Names, Row, Sequence, Value};
+use std::alloc::AllocError;
+
+/// A statement (MySQL's manual, "Data Manipulation Statements").
+#[derive(Debug, Drop)]
+pub enum Statement {
+    /// INSERT INTO table [(columns)] VALUES (values).
+    Insert {
+        /// Where the row goes.
+        table: Name,
+        /// The columns that are named, or none where no list is written.
+        columns: Option<Names>,
+        /// The values, in the order of the columns.
+        values: Row,
+    },
+    /// REPLACE INTO table [(columns)] VALUES (values).
+    Replace {
+        /// Where the row goes.
+        table: Name,
+        /// The columns that are named, or none where no list is written.
+        columns: Option<Names>,
+        /// The values, in the order of the columns.
+        values: Row,
+    },
+    /// DELETE FROM table [WHERE condition].
+    Delete {
+        /// Whose rows go.
+        table: Name,
+        /// Which rows go.
+        condition: Condition,
+    },
+    /// UPDATE table SET sets [WHERE condition].
+    Update {
+        /// Whose rows change.
+        table: Name,
+        /// What their columns become.
+        sets: Sets,
+        /// Which rows change.
+        condition: Condition,
+    },
+    /// SELECT shown FROM table [WHERE condition].
+    Select {
+        /// Whose rows are read.
+        table: Name,
+        /// What is shown of them.
+        shown: Shown,
+        /// Which rows are read.
+        condition: Condition,
+    },
+}
+
+/// Which rows a statement meets.
+#[derive(Debug, Drop)]
+pub enum Condition {
+    /// All rows: no condition is written.
+    All,
+    /// Those whose columns equal these values.
+    Equal(Sets),
+    /// Those whose columns lie so.
+    Range(Comparisons),
+}
+
+/// A column and a value: what it becomes in SET, what it equals in a condition.
+#[derive(Debug, Drop)]
+pub struct Set {
+    /// The column's name, as it was written.
+    pub column: Name,
+    /// The value.
+    pub value: Value,
+}
+
+/// Columns and values in order.
+pub type Sets = Sequence<Set>;
+
+/// How a column lies to a value.
+#[derive(Debug, Drop)]
+pub struct Comparison {
+    /// The column's name, as it was written.
+    pub column: Name,
+    /// Which side it lies on.
+    pub sign: Sign,
+    /// The value.
+    pub value: Value,
+}
+
+/// Comparisons in order. `c BETWEEN a AND b` is the two of `c >= a` and `c <= b`.
+pub type Comparisons = Sequence<Comparison>;
+
+/// The sign of a comparison.
+#[derive(Clone, Copy, Debug, PartialEq, Eq)]
+pub enum Sign {
+    /// `<`
+    Less,
+    /// `<=`
+    AtMost,
+    /// `>`
+    More,
+    /// `>=`
+    AtLeast,
+}
+
+/// What SELECT shows.
+#[derive(Debug, Drop)]
+pub enum Shown {
+    /// `*`: the values of all columns.
+    All,
+    /// The values of these columns, in this order.
+    Columns(Names),
+    /// COUNT(*): how many rows there are.
+    Count,
+}
+
+impl Duplicate for Set {
+    fn copy(&self) -> Result<Set, AllocError> {
+        Ok(Set {
+            column: self.column.copy()?,
+            value: self.value.copy()?,
+        })
+    }
+}
+
+impl Duplicate for Sign {
+    fn copy(&self) -> Result<Sign, AllocError> {
+        Ok(*self)
+    }
+}
+
+impl Duplicate for Comparison {
+    fn copy(&self) -> Result<Comparison, AllocError> {
+        Ok(Comparison {
+            column: self.column.copy()?,
+            sign: self.sign,
+            value: self.value.copy()?,
+        })
+    }
+}
+
+impl Duplicate for Condition {
+    fn copy(&self) -> Result<Condition, AllocError> {
+        Ok(match self {
+            Condition::All => Condition::All,
+            Condition::Equal(sets) => Condition::Equal(sets.copy()?),
+            Condition::Range(comparisons) => Condition::Range(comparisons.copy()?),
+        })
+    }
+}
+
+impl Duplicate for Shown {
+    fn copy(&self) -> Result<Shown, AllocError> {
+        Ok(match self {
+            Shown::All => Shown::All,
+            Shown::Columns(names) => Shown::Columns(names.copy()?),
+            Shown::Count => Shown::Count,
+        })
+    }
+}
+
+impl Duplicate for Statement {
+    fn copy(&self) -> Result<Statement, AllocError> {
+        Ok(match self {
+            Statement::Insert {
+                table,
+                columns,
+                values,
+            } => Statement::Insert {
+                table: table.copy()?,
+                columns: copy_of_columns(columns)?,
+                values: values.copy()?,
+            },
+            Statement::Replace {
+                table,
+                columns,
+                values,
+            } => Statement::Replace {
+                table: table.copy()?,
+                columns: copy_of_columns(columns)?,
+                values: values.copy()?,
+            },
+            Statement::Delete { table, condition } => Statement::Delete {
+                table: table.copy()?,
+                condition: condition.copy()?,
+            },
+            Statement::Update {
+                table,
+                sets,
+                condition,
+            } => Statement::Update {
+                table: table.copy()?,
+                sets: sets.copy()?,
+                condition: condition.copy()?,
+            },
+            Statement::Select {
+                table,
+                shown,
+                condition,
+            } => Statement::Select {
+                table: table.copy()?,
+                shown: shown.copy()?,
+                condition: condition.copy()?,
+            },
+        })
+    }
+}
+
+fn copy_of_columns(columns: &Option<Names>) -> Result<Option<Names>, AllocError>
+    ensures { IfOk result (λ copy. copy ≡ columns.now) }
+{
+    match columns {
+        Some(names) => Ok(Some(names.copy()?)),
+        None => Ok(None),
+    }
+}
