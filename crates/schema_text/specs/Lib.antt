@@ -1,0 +1,11 @@
+pub mod Clustering
+pub mod Columns
+pub mod Declaring
+pub mod Defaults
+pub mod Keys
+pub mod Limits
+pub mod Options
+pub mod Parts
+pub mod Reading
+pub mod Storing
+pub mod Written
