@@ -20,3 +20,6 @@ pub use pieces::{
 pub use scope::{is_no_item, misfit};
 pub use token::Token;
 pub use tokens::{TextWords, text_words};
+
+#[cfg(test)]
+mod tests;
