@@ -6,6 +6,7 @@ pub mod Keys
 pub mod Limits
 pub mod Options
 pub mod Parts
+pub mod Printing
 pub mod Reading
 pub mod Storing
 pub mod Written
