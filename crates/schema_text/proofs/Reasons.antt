@@ -9,14 +9,14 @@ use Rattle.schema_text.specs.Limits.{is_column_name, is_tool_name, is_table_name
 use Rattle.schema_text.specs.declared.parts.Parts.{Parts}
 use Rattle.schema_text.specs.Declaring.{Reasons, first_reason, size_reasons}
 
-none_first : (holds : Bool) (code : SchemaCode) (others : Reasons) → first_reason ((holds, code) ∷ others) ≡ None → (holds ≡ false) × (first_reason others ≡ None)
+none_first : (holds : Bool) (code : SchemaCode) (others : Reasons SchemaCode) → first_reason ((holds, code) ∷ others) ≡ None → (holds ≡ false) × (first_reason others ≡ None)
 none_first true code others e = absurd cc
 none_first false code others e = (refl, e)
 
-abbrev fourth : Parts → Reasons
+abbrev fourth : Parts → Reasons SchemaCode
 fourth parts = (ltb 8 (length parts.primaries + count_by (λ key. key.is_unique) parts.keys) || ltb 8 (count_by (λ key. not key.is_unique) parts.keys), TooManyKeys) ∷ []
 
-abbrev third : Parts → Reasons
+abbrev third : Parts → Reasons SchemaCode
 third parts = (ltb 64 (length parts.columns), TooManyColumns) ∷ fourth parts
 
 -- a table that isn't too large has at most 64 columns

@@ -17,3 +17,11 @@ may_cluster columns index = is_none index.name || list_all (λ place. is_not_nul
 -- *Clustered key*, by its place among the unique keys: the PRIMARY KEY, which stands first, else the first whose columns are all NOT NULL; none where there is no such key.
 unfoldable pub clustered_place : Schema → Option ℕ
 clustered_place schema = position (may_cluster schema.columns) schema.uniques
+
+abbrev pub unique_at : Schema → Option ℕ → Option Index
+unique_at schema (Some place) = slice_get schema.uniques place
+unique_at schema None = None
+
+-- the clustered key itself
+unfoldable pub clustered_key : Schema → Option Index
+clustered_key schema = unique_at schema (clustered_place schema)

@@ -23,16 +23,16 @@ use Rattle.schema_text.specs.Parts.{parts_of}
 -- ---- reasons
 
 -- reasons to refuse and the refusal of each, in order
-abbrev pub Reasons : Type 0
-Reasons = List (Bool × SchemaCode)
+abbrev pub Reasons : Type 0 → Type 0
+Reasons C = List (Bool × C)
 
 -- the refusal of the first reason that holds
-abbrev pub first_reason : Reasons → Option SchemaCode
+abbrev pub first_reason : {C : Type 0} → Reasons C → Option C
 first_reason [] = None
 first_reason (reason ∷ reasons) = if reason.0 then Some reason.1 else first_reason reasons
 
 -- refused for that reason, where one holds
-abbrev pub unless : {A : Type 0} → Option SchemaCode → Result A SchemaCode → Result A SchemaCode
+abbrev pub unless : {A C : Type 0} → Option C → Result A C → Result A C
 unless (Some code) other = Err code
 unless None other = other
 
@@ -40,7 +40,7 @@ abbrev pub column_names : List WrittenColumn → List (List ℕ)
 column_names columns = map (λ column. column.name) columns
 
 -- Names of the table and its columns that are empty or too long come first, then a kept name, then too many columns or keys.
-abbrev pub size_reasons : List ℕ → List ℕ → Parts → Reasons
+abbrev pub size_reasons : List ℕ → List ℕ → Parts → Reasons SchemaCode
 size_reasons migrated name parts =
     (not (is_table_name (is_tool_name migrated name) name && list_all (λ column. is_column_name column.name) parts.columns), NameTooLong)
     ∷ (is_reserved (is_tool_name migrated name) name, ReservedName)
@@ -53,7 +53,7 @@ abbrev pub are_known : List (List ℕ) → List (List ℕ) → Bool
 are_known names columns = list_all (is_among names) columns
 
 -- Then two columns, two PRIMARY KEYs or two keys of one name, then a key of no column.
-abbrev pub name_reasons : List (List ℕ) → List (List (List ℕ)) → NamedKeys → Reasons
+abbrev pub name_reasons : List (List ℕ) → List (List (List ℕ)) → NamedKeys → Reasons SchemaCode
 name_reasons names primaries named =
     (not (names_differ names) || nat_lt 1 (length primaries) || not (names_differ named.names), RepeatedName)
     ∷ (not (list_all (are_known names) primaries && list_all (λ key. are_known names key.text.columns) named.keys), UnknownKeyColumn)

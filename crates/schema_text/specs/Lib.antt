@@ -3,6 +3,7 @@ pub mod Columns
 pub mod Declaring
 pub mod Defaults
 pub mod Keys
+pub mod Lawful
 pub mod Limits
 pub mod Options
 pub mod Parts

@@ -14,7 +14,7 @@ mod reading;
 mod table;
 mod written;
 
-pub use clustering::clustered_place;
+pub use clustering::{are_not_null, clustered_key, clustered_place};
 pub use defaults::{defaults_fit, stored_default};
 pub use keys::{free_name, is_among, place_of};
 pub use limits::is_column_name;
