@@ -10,3 +10,6 @@ mod removing;
 
 pub use alter_schema::{AlterCode, AlterFault};
 pub use reading::read_alter;
+
+#[cfg(test)]
+mod tests;

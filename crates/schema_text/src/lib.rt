@@ -21,3 +21,6 @@ pub use limits::is_column_name;
 pub use printing::print_schema;
 pub use reading::read_schema;
 pub use table_words::{SchemaCode, SchemaFault};
+
+#[cfg(test)]
+mod tests;
