@@ -55,7 +55,7 @@ behind-within : (count : ℕ) (o : Option ℕ) → ((place : ℕ) → o ≡ Some
 behind-within count (Some place) within = let lt : place < count = within place refl in omega arith
 behind-within count None within = omega arith
 
-spot_place-within : (columns : List Column) (spot : Spot) (place : ℕ) → place ≤ length columns → spot_place columns spot place ≤ length columns
+pub spot_place-within : (columns : List Column) (spot : Spot) (place : ℕ) → place ≤ length columns → spot_place columns spot place ≤ length columns
 unfolding spot_place
 spot_place-within columns Unsaid place le = le
 spot_place-within columns First place le = omega arith
@@ -119,14 +119,14 @@ renamed_in-stands standing place column stands =
 
 -- ---- the clauses
 
-fitting-is : (standing next : Standing) → fitting standing ≡ Ok next → standing ≡ next
+pub fitting-is : (standing next : Standing) → fitting standing ≡ Ok next → standing ≡ next
 fitting-is standing next e = (let_through (defaults_fit standing.schema.columns) standing next codes.Default e).1
 
 or_false : (a b : Bool) → (a || b) ≡ false → a ≡ false
 or_false true b e = absurd cc
 or_false false b e = refl
 
-few_enough : (columns : List Column) (written : NewColumn) (spot : Spot) → first_reason (add_reasons columns written spot) ≡ None → length columns < 64
+pub few_enough : (columns : List Column) (written : NewColumn) (spot : Spot) → first_reason (add_reasons columns written spot) ≡ None → length columns < 64
 few_enough columns written spot none =
     let limit = leb 64 (length columns) || not (is_column_name written.name) in
     let second = none_first (not (is_spot columns spot)) codes.UnknownName ((has_column columns written.name, codes.RepeatedName) ∷ (limit, codes.Scope) ∷ []) none in
@@ -154,7 +154,7 @@ renamed_at-stands approve standing next new (Some found) stands e =
     let let_in = unless_ok (first_reason (rename_reasons approve standing.schema.columns found.0 found.1.name new)) (Ok (renamed_in standing found.0 (with_name found.1 new))) next e in
     subst Stands (ok_is {C = AlterCode} (renamed_in standing found.0 (with_name found.1 new)) next let_in.1) (renamed_in-stands standing found.0 (with_name found.1 new) stands)
 
-approved-is : (b : Bool) (standing next : Standing) → unless_unapproved b standing ≡ Ok next → standing ≡ next
+pub approved-is : (b : Bool) (standing next : Standing) → unless_unapproved b standing ≡ Ok next → standing ≡ next
 approved-is true standing next e = absurd cc
 approved-is false standing next e = cc
 
