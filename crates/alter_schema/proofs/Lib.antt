@@ -1,0 +1,5 @@
+pub mod KeyPlaces
+pub mod Rest
+pub mod Steps
+pub mod StepsSoFar
+pub mod Tables
