@@ -1,2 +1,3 @@
+mod ClientTexts
 mod Members
 mod RowTexts

@@ -1,11 +1,11 @@
 //! The scripts of a plan's clients.
 
-ghost use Rattle.std.specs.Prelude.{◌≡◌, option_map, slice_get, option_copied};
+ghost use Rattle.std.specs.Prelude.{◌≡◌, nat_lt, option_map, slice_get, option_copied};
 ghost use Rattle.gho_schema.specs.Rows.{key_places};
 ghost use Rattle.std.specs.List.{list_all};
 ghost use Rattle.toml.specs.View.{view, items_view};
 ghost use Rattle.plan_text.specs.Documents.{Finds};
-ghost use Rattle.plan_text.specs.Clients.{is_column, is_key_column, is_on_key, is_built, is_built_word, client_of, clients_of};
+ghost use Rattle.plan_text.specs.Clients.{is_column, is_key_column, is_on_key, is_built, is_built_word, built_script, client_of, clients_of, line_count, few_lines, clients_in, clients_behind};
 
 use crate::fault::{PlanFault, Refusal};
 use crate::plan::Scripts;
@@ -103,6 +103,16 @@ fn is_built_script(schema: &Schema, script: &[ScriptLine]) -> bool
     script.iter().all(|line| is_built_line(schema, line))
 }
 
+fn built_script(schema: &Schema, script: Script) -> Result<Script, PlanFault>
+    ensures { Finds (λ script. script) result (built_script schema.now script) }
+{
+    if is_built_script(schema, script.as_slice()) {
+        Ok(script)
+    } else {
+        Err(NOT_BUILT)
+    }
+}
+
 #[tactic(auto, unfolding(crate::specs::Clients::client_of))]
 fn client_of(alloc: Global, schema: &Schema, item: &Value) -> Result<Script, PlanFault>
     ensures { Finds (λ script. script) result (client_of schema.now (view item.now)) }
@@ -111,11 +121,7 @@ fn client_of(alloc: Global, schema: &Schema, item: &Value) -> Result<Script, Pla
         return Err(NOT_BUILT);
     };
     let script = read_script(alloc, text)?;
-    if is_built_script(schema, script.as_slice()) {
-        Ok(script)
-    } else {
-        Err(NOT_BUILT)
-    }
+    built_script(schema, script)
 }
 
 fn clients_of(alloc: Global, schema: &Schema, items: &[Value]) -> Result<Scripts, PlanFault>
@@ -127,4 +133,56 @@ fn clients_of(alloc: Global, schema: &Schema, items: &[Value]) -> Result<Scripts
         scripts.push(script)?;
     }
     Ok(scripts)
+}
+
+/// Whether the scripts have more than 50,000 lines together.
+fn has_many_lines(scripts: &[Script]) -> bool
+    ensures { result ≡ nat_lt STATEMENT_LIMIT (line_count scripts.now) }
+{
+    let mut left = STATEMENT_LIMIT;
+    for script in scripts {
+        if left < script.len() {
+            return true;
+        }
+        left -= script.len();
+    }
+    false
+}
+
+/// The scripts, where they have at most 50,000 lines together.
+fn few_lines(scripts: Scripts) -> Result<Scripts, PlanFault>
+    ensures { Finds (λ scripts. scripts) result (few_lines scripts) }
+{
+    if has_many_lines(scripts.as_slice()) {
+        Err(NOT_BUILT)
+    } else {
+        Ok(scripts)
+    }
+}
+
+fn clients_in(alloc: Global, schema: &Schema, items: &[Value]) -> Result<Scripts, PlanFault>
+    ensures { Finds (λ scripts. scripts) result (clients_in schema.now (items_view items.now)) }
+{
+    if items.len() > CLIENT_LIMIT {
+        return Err(NOT_BUILT);
+    }
+    let scripts = clients_of(alloc, schema, items)?;
+    few_lines(scripts)
+}
+
+/// The scripts of a plan's clients.
+pub fn clients_behind(
+    alloc: Global,
+    schema: &Schema,
+    clients: Option<&Value>,
+) -> Result<Scripts, PlanFault>
+    ensures { Finds (λ scripts. scripts) result (clients_behind schema.now (option_map (λ value. view value.now) clients.entry)) }
+{
+    let Some(value) = clients else {
+        return Ok(Sequence::new(alloc));
+    };
+    match value.as_array() {
+        Some(items) => clients_in(alloc, schema, items.as_slice()),
+        None => Err(NOT_BUILT),
+    }
 }
