@@ -1,3 +1,4 @@
 mod ClientTexts
 mod Members
+mod RowOrder
 mod RowTexts

@@ -2,6 +2,7 @@
 #![tactic(auto)]
 
 mod clients;
+mod document;
 mod fault;
 mod keys;
 mod plan;
@@ -10,5 +11,6 @@ mod rows;
 /// How many bytes a plan has at most: 16 MiB. This project rule.
 pub const PLAN_LIMIT: usize = 16_777_216;
 
+pub use document::read_plan;
 pub use fault::{PlanFault, Refusal};
 pub use plan::{Plan, Scripts};
