@@ -36,7 +36,7 @@ pub goes_on : (schema : Schema) (front : List Lines) (script : Lines) (items : L
 unfolding clients_of
 goes_on schema front script items i x total lt is h so_far =
     let one : with_front front (clients_of schema (items_view (drop i items))) ≡ with_front (front ++ (script ∷ [])) (clients_of schema (items_view (drop (i + 1) items))) =
-      rw (from_here items i x lt is, h) (regroup front script (clients_of schema (items_view (drop (i + 1) items)))) in
+    rw (from_here items i x lt is, h) (regroup front script (clients_of schema (items_view (drop (i + 1) items)))) in
     sym one ∙ so_far
 
 pub fails : (e : PlanFault) (schema : Schema) (front : List Lines) (items : List TomlValue) (i : ℕ) (x : TomlValue) (total : Option (List Lines))

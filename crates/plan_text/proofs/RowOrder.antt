@@ -64,4 +64,3 @@ behind_fit read keeps schema count None new is = subst (Fits schema) (some_is []
 behind_fit read keeps schema count (Some value) new is =
     let items = bound (as_array value) (rows_in schema) new (counted (count == 2) (as_array value >>= rows_in schema) new is) in
     in_fit read keeps schema items.x new items.goes_on
-

@@ -92,8 +92,8 @@ plan_at members = do
   new ← altered table.schema clauses
   clients ← clients_behind table.schema (get_member (codes "clients") members)
   if is_first_version members && member_count members == key_number (get_member (codes "clients") members)
-    then Some (record { table = name; alter = clauses; tables = table ∷ []; clients = clients })
-    else None
+      then Some (record { table = name; alter = clauses; tables = table ∷ []; clients = clients })
+      else None
 
 -- the document that bytes spell, where they are one
 unfoldable pub document : List ℕ → Option Members
@@ -123,4 +123,3 @@ abbrev pub Says : {X Y : Type 0} → (X → Y) → Result X PlanFault → Result
 Says view (Ok x) said = said ≡ Ok (view x)
 Says view (Err faults.Memory) said = Unit {0}
 Says view (Err (faults.Refused refusal)) said = said ≡ Err refusal
-

@@ -7,12 +7,12 @@ ghost use Rattle.toml.specs.Data.{as_array, get_member};
 ghost use Rattle.plan_text.specs.Plans.{rows_behind, table_at, key_number, is_first_version, plan_at, document, document_in, reads, Says};
 ghost use Rattle.plan_text.specs.Documents.{Finds, member_count};
 
-use crate::plan::Plan;
-use crate::fault::{PlanFault, Refusal};
-use crate::keys::{is_first_version, key_count, member_at, tables_at, text_at};
-use crate::rows::rows_in;
 use crate::PLAN_LIMIT;
 use crate::clients::clients_behind;
+use crate::fault::{PlanFault, Refusal};
+use crate::keys::{is_first_version, key_count, member_at, tables_at, text_at};
+use crate::plan::Plan;
+use crate::rows::rows_in;
 use alter_grammar::{altered, read_alter};
 use gho_schema::laws::{put_keeps_order, read_rows_fit};
 use gho_schema::{Schema, read_schema};
@@ -89,8 +89,7 @@ fn key_number(clients: Option<&Value>) -> usize
 fn has_plan_keys(document: &TomlTable) -> bool
     ensures { result ≡ (is_first_version (table_view document.now) && member_count (table_view document.now) == key_number (get_member (codes "clients") (table_view document.now))) }
 {
-    is_first_version(document)
-        && key_count(document) == key_number(member_at(document, "clients"))
+    is_first_version(document) && key_count(document) == key_number(member_at(document, "clients"))
 }
 
 #[tactic(auto, unfolding(crate::specs::Plans::plan_at))]

@@ -42,7 +42,7 @@ pub struct Server {
 impl Model for Server {
     ghost use Rattle.std.specs.Prelude.{[]};
     ghost use Rattle.gho_schema.specs.Rows.{key_places};
-ghost use Rattle.row_store.specs.Databases.{database};
+    ghost use Rattle.row_store.specs.Databases.{database};
     ghost use Rattle.server_words.specs.States.{State};
     ghost use Rattle.server_core.specs.Views.{IsView};
 
@@ -132,7 +132,11 @@ impl Server {
     {
         let sessions = self.sessions.as_slice();
         prepare(alloc, &self.tables, sessions, &mut self.view, session)?;
-        let said = says(alloc, seen(&self.tables, sessions, &self.view, session), statement)?;
+        let said = says(
+            alloc,
+            seen(&self.tables, sessions, &self.view, session),
+            statement,
+        )?;
         self.write(alloc, session, said.events)?;
         Ok(said.answer)
     }
@@ -170,7 +174,8 @@ impl Server {
             &mut self.view,
             session,
         )?;
-        self.log.reserve(writes_of(self.sessions.as_slice(), session).len())?;
+        self.log
+            .reserve(writes_of(self.sessions.as_slice(), session).len())?;
         let tables = mem::replace(&mut self.tables, Tables::new(alloc));
         self.tables = settled(tables, self.sessions.as_slice(), self.view.take(), session);
         let mut writes = rest(alloc, &mut self.sessions, session).into_vec();

@@ -1,7 +1,6 @@
 use Rattle.std.proofs.Common.{◌≡◌, false, nat_lt, length, arith}
 use Rattle.std.proofs.lemmas.Bool.Decides.{nat_tests}
 use Rattle.plan_text.proofs.Members.{item_count-view}
-
 use Rattle.plan_text.proofs.clients.clients_in.Goals as goal
 
 pub returns-then-items-gt-CLIENT_LIMIT : goal.returns-then-items-gt-CLIENT_LIMIT

@@ -1,5 +1,3 @@
-
-
 use Rattle.plan_text.proofs.RowOrder.{Fits, behind_fit}
 use Rattle.plan_text.proofs.document.table_at.Goals as goal
 
