@@ -1,5 +1,5 @@
 -- Taking apart an answer that was given step by step.
-use Rattle.std.proofs.Common.{◌≡◌, Bool, true, false, cond, List, [], ◌∷◌, Option, Some, None, Result, Ok, Err, refl}
+use Rattle.std.proofs.Common.{◌≡◌, Bool, true, false, cond, ◌∷◌, Option, Some, None, Result, Ok, Err, refl}
 use Rattle.table_words.specs.Reads.{◌>>=◌}
 use Rattle.schema_text.specs.Declaring.{Reasons, first_reason, unless}
 

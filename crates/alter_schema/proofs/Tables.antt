@@ -1,9 +1,9 @@
 -- A table stands after each clause that is taken.
-use Rattle.std.proofs.Common.{◌≡◌, ℕ, suc, ◌+◌, ◌-◌, ◌<◌, ◌≤◌, Bool, true, false, not, ◌&&◌, ◌||◌, cond, leb, ltb, List, [], ◌∷◌, ◌++◌, length, Option, Some, None, Result, Ok, Err, refl, sym, ap, subst, ◌∙◌, arith, unwrap_or}
+use Rattle.std.proofs.Common.{◌≡◌, ℕ, suc, ◌+◌, ◌-◌, ◌<◌, ◌≤◌, Bool, true, false, not, ◌||◌, leb, List, [], ◌∷◌, length, Option, Some, None, Ok, refl, sym, ap, subst, ◌∙◌, arith, unwrap_or}
 use Rattle.std.specs.Prelude.{slice_set}
-use Rattle.std.specs.List.{insert, remove, filter_map, slice_get, AllByRecursion}
+use Rattle.std.specs.List.{insert, remove, AllByRecursion}
 use Rattle.std.proofs.lemmas.Bool.{leb-false}
-use Rattle.std.proofs.lemmas.List.{length-set, length-append}
+use Rattle.std.proofs.lemmas.List.{length-set}
 use Rattle.std.proofs.lemmas.List.Edits.{length-insert, length-remove}
 use Rattle.gho_schema.specs.declared.schema.Column.{Column}
 use Rattle.gho_schema.specs.declared.schema.Index.{Index}
@@ -16,7 +16,7 @@ use Rattle.alter_grammar.specs.declared.clause.Spot.{Spot}
 use Rattle.alter_grammar.specs.declared.clause.Spot.TheVariants.{Unsaid, First, After}
 use Rattle.table_words.specs.Reads.{◌>>=◌}
 use Rattle.schema_text.specs.Clustering.{clustered_place}
-use Rattle.schema_text.specs.Declaring.{Reasons, first_reason, unless}
+use Rattle.schema_text.specs.Declaring.{first_reason}
 use Rattle.schema_text.specs.Defaults.{defaults_fit}
 use Rattle.schema_text.specs.Lawful.{IsKey, IsLawful}
 use Rattle.schema_text.specs.Limits.{is_column_name}
@@ -24,7 +24,7 @@ use Rattle.alter_schema.specs.declared.code.AlterCode.{AlterCode}
 use Rattle.alter_schema.specs.declared.code.AlterCode.TheVariants as codes
 use Rattle.alter_schema.specs.declared.places.PlaceChange.TheVariants.{Added, Dropped, Moved}
 use Rattle.alter_schema.specs.declared.standing.Standing.{Standing}
-use Rattle.alter_schema.specs.Altering.{step, steps}
+use Rattle.alter_schema.specs.Altering.{step}
 use Rattle.alter_schema.specs.Changing.{add_reasons, added, dropped_at, dropped, rename_reasons, with_name, renamed_in, renamed_at, renamed, change_reasons, changed_nullable, changed_in, is_unapproved, unless_unapproved, changed_column, changed_at, changed}
 use Rattle.alter_schema.specs.Columns.{column_place, has_column, beside, found_at, column_named, is_in_keys, is_spot, behind, spot_place, column_of, fitting}
 use Rattle.alter_schema.specs.Indexing.{index_name, index_reasons, index_of, with_index, indexed_as, indexed, index_place, is_clustered, without_unique, without_index, unindexed_at, unindexed}

@@ -1,7 +1,6 @@
 -- *Altered schema*: what the clauses of an ALTER make of a schema, one after the other, and where the values of the new columns come from.
-use Rattle.std.specs.Prelude.{ℕ, ◌==◌, Bool, true, false, not, ◌&&◌, List, [], ◌∷◌, length, unwrap_or, Option, Some, None, Result, Ok, Err}
+use Rattle.std.specs.Prelude.{ℕ, ◌==◌, Bool, true, false, not, ◌&&◌, List, [], ◌∷◌, length, unwrap_or, Option, Some, None, Result, Ok}
 use Rattle.std.specs.List.{list_all, slice_get}
-use Rattle.std.specs.Str.{bytes_eq}
 use Rattle.gho_values.specs.declared.value.Value.{Value}
 use Rattle.gho_values.specs.declared.value.Value.TheVariants.{Null}
 use Rattle.gho_schema.specs.declared.schema.Column.{Column}
@@ -40,21 +39,29 @@ steps approve standing (clause ∷ clauses) = do
 
 -- ---- the result
 
--- the two keys are one key of a table, which is known by its name
-abbrev pub same_key : Option (List ℕ) → Option (List ℕ) → Bool
-same_key None None = true
-same_key (Some a) (Some b) = bytes_eq a b
-same_key a b = false
+-- the column's values come from the old column at this place
+abbrev pub is_origin : Option (Option ℕ) → ℕ → Bool
+is_origin (Some (Some place)) before = place == before
+is_origin (Some None) before = false
+is_origin None before = false
 
-abbrev pub keeps_key : List Column → Option Index → Option Index → Bool
-keeps_key columns (Some old) (Some new) = same_key old.name new.name && list_all (λ place. is_not_null (slice_get columns place)) new.places
-keeps_key columns old new = false
+-- the columns at the first places are, one by one, the old columns at the others
+unfoldable pub same_columns : List (Option ℕ) → List ℕ → List ℕ → Bool
+same_columns origins [] [] = true
+same_columns origins [] (before ∷ others) = false
+same_columns origins (place ∷ places) [] = false
+same_columns origins (place ∷ places) (before ∷ others) = is_origin (slice_get origins place) before && same_columns origins places others
+
+-- the clustered key has the columns that it had, and none of them may be null
+abbrev pub keeps_key : Standing → Option Index → Option Index → Bool
+keeps_key standing (Some old) (Some new) = same_columns standing.origins new.places old.places && list_all (λ place. is_not_null (slice_get standing.schema.columns place)) new.places
+keeps_key standing old new = false
 
 -- A table without columns comes first, then one whose clustered key is another or may be null.
-abbrev pub result_reasons : Schema → Schema → Reasons AlterCode
-result_reasons old new =
-    (length new.columns == 0, codes.AllColumnsDropped)
-    ∷ (not (keeps_key new.columns (clustered_key old) (clustered_key new)), codes.ClusteredKeyChange)
+abbrev pub result_reasons : Schema → Standing → Reasons AlterCode
+result_reasons old standing =
+    (length standing.schema.columns == 0, codes.AllColumnsDropped)
+    ∷ (not (keeps_key standing (clustered_key old) (clustered_key standing.schema)), codes.ClusteredKeyChange)
     ∷ []
 
 -- an added column's values are its default
@@ -68,7 +75,7 @@ map_of (column ∷ columns) (origin ∷ origins) = record { kind = column.kind; 
 map_of columns origins = []
 
 abbrev pub result_of : Schema → Standing → Result (Schema × List MapColumn) AlterCode
-result_of old standing = unless (first_reason (result_reasons old standing.schema)) (Ok (standing.schema, map_of standing.schema.columns standing.origins))
+result_of old standing = unless (first_reason (result_reasons old standing)) (Ok (standing.schema, map_of standing.schema.columns standing.origins))
 
 -- The new schema and the map of its columns, or why the ALTER is refused; `approve` lets columns get other names.
 unfoldable pub altered : Bool → Schema → List Clause → Result (Schema × List MapColumn) AlterCode

@@ -1,9 +1,10 @@
 //! The schema that the clauses of an ALTER leave.
 
 ghost use Rattle.std.specs.Prelude.{◌≡◌, option_map, IfOk};
+ghost use Rattle.std.specs.List.{slice_get};
 ghost use Rattle.schema_text.specs.Declaring.{first_reason};
 ghost use Rattle.schema_text.specs.Lawful.{IsLawful};
-ghost use Rattle.alter_schema.specs.Altering.{step, steps, same_key, keeps_key, result_reasons, result_of, altered};
+ghost use Rattle.alter_schema.specs.Altering.{step, steps, is_origin, same_columns, keeps_key, result_reasons, result_of, altered};
 ghost use Rattle.alter_schema.specs.Codes.{Answers};
 ghost use Rattle.alter_schema.specs.Standing.{start, Stands};
 
@@ -16,8 +17,7 @@ use crate::mapping::map_of;
 use crate::renaming::renamed;
 use crate::standing::Standing;
 use alter_grammar::{Clause, Clauses, ColumnMap};
-use gho_schema::{Column, Index, Schema};
-use gho_values::Name;
+use gho_schema::{Index, Schema};
 use schema_text::{are_not_null, clustered_key};
 use std::alloc::Global;
 
@@ -60,34 +60,50 @@ fn steps(
     Ok(standing)
 }
 
-fn same_key(a: &Option<Name>, b: &Option<Name>) -> bool
-    ensures { result ≡ same_key a.now b.now }
+fn is_origin(origins: &[Option<u32>], place: u32, before: u32) -> bool
+    ensures { result ≡ is_origin (slice_get origins.now place) before }
 {
-    match (a, b) {
-        (None, None) => true,
-        (Some(a), Some(b)) => a.as_str() == b.as_str(),
+    match origins.get(place as usize) {
+        Some(Some(old)) => *old == before,
         _ => false,
     }
 }
 
-fn keeps_key(columns: &[Column], old: Option<&Index>, new: Option<&Index>) -> bool
-    ensures { result ≡ keeps_key columns.now (option_map (λ index. index.now) old.entry) (option_map (λ index. index.now) new.entry) }
+/// Whether the columns at these places are, one by one, the old columns at the others.
+fn same_columns(origins: &[Option<u32>], places: &[u32], old: &[u32]) -> bool
+    ensures { result ≡ same_columns origins.now places.now old.now }
+{
+    if places.len() != old.len() {
+        return false;
+    }
+    for (i, place) in places.iter().enumerate() {
+        if !is_origin(origins, *place, old[i]) {
+            return false;
+        }
+    }
+    true
+}
+
+fn keeps_key(standing: &Standing, old: Option<&Index>, new: Option<&Index>) -> bool
+    ensures { result ≡ keeps_key standing.now (option_map (λ index. index.now) old.entry) (option_map (λ index. index.now) new.entry) }
 {
     match (old, new) {
         (Some(old), Some(new)) => {
-            same_key(&old.name, &new.name) && are_not_null(columns, new.places.as_slice())
+            let places = new.places.as_slice();
+            same_columns(standing.origins.as_slice(), places, old.places.as_slice())
+                && are_not_null(standing.schema.columns.as_slice(), places)
         }
         _ => false,
     }
 }
 
-fn result_reason(old: &Schema, new: &Schema) -> Option<AlterCode>
-    ensures { result ≡ first_reason (result_reasons old.now new.now) }
+fn result_reason(old: &Schema, standing: &Standing) -> Option<AlterCode>
+    ensures { result ≡ first_reason (result_reasons old.now standing.now) }
 {
-    let columns = new.columns.as_slice();
-    if columns.is_empty() {
+    let schema = &standing.schema;
+    if schema.columns.is_empty() {
         Some(AlterCode::AllColumnsDropped)
-    } else if !keeps_key(columns, clustered_key(old), clustered_key(new)) {
+    } else if !keeps_key(standing, clustered_key(old), clustered_key(schema)) {
         Some(AlterCode::ClusteredKeyChange)
     } else {
         None
@@ -102,7 +118,7 @@ fn result_of(
     requires { Stands standing }
     ensures { Answers (λ new. new) result (result_of old.now standing) }
 {
-    match result_reason(old, &standing.schema) {
+    match result_reason(old, &standing) {
         Some(code) => Err(AlterFault::Refused(code)),
         None => {
             let columns = standing.schema.columns.as_slice();

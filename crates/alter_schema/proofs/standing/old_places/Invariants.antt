@@ -1,4 +1,4 @@
-use Rattle.std.proofs.Common.{◌≡◌, ◌++◌, ◌≤◌, drop, length}
+use Rattle.std.proofs.Common.{◌≡◌, ◌++◌, drop}
 use Rattle.alter_schema.specs.Standing.{places_from}
 use Rattle.alter_schema.proofs.standing.old_places.Given as goal
 

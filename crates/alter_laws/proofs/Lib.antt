@@ -1,0 +1,5 @@
+pub mod Images
+pub mod KeepingKeys
+pub mod Places
+pub mod Steps
+pub mod Traces

@@ -1,0 +1,47 @@
+-- What holds of all ALTERs that are taken. The functions of the module `laws` prove each.
+use Rattle.std.specs.Prelude.{◌≡◌, ℕ, Bool, true, List, Some, Ok}
+use Rattle.std.specs.List.{slice_get}
+use Rattle.gho_values.specs.declared.value.Value.{Value}
+use Rattle.gho_schema.specs.declared.schema.Index.{Index}
+use Rattle.gho_schema.specs.declared.schema.Schema.{Schema}
+use Rattle.gho_schema.specs.Rows.{key_of}
+use Rattle.gho_schema.specs.Tables.{IsRow, clash}
+use Rattle.alter_grammar.specs.declared.clause.Clause.{Clause}
+use Rattle.alter_grammar.specs.declared.map.MapColumn.{MapColumn}
+use Rattle.alter_grammar.specs.Images.{image}
+use Rattle.schema_text.specs.Clustering.{clustered_key}
+use Rattle.schema_text.specs.Lawful.{IsLawful}
+use Rattle.alter_schema.specs.Altering.{altered}
+
+-- an altered table
+abbrev pub Altered : Type 0
+Altered = Schema × List MapColumn
+
+-- the key of each row's image is the row's
+abbrev pub KeepsKeys : Schema → Altered → Index → Index → Type 0
+KeepsKeys schema new old index = (row made : List Value) → IsRow schema.columns row → image new.1 row ≡ Ok made → key_of index.places made ≡ key_of old.places row
+
+-- the key is one of the old table's, whose key each row's image has
+pub record Stays (schema : Schema) (new : Altered) (index : Index) : Type 0 where
+  pub place : ℕ
+  pub old : Index
+  pub stands : slice_get schema.uniques place ≡ Some old
+  pub name : old.name ≡ index.name
+  pub keeps : KeepsKeys schema new old index
+
+-- Each unique key of an altered table is one of the old table, and a row's image has the row's own key.
+abbrev pub ImagesKeepKeys : Type 0
+ImagesKeepKeys =
+    (approve : Bool) (schema : Schema) (clauses : List Clause) (new : Altered) (place : ℕ) (index : Index) → IsLawful schema → altered approve schema clauses ≡ Ok new → slice_get new.0.uniques place ≡ Some index → Stays schema new index
+
+-- Rows that don't clash have images that don't clash.
+abbrev pub ImagesStayApart : Type 0
+ImagesStayApart =
+    (approve : Bool) (schema : Schema) (clauses : List Clause) (new : Altered) (a b made other : List Value) → IsLawful schema → altered approve schema clauses ≡ Ok new → IsRow schema.columns a → IsRow schema.columns b → image new.1 a ≡ Ok made → image new.1 b ≡ Ok other
+    → clash new.0.uniques made other ≡ true → clash schema.uniques a b ≡ true
+
+-- Rows with different clustered keys have images with different clustered keys.
+abbrev pub ClusteredKeysStay : Type 0
+ClusteredKeysStay =
+    (approve : Bool) (schema : Schema) (clauses : List Clause) (new : Altered) (old index : Index) → IsLawful schema → altered approve schema clauses ≡ Ok new → clustered_key schema ≡ Some old → clustered_key new.0 ≡ Some index
+    → KeepsKeys schema new old index

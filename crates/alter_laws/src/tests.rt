@@ -1,0 +1,6 @@
+use super::*;
+
+#[test]
+fn laws_hold() {
+    images_keep_keys();
+}
