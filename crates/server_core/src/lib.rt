@@ -11,3 +11,4 @@ mod statement;
 mod view;
 
 pub use server::Server;
+
