@@ -1,16 +1,17 @@
 -- What holds of all ALTERs that are taken. The functions of the module `laws` prove each.
 use Rattle.std.specs.Prelude.{◌≡◌, ℕ, Bool, true, List, Some, Ok}
-use Rattle.std.specs.List.{slice_get}
+use Rattle.std.specs.List.{slice_get, AllByRecursion}
 use Rattle.gho_values.specs.declared.value.Value.{Value}
 use Rattle.gho_schema.specs.declared.schema.Index.{Index}
 use Rattle.gho_schema.specs.declared.schema.Schema.{Schema}
 use Rattle.gho_schema.specs.Rows.{key_of}
 use Rattle.gho_schema.specs.Tables.{IsRow, clash}
 use Rattle.alter_grammar.specs.declared.clause.Clause.{Clause}
+use Rattle.alter_grammar.specs.declared.clause.Clause.TheVariants.{Add, Drop, Rename, Change, AddIndex, DropIndex}
 use Rattle.alter_grammar.specs.declared.map.MapColumn.{MapColumn}
 use Rattle.alter_grammar.specs.Images.{image}
 use Rattle.schema_text.specs.Clustering.{clustered_key}
-use Rattle.schema_text.specs.Lawful.{IsLawful}
+use Rattle.schema_text.specs.Lawful.{is_kind, IsLawful}
 use Rattle.alter_schema.specs.Altering.{altered}
 
 -- an altered table
@@ -45,3 +46,16 @@ abbrev pub ClusteredKeysStay : Type 0
 ClusteredKeysStay =
     (approve : Bool) (schema : Schema) (clauses : List Clause) (new : Altered) (old index : Index) → IsLawful schema → altered approve schema clauses ≡ Ok new → clustered_key schema ≡ Some old → clustered_key new.0 ≡ Some index
     → KeepsKeys schema new old index
+
+-- the kinds that a clause writes are kinds of this program
+abbrev pub IsClause : Clause → Type 0
+IsClause (Add column spot) = is_kind column.kind ≡ true
+IsClause (Drop name) = Unit {0}
+IsClause (Rename old new) = Unit {0}
+IsClause (Change old column spot) = is_kind column.kind ≡ true
+IsClause (AddIndex name columns) = Unit {0}
+IsClause (DropIndex name) = Unit {0}
+
+-- Every altered schema is lawful.
+abbrev pub AlteredSchemasAreLawful : Type 0
+AlteredSchemasAreLawful = (approve : Bool) (schema : Schema) (clauses : List Clause) (new : Altered) → IsLawful schema → AllByRecursion IsClause clauses → altered approve schema clauses ≡ Ok new → IsLawful new.0

@@ -1,6 +1,8 @@
 //! The laws.
 
-ghost use Rattle.alter_laws.specs.Laws.{ImagesKeepKeys, ImagesStayApart, ClusteredKeysStay};
+ghost use Rattle.alter_laws.specs.Laws.{ImagesKeepKeys, ImagesStayApart, ClusteredKeysStay, AlteredSchemasAreLawful};
+
+use gho_values::laws::stored_values_store_again;
 
 /// Each unique key of an altered table is one of the old table, and a row's image has the row's own key.
 pub fn images_keep_keys()
@@ -8,3 +10,10 @@ pub fn images_keep_keys()
     ensures apart { ImagesStayApart }
     ensures clustered { ClusteredKeysStay }
 {}
+
+/// Every altered schema is lawful.
+pub fn altered_schemas_are_lawful()
+    ensures { AlteredSchemasAreLawful }
+{
+    stored_values_store_again();
+}

@@ -3,4 +3,5 @@ use super::*;
 #[test]
 fn laws_hold() {
     images_keep_keys();
+    altered_schemas_are_lawful();
 }
