@@ -1,4 +1,5 @@
 pub mod Apart
+pub mod Clauses
 pub mod Images
 pub mod Keeping
 pub mod KeepingKeys

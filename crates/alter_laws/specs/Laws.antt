@@ -13,6 +13,7 @@ use Rattle.alter_grammar.specs.Images.{image}
 use Rattle.schema_text.specs.Clustering.{clustered_key}
 use Rattle.schema_text.specs.Lawful.{is_kind, IsLawful}
 use Rattle.alter_schema.specs.Altering.{altered}
+use Rattle.alter_text.specs.Reading.{alter_at}
 
 -- an altered table
 abbrev pub Altered : Type 0
@@ -59,3 +60,7 @@ IsClause (DropIndex name) = Unit {0}
 -- Every altered schema is lawful.
 abbrev pub AlteredSchemasAreLawful : Type 0
 AlteredSchemasAreLawful = (approve : Bool) (schema : Schema) (clauses : List Clause) (new : Altered) → IsLawful schema → AllByRecursion IsClause clauses → altered approve schema clauses ≡ Ok new → IsLawful new.0
+
+-- The clauses of a text write kinds of this program.
+abbrev pub ReadClausesWriteKinds : Type 0
+ReadClausesWriteKinds = (table text : List ℕ) (clauses : List Clause) → alter_at table text ≡ Ok clauses → AllByRecursion IsClause clauses

@@ -1,6 +1,6 @@
 //! The laws.
 
-ghost use Rattle.alter_laws.specs.Laws.{ImagesKeepKeys, ImagesStayApart, ClusteredKeysStay, AlteredSchemasAreLawful};
+ghost use Rattle.alter_laws.specs.Laws.{ImagesKeepKeys, ImagesStayApart, ClusteredKeysStay, AlteredSchemasAreLawful, ReadClausesWriteKinds};
 
 use gho_values::laws::stored_values_store_again;
 
@@ -17,3 +17,8 @@ pub fn altered_schemas_are_lawful()
 {
     stored_values_store_again();
 }
+
+/// The clauses of a text write kinds of this program, as `altered_schemas_are_lawful` asks.
+pub fn read_clauses_write_kinds()
+    ensures { ReadClausesWriteKinds }
+{}

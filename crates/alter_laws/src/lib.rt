@@ -3,7 +3,7 @@
 
 mod laws;
 
-pub use laws::{altered_schemas_are_lawful, images_keep_keys};
+pub use laws::{altered_schemas_are_lawful, images_keep_keys, read_clauses_write_kinds};
 
 #[cfg(test)]
 mod tests;

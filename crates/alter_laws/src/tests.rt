@@ -4,4 +4,5 @@ use super::*;
 fn laws_hold() {
     images_keep_keys();
     altered_schemas_are_lawful();
+    read_clauses_write_kinds();
 }
