@@ -1,5 +1,6 @@
 pub mod Apart
 pub mod Clauses
+pub mod ImageRows
 pub mod Images
 pub mod Keeping
 pub mod KeepingKeys

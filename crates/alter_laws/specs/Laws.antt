@@ -1,5 +1,5 @@
 -- What holds of all ALTERs that are taken. The functions of the module `laws` prove each.
-use Rattle.std.specs.Prelude.{◌≡◌, ℕ, Bool, true, List, Some, Ok}
+use Rattle.std.specs.Prelude.{◌≡◌, ℕ, Bool, true, List, length, Some, Ok}
 use Rattle.std.specs.List.{slice_get, AllByRecursion}
 use Rattle.gho_values.specs.declared.value.Value.{Value}
 use Rattle.gho_schema.specs.declared.schema.Index.{Index}
@@ -64,3 +64,11 @@ AlteredSchemasAreLawful = (approve : Bool) (schema : Schema) (clauses : List Cla
 -- The clauses of a text write kinds of this program.
 abbrev pub ReadClausesWriteKinds : Type 0
 ReadClausesWriteKinds = (table text : List ℕ) (clauses : List Clause) → alter_at table text ≡ Ok clauses → AllByRecursion IsClause clauses
+
+-- The image of a row is a row of the altered table.
+abbrev pub ImagesAreRows : Type 0
+ImagesAreRows = (approve : Bool) (schema : Schema) (clauses : List Clause) (new : Altered) (row made : List Value) → IsLawful schema → altered approve schema clauses ≡ Ok new → image new.1 row ≡ Ok made → IsRow new.0.columns made
+
+-- The map has a place for each column of the altered table.
+abbrev pub MapsFit : Type 0
+MapsFit = (approve : Bool) (schema : Schema) (clauses : List Clause) (new : Altered) → IsLawful schema → altered approve schema clauses ≡ Ok new → length new.1 ≡ length new.0.columns

@@ -1,6 +1,6 @@
 //! The laws.
 
-ghost use Rattle.alter_laws.specs.Laws.{ImagesKeepKeys, ImagesStayApart, ClusteredKeysStay, AlteredSchemasAreLawful, ReadClausesWriteKinds};
+ghost use Rattle.alter_laws.specs.Laws.{ImagesKeepKeys, ImagesStayApart, ClusteredKeysStay, AlteredSchemasAreLawful, ReadClausesWriteKinds, ImagesAreRows, MapsFit};
 
 use gho_values::laws::stored_values_store_again;
 
@@ -22,3 +22,11 @@ pub fn altered_schemas_are_lawful()
 pub fn read_clauses_write_kinds()
     ensures { ReadClausesWriteKinds }
 {}
+
+/// The image of a row is a row of the altered table, and the map has as many columns as the table.
+pub fn images_are_rows()
+    ensures rows { ImagesAreRows }
+    ensures maps { MapsFit }
+{
+    stored_values_store_again();
+}

@@ -3,7 +3,9 @@
 
 mod laws;
 
-pub use laws::{altered_schemas_are_lawful, images_keep_keys, read_clauses_write_kinds};
+pub use laws::{
+    altered_schemas_are_lawful, images_are_rows, images_keep_keys, read_clauses_write_kinds,
+};
 
 #[cfg(test)]
 mod tests;

@@ -5,4 +5,5 @@ fn laws_hold() {
     images_keep_keys();
     altered_schemas_are_lawful();
     read_clauses_write_kinds();
+    images_are_rows();
 }
