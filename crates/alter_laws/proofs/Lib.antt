@@ -1,6 +1,7 @@
 pub mod Apart
 pub mod Clauses
 pub mod ImageRows
+pub mod ImageTables
 pub mod Images
 pub mod Keeping
 pub mod KeepingKeys

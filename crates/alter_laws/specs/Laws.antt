@@ -1,15 +1,15 @@
 -- What holds of all ALTERs that are taken. The functions of the module `laws` prove each.
-use Rattle.std.specs.Prelude.{◌≡◌, ℕ, Bool, true, List, length, Some, Ok}
+use Rattle.std.specs.Prelude.{◌≡◌, ℕ, Bool, true, List, [], length, Option, Some, None, Ok}
 use Rattle.std.specs.List.{slice_get, AllByRecursion}
 use Rattle.gho_values.specs.declared.value.Value.{Value}
 use Rattle.gho_schema.specs.declared.schema.Index.{Index}
 use Rattle.gho_schema.specs.declared.schema.Schema.{Schema}
 use Rattle.gho_schema.specs.Rows.{key_of}
-use Rattle.gho_schema.specs.Tables.{IsRow, clash}
+use Rattle.gho_schema.specs.Tables.{IsRow, Ascends, Apart, clash}
 use Rattle.alter_grammar.specs.declared.clause.Clause.{Clause}
 use Rattle.alter_grammar.specs.declared.clause.Clause.TheVariants.{Add, Drop, Rename, Change, AddIndex, DropIndex}
 use Rattle.alter_grammar.specs.declared.map.MapColumn.{MapColumn}
-use Rattle.alter_grammar.specs.Images.{image}
+use Rattle.alter_grammar.specs.Images.{image, images}
 use Rattle.schema_text.specs.Clustering.{clustered_key}
 use Rattle.schema_text.specs.Lawful.{is_kind, IsLawful}
 use Rattle.alter_schema.specs.Altering.{altered}
@@ -72,3 +72,20 @@ ImagesAreRows = (approve : Bool) (schema : Schema) (clauses : List Clause) (new 
 -- The map has a place for each column of the altered table.
 abbrev pub MapsFit : Type 0
 MapsFit = (approve : Bool) (schema : Schema) (clauses : List Clause) (new : Altered) → IsLawful schema → altered approve schema clauses ≡ Ok new → length new.1 ≡ length new.0.columns
+
+-- the places of a key's columns, where there is a key
+abbrev pub places_of : Option Index → List ℕ
+places_of (Some index) = index.places
+places_of None = []
+
+-- *Table* by its clustered key, which need not be the first of its unique keys: each row is one of the schema's columns, the rows stand in order of the clustered key, no two with one key, and no two clash.
+pub record IsClusteredTable (schema : Schema) (rows : List (List Value)) : Type 0 where
+  pub rows_fit : AllByRecursion (IsRow schema.columns) rows
+  pub ascends : Ascends (places_of (clustered_key schema)) rows
+  pub apart : Apart schema.uniques rows
+
+-- An altered table is a table.
+abbrev pub AlteredTablesAreTables : Type 0
+AlteredTablesAreTables =
+    (approve : Bool) (schema : Schema) (clauses : List Clause) (new : Altered) (rows made : List (List Value)) → IsLawful schema → altered approve schema clauses ≡ Ok new → IsClusteredTable schema rows → images new.1 rows ≡ Some made
+    → IsClusteredTable new.0 made

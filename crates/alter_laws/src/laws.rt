@@ -1,6 +1,6 @@
 //! The laws.
 
-ghost use Rattle.alter_laws.specs.Laws.{ImagesKeepKeys, ImagesStayApart, ClusteredKeysStay, AlteredSchemasAreLawful, ReadClausesWriteKinds, ImagesAreRows, MapsFit};
+ghost use Rattle.alter_laws.specs.Laws.{ImagesKeepKeys, ImagesStayApart, ClusteredKeysStay, AlteredSchemasAreLawful, ReadClausesWriteKinds, ImagesAreRows, MapsFit, AlteredTablesAreTables};
 
 use gho_values::laws::stored_values_store_again;
 
@@ -27,6 +27,13 @@ pub fn read_clauses_write_kinds()
 pub fn images_are_rows()
     ensures rows { ImagesAreRows }
     ensures maps { MapsFit }
+{
+    stored_values_store_again();
+}
+
+/// An altered table is a table.
+pub fn altered_tables_are_tables()
+    ensures { AlteredTablesAreTables }
 {
     stored_values_store_again();
 }

@@ -6,4 +6,5 @@ fn laws_hold() {
     altered_schemas_are_lawful();
     read_clauses_write_kinds();
     images_are_rows();
+    altered_tables_are_tables();
 }
