@@ -100,7 +100,7 @@ same_value (Blob x) w (VarBinary i) (VarChar j) nullable also own sort e = absur
 abbrev made_of : List Value → Result (List Value) UnfitAt
 made_of vs = Ok vs
 
-made-is : (a b : List Value) → made_of a ≡ made_of b → a ≡ b
+pub made-is : (a b : List Value) → made_of a ≡ made_of b → a ≡ b
 made-is a b e = cc
 
 -- the first value of an image and the others
@@ -111,7 +111,7 @@ pub record Front (s : Result Value Unfit) (o : Result (List Value) UnfitAt) (mad
   pub rest : o ≡ Ok others
   pub is : first ∷ others ≡ made
 
-front-of : (column : ℕ) (s : Result Value Unfit) (o : Result (List Value) UnfitAt) (made : List Value) → value_first column s o ≡ Ok made → Front s o made
+pub front-of : (column : ℕ) (s : Result Value Unfit) (o : Result (List Value) UnfitAt) (made : List Value) → value_first column s o ≡ Ok made → Front s o made
 front-of column (Ok v) (Ok vs) made e = record { first = v; others = vs; stores_first = refl; rest = refl; is = made-is (v ∷ vs) made e }
 front-of column (Ok v) (Err u) made e = absurd cc
 front-of column (Err r) o made e = absurd cc

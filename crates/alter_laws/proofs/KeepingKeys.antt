@@ -31,7 +31,7 @@ pub record Ends (approve : Bool) (schema : Schema) (clauses : List Clause) (new 
   pub reasons : first_reason (result_reasons schema standing) ≡ None
   pub is : (standing.schema, map_of standing.schema.columns standing.origins) ≡ new
 
-ends : (approve : Bool) (schema : Schema) (clauses : List Clause) (new : Altered) → IsLawful schema → altered approve schema clauses ≡ Ok new → Ends approve schema clauses new
+pub ends : (approve : Bool) (schema : Schema) (clauses : List Clause) (new : Altered) → IsLawful schema → altered approve schema clauses ≡ Ok new → Ends approve schema clauses new
 unfolding altered
 ends approve schema clauses new lawful e =
     let b = bind_ok (steps approve (start schema) clauses) (result_of schema) new e in

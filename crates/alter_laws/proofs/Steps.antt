@@ -39,7 +39,7 @@ found_at-here : (columns : List Column) (o : Option ℕ) (found : ℕ × Column)
 found_at-here columns (Some place) found e = beside-here columns place (slice_get columns place) found refl e
 found_at-here columns None found e = absurd cc
 
-column_named-here : (columns : List Column) (name : List ℕ) (found : ℕ × Column) → column_named columns name ≡ Some found → slice_get columns found.0 ≡ Some found.1
+pub column_named-here : (columns : List Column) (name : List ℕ) (found : ℕ × Column) → column_named columns name ≡ Some found → slice_get columns found.0 ≡ Some found.1
 unfolding column_named
 column_named-here columns name found e = found_at-here columns _ found e
 
@@ -116,7 +116,7 @@ renamed_at-traced old approve standing next new (Some found) here all e =
 
 -- ---- a changed column
 
-lacking-is : (b : Bool) (column made : Column) → unless_lacking b column ≡ Ok made → column ≡ made
+pub lacking-is : (b : Bool) (column made : Column) → unless_lacking b column ≡ Ok made → column ≡ made
 lacking-is true column made e = absurd cc
 lacking-is false column made e = cc
 
