@@ -11,4 +11,3 @@ mod statement;
 mod view;
 
 pub use server::Server;
-
