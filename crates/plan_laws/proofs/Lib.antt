@@ -1,0 +1,3 @@
+mod KeptKeys
+mod Migratable
+mod RowOrder

@@ -1,0 +1,9 @@
+-- What holds of every accepted plan. The functions of the module `laws` prove each.
+use Rattle.std.specs.Prelude.{◌≡◌, ℕ, List, Ok}
+use Rattle.plan_text.specs.PlanData.{PlanData}
+use Rattle.plan_text.specs.Plans.{reads}
+use Rattle.serial_laws.specs.SerialLaws.{IsMigratable}
+
+-- An accepted plan is migratable: its one table is a table, and its ALTER keeps the keys of the rows.
+abbrev pub AcceptedPlansAreMigratable : Type 0
+AcceptedPlansAreMigratable = (bytes : List ℕ) (plan : PlanData) → reads bytes ≡ Ok plan → IsMigratable plan

@@ -1,0 +1,4 @@
+//! What holds of every accepted plan.
+#![tactic(auto)]
+
+pub mod laws;
