@@ -1,0 +1,4 @@
+pub mod Lexing
+pub mod Numbers
+pub mod Pieces
+pub mod Tables

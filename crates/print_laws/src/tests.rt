@@ -1,0 +1,6 @@
+use super::*;
+
+#[test]
+fn laws_hold() {
+    printed_schemas_have_words();
+}
