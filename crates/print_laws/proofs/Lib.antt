@@ -1,4 +1,5 @@
 pub mod Lexing
 pub mod Numbers
 pub mod Pieces
+pub mod Reading
 pub mod Tables

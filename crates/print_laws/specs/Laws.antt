@@ -1,5 +1,6 @@
 -- What holds of the printed text of schemas. The functions of the module `laws` prove each.
-use Rattle.std.specs.Prelude.{◌≡◌, ℕ, ◌<◌, ◌==◌, ◌^◌, false, List, Option, Some, None, unsigned_abs}
+use Rattle.std.specs.Prelude.{codes, ◌≡◌, ℕ, ◌<◌, ◌==◌, ◌^◌, true, false, if◌then◌else◌, List, ◌∷◌, ◌++◌, Option, Some, None, Ok, unsigned_abs}
+use Rattle.std.specs.Str.{bytes_eq}
 use Rattle.std.specs.List.{AllByRecursion}
 use Rattle.gho_values.specs.declared.kind.Kind.{Kind}
 use Rattle.gho_values.specs.declared.kind.Kind.TheVariants.{Int, VarChar, VarBinary}
@@ -7,9 +8,13 @@ use Rattle.gho_values.specs.declared.value.Value.{Value}
 use Rattle.gho_values.specs.declared.value.Value.TheVariants.{Null, Num, Text, Blob}
 use Rattle.gho_schema.specs.declared.schema.Schema.{Schema}
 use Rattle.gho_schema.specs.declared.schema.Column.{Column}
+use Rattle.table_words.specs.declared.token.Token.{Token}
 use Rattle.table_words.specs.Tokens.{text_words}
+use Rattle.schema_text.specs.declared.written.WrittenColumn.{WrittenColumn}
+use Rattle.schema_text.specs.Columns.{column_at}
+use Rattle.schema_text.specs.Lawful.{is_kind}
 use Rattle.schema_text.specs.Printing.{printed_schema}
-use Rattle.print_laws.specs.Words.{schema_words}
+use Rattle.print_laws.specs.Words.{sign_word, column_words, schema_words}
 
 -- a name that can stand between backquotes
 abbrev pub CanQuote : List ℕ → Type 0
@@ -49,3 +54,30 @@ pub record CanPrint (schema : Schema) : Type 0 where
 -- The words of a schema's text are these, and it has no fault.
 abbrev pub PrintedSchemasHaveWords : Type 0
 PrintedSchemasHaveWords = (schema : Schema) → CanPrint schema → text_words (printed_schema schema) ≡ record { words = schema_words schema; is_faulty = false }
+
+-- ---- reading a column back
+
+-- a default as it is printed: NULL isn't
+abbrev pub printed_value : Value → Option Value
+printed_value Null = None
+printed_value (Num number) = Some (Num number)
+printed_value (Text text) = Some (Text text)
+printed_value (Blob blob) = Some (Blob blob)
+
+abbrev pub default_read : Option Value → Option Value
+default_read None = None
+default_read (Some value) = printed_value value
+
+-- what a column's line says: nothing of NULL where it may be null
+abbrev pub line_of : Column → WrittenColumn
+line_of column = record {
+  name = column.name;
+  kind = column.kind;
+  attributes = record { plain = record { nullable = if column.nullable then None else Some false; default = default_read column.default }; is_primary = false; is_unique = false };
+}
+
+-- The words of a column's line are read as that column, up to the comma or the parenthesis behind it.
+abbrev pub PrintedColumnsAreRead : Type 0
+PrintedColumnsAreRead =
+    (column : Column) (sign : List ℕ) (rest : List Token) → CanPrintColumn column → is_kind column.kind ≡ true → bytes_eq sign (codes "(") ≡ false
+    → column_at (column_words column ++ sign_word sign ∷ rest) ≡ Ok (line_of column, sign_word sign ∷ rest)

@@ -1,8 +1,13 @@
 //! The laws.
 
-ghost use Rattle.print_laws.specs.Laws.{PrintedSchemasHaveWords};
+ghost use Rattle.print_laws.specs.Laws.{PrintedSchemasHaveWords, PrintedColumnsAreRead};
 
 /// The words of a schema's printed text are those of its columns and keys, and it has no fault.
 pub fn printed_schemas_have_words()
     ensures { PrintedSchemasHaveWords }
+{}
+
+/// The words of a column's line are read as that column.
+pub fn printed_columns_are_read()
+    ensures { PrintedColumnsAreRead }
 {}

@@ -3,4 +3,5 @@ use super::*;
 #[test]
 fn laws_hold() {
     printed_schemas_have_words();
+    printed_columns_are_read();
 }
