@@ -3,3 +3,4 @@ pub mod Numbers
 pub mod Pieces
 pub mod Reading
 pub mod Tables
+pub mod Written

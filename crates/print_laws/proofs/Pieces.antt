@@ -253,7 +253,7 @@ writes-column column can =
 
 -- ---- keys
 
-named : (columns : List Column) (place : ℕ) → AllByRecursion CanPrintColumn columns → CanQuote (column_name columns place)
+pub named : (columns : List Column) (place : ℕ) → AllByRecursion CanPrintColumn columns → CanQuote (column_name columns place)
 named [] place all = tt
 named (column ∷ columns) zero all = all.0.0
 named (column ∷ columns) (suc place) all = named columns place all.1

@@ -1,5 +1,5 @@
 -- Printed pieces are read as what was printed.
-use Rattle.std.proofs.Common.{◌≡◌, ℕ, zero, suc, ◌+◌, ◌<◌, ◌≤◌, ◌^◌, append_assoc, ◌&&◌, ◌||◌, eqb-true, Bool, true, false, cond, eqb, List, [], ◌∷◌, ◌++◌, length, take, Option, Some, None, Result, Ok, Err, refl, sym, ap, subst, ◌∙◌, codes, arith, append-nil, length-append}
+use Rattle.std.proofs.Common.{◌≡◌, ℕ, zero, suc, ◌+◌, ◌<◌, ◌≤◌, ◌^◌, append_assoc, ◌&&◌, ◌||◌, eqb-true, Bool, true, false, cond, eqb, List, [], ◌∷◌, ◌++◌, length, Option, Some, None, Result, Ok, refl, sym, ap, subst, ◌∙◌, codes, arith, length-append}
 use Rattle.std.specs.Prelude.{nat_le, ℤ, unsigned_abs}
 use Rattle.std.specs.Option.{option_map}
 use Rattle.std.specs.Str.{bytes_eq}
@@ -7,8 +7,8 @@ use Rattle.std.specs.Fmt.{decimal}
 use Rattle.std.specs.List.{position_or_len, AllByRecursion}
 use Rattle.std.proofs.lemmas.Bool.{lt-ltb, eq-eqb}
 use Rattle.std.proofs.lemmas.List.{take_at}
-use Rattle.sql_words.specs.Meaning.{is_quoted_name, quoted_name}
-use Rattle.sql_words.specs.Quoted.{Piece, length_of, value_of, name_inside}
+use Rattle.sql_words.specs.Meaning.{quoted_name}
+use Rattle.sql_words.specs.Quoted.{name_inside}
 use Rattle.gho_values.specs.declared.kind.Kind.{Kind}
 use Rattle.gho_values.specs.declared.kind.Kind.TheVariants.{Int, VarChar, VarBinary}
 use Rattle.gho_values.specs.declared.value.Value.{Value}
@@ -20,7 +20,6 @@ use Rattle.sql_words.specs.declared.word.WordClass.TheVariants as class
 use Rattle.sql_words.proofs.Reprinted.{text_value-printed_text, bytes_value-printed_bytes}
 use Rattle.table_words.specs.declared.attributes.Attribute.TheVariants.{Nullable, Default}
 use Rattle.table_words.specs.declared.code.SchemaCode.{SchemaCode}
-use Rattle.table_words.specs.declared.kinds.KindWord.{KindWord}
 use Rattle.table_words.specs.declared.kinds.KindWord.TheVariants as kinds
 use Rattle.table_words.specs.declared.token.Token.{Token}
 use Rattle.table_words.specs.Attributes.{attribute_at}

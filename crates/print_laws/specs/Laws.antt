@@ -1,5 +1,5 @@
 -- What holds of the printed text of schemas. The functions of the module `laws` prove each.
-use Rattle.std.specs.Prelude.{codes, ◌≡◌, ℕ, ◌<◌, ◌==◌, ◌^◌, true, false, if◌then◌else◌, List, ◌∷◌, ◌++◌, Option, Some, None, Ok, unsigned_abs}
+use Rattle.std.specs.Prelude.{codes, ◌≡◌, ℕ, ◌<◌, ◌==◌, ◌^◌, true, false, if◌then◌else◌, List, ◌∷◌, ◌++◌, map, Option, Some, None, Ok, unsigned_abs}
 use Rattle.std.specs.Str.{bytes_eq}
 use Rattle.std.specs.List.{AllByRecursion}
 use Rattle.gho_values.specs.declared.kind.Kind.{Kind}
@@ -8,12 +8,17 @@ use Rattle.gho_values.specs.declared.value.Value.{Value}
 use Rattle.gho_values.specs.declared.value.Value.TheVariants.{Null, Num, Text, Blob}
 use Rattle.gho_schema.specs.declared.schema.Schema.{Schema}
 use Rattle.gho_schema.specs.declared.schema.Column.{Column}
+use Rattle.gho_schema.specs.declared.schema.Index.{Index}
 use Rattle.table_words.specs.declared.token.Token.{Token}
 use Rattle.table_words.specs.Tokens.{text_words}
 use Rattle.schema_text.specs.declared.written.WrittenColumn.{WrittenColumn}
 use Rattle.schema_text.specs.Columns.{column_at}
-use Rattle.schema_text.specs.Lawful.{is_kind}
-use Rattle.schema_text.specs.Printing.{printed_schema}
+use Rattle.schema_text.specs.declared.written.Item.{Item}
+use Rattle.schema_text.specs.declared.written.Item.TheVariants as items
+use Rattle.schema_text.specs.declared.written.WrittenTable.{WrittenTable}
+use Rattle.schema_text.specs.Lawful.{is_kind, IsLawful}
+use Rattle.schema_text.specs.Written.{written}
+use Rattle.schema_text.specs.Printing.{column_name, printed_schema}
 use Rattle.print_laws.specs.Words.{sign_word, column_words, schema_words}
 
 -- a name that can stand between backquotes
@@ -81,3 +86,27 @@ abbrev pub PrintedColumnsAreRead : Type 0
 PrintedColumnsAreRead =
     (column : Column) (sign : List ℕ) (rest : List Token) → CanPrintColumn column → is_kind column.kind ≡ true → bytes_eq sign (codes "(") ≡ false
     → column_at (column_words column ++ sign_word sign ∷ rest) ≡ Ok (line_of column, sign_word sign ∷ rest)
+
+-- ---- reading a table back
+
+abbrev pub names_read : List Column → List ℕ → List (List ℕ)
+names_read columns places = map (column_name columns) places
+
+abbrev pub unique_read : List Column → Index → Option (List ℕ) → Item
+unique_read columns index None = items.Primary (names_read columns index.places)
+unique_read columns index (Some name) = items.Key (record { is_unique = true; text = record { name = Some name; columns = names_read columns index.places } })
+
+abbrev pub index_read : List Column → Index → Item
+index_read columns index = items.Key (record { is_unique = false; text = record { name = index.name; columns = names_read columns index.places } })
+
+-- the columns, the unique keys and the other keys, as the lines say them
+abbrev pub table_read : Schema → WrittenTable
+table_read schema = record {
+  name = schema.name;
+  items = map (λ column. items.Column (line_of column)) schema.columns ++ map (λ index. unique_read schema.columns index index.name) schema.uniques ++ map (index_read schema.columns) schema.indexes;
+  comment = schema.comment;
+}
+
+-- The printed text of a lawful schema is a CREATE TABLE of its columns and keys.
+abbrev pub PrintedSchemasAreWritten : Type 0
+PrintedSchemasAreWritten = (schema : Schema) → CanPrint schema → IsLawful schema → written (text_words (printed_schema schema)) ≡ Ok (table_read schema)

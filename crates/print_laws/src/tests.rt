@@ -4,4 +4,5 @@ use super::*;
 fn laws_hold() {
     printed_schemas_have_words();
     printed_columns_are_read();
+    printed_schemas_are_written();
 }
