@@ -17,14 +17,14 @@ gt_not_eq Equal is = absurd cc
 gt_not_eq Greater is = refl
 
 -- the rows behind one that isn't before the key don't have it
-others_not_at : (places : List ℕ) (key row : Row) (rows : List Row) → comes_before places key row ≡ false → AllByRecursion (λ other. compare_keys (key_of places row) (key_of places other) ≡ Less) rows → AllByRecursion (λ other. is_at places key other ≡ false) rows
+pub others_not_at : (places : List ℕ) (key row : Row) (rows : List Row) → comes_before places key row ≡ false → AllByRecursion (λ other. compare_keys (key_of places row) (key_of places other) ≡ Less) rows → AllByRecursion (λ other. is_at places key other ≡ false) rows
 others_not_at places key row [] fails less = tt
 others_not_at places key row (other ∷ rows) fails less =
     let further : compare_keys key (key_of places other) ≡ Less = not_greater key (key_of places row) (key_of places other) (compare_keys key (key_of places row)) refl fails less.0 in
     (rw further refl, others_not_at places key row rows fails less.1)
 
 -- a test that no row passes finds none, and leaves all in
-none_found : (test at : Row → Bool) (rows : List Row) → ((row : Row) → at row ≡ false → test row ≡ false) → AllByRecursion (λ row. at row ≡ false) rows → find test rows ≡ None
+pub none_found : (test at : Row → Bool) (rows : List Row) → ((row : Row) → at row ≡ false → test row ≡ false) → AllByRecursion (λ row. at row ≡ false) rows → find test rows ≡ None
 none_found test at [] only fail = refl
 none_found test at (row ∷ rows) only fail = rw (only row fail.0) (none_found test at rows only fail.1)
 

@@ -1,7 +1,11 @@
 pub mod Ascending
+pub mod ChangedTables
 pub mod FoundRows
 pub mod NamedTables
 pub mod Orders
 pub mod Partitions
+pub mod ReadSchemas
 pub mod RenamedTables
+pub mod RowLaws
 pub mod RowsBetween
+pub mod TableLaws

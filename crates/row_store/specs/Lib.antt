@@ -1,2 +1,4 @@
+pub mod ClusteredKeys
 pub mod Databases
+pub mod Laws
 pub mod RowLists

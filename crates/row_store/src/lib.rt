@@ -4,6 +4,7 @@
 mod comparing;
 mod finding;
 mod key_values;
+pub mod laws;
 mod places;
 mod renaming;
 mod span_rows;
@@ -14,3 +15,6 @@ pub use renaming::{NotRenamed, Pair, Pairs, RenameFault};
 pub use span_rows::SpanRows;
 pub use table::Table;
 pub use tables::{AddFault, Tables};
+
+#[cfg(test)]
+mod tests;

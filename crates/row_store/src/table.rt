@@ -10,7 +10,7 @@ use crate::finding::{clash_by_key, first_clash, key_place, row_of_key};
 use crate::places::{place_of_row, rows_between};
 use crate::span_rows::SpanRows;
 use gho_schema::Schema;
-use gho_values::{Duplicate, Key, Name, Row, Span};
+use gho_values::{Duplicate, Key, Name, Row, Rows, Span};
 use std::alloc::{AllocError, Global};
 use std::marker::Model;
 use std::mem;
@@ -54,6 +54,18 @@ impl Table {
         Table {
             schema,
             rows: Vec::new(alloc),
+        }
+    }
+
+    /// The table of rows that stand in order of the clustered key. It takes no memory.
+    pub fn from_rows(schema: Schema, rows: Rows) -> Table
+        requires { Ascends (key_places schema) rows }
+        ensures schema { result.table.schema ≡ schema }
+        ensures rows { result.table.rows ≡ rows }
+    {
+        Table {
+            schema,
+            rows: rows.into_vec(),
         }
     }
 

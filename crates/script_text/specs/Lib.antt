@@ -1,0 +1,4 @@
+pub mod LineFaults
+pub mod Reading
+pub mod Scripts
+pub mod Statements

@@ -43,17 +43,17 @@ unfolding with_session
 edited number change [] place session is at = absurd (cc)
 edited number change (first ∷ sessions) place session is at =
     some_place (has_number number first) (position (has_number number) sessions) place (slice_set (first ∷ sessions) place (change session) ≡ with_session number change (first ∷ sessions)) (sym (first_place (has_number number) first sessions) ∙ is)
-      (λ here zero_is. rw (here, zero_is) (ap (λ s. change s ∷ sessions) (subst (λ n. session ≡ get_or (first ∷ sessions) n session) zero_is at)))
-      (λ there n some suc_is.
-        let at' : session ≡ get_or sessions n session = subst (λ k. session ≡ get_or (first ∷ sessions) k session) suc_is at in
-        rw (there, suc_is) (ap (λ others. first ∷ others) (edited number change sessions n session some at')))
+    (λ here zero_is. rw (here, zero_is) (ap (λ s. change s ∷ sessions) (subst (λ n. session ≡ get_or (first ∷ sessions) n session) zero_is at)))
+    (λ there n some suc_is.
+    let at' : session ≡ get_or sessions n session = subst (λ k. session ≡ get_or (first ∷ sessions) k session) suc_is at in
+    rw (there, suc_is) (ap (λ others. first ∷ others) (edited number change sessions n session some at')))
 
 pub nothing_edited : (number : ℕ) (change : Session → Session) (sessions : List Session) → position (has_number number) sessions ≡ None → sessions ≡ with_session number change sessions
 unfolding with_session
 nothing_edited number change [] none = refl
 nothing_edited number change (first ∷ sessions) none =
     none_place (has_number number first) (position (has_number number) sessions) (first ∷ sessions ≡ with_session number change (first ∷ sessions)) (sym (first_place (has_number number) first sessions) ∙ none)
-      (λ not more. rw not (ap (λ others. first ∷ others) (nothing_edited number change sessions more)))
+    (λ not more. rw not (ap (λ others. first ∷ others) (nothing_edited number change sessions more)))
 
 pub written_ok : {E : Type 0} (result : Result (Unit {0}) E) (number : ℕ) (sessions : List Session) (place : ℕ) (session : Session) (more into : List RowEvent) → position (has_number number) sessions ≡ Some place → session ≡ get_or sessions place session
     → OnOk result (into ≡ session.writes ++ more) → OnOk result (slice_set sessions place (record session { writes = into }) ≡ with_session number (wrote more) sessions)
@@ -64,16 +64,16 @@ pub found_at : (number : ℕ) (sessions : List Session) (place : ℕ) (session :
 found_at number [] place session is at = absurd (cc)
 found_at number (first ∷ sessions) place session is at =
     some_place (has_number number first) (position (has_number number) sessions) place (session_of number (first ∷ sessions) ≡ Some session) (sym (first_place (has_number number) first sessions) ∙ is)
-      (λ here zero_is. let same : session ≡ first = subst (λ n. session ≡ get_or (first ∷ sessions) n session) zero_is at in rw here (ap (λ s. Some s) (sym same)))
-      (λ there n some suc_is.
-        let at' : session ≡ get_or sessions n session = subst (λ k. session ≡ get_or (first ∷ sessions) k session) suc_is at in
-        rw there (found_at number sessions n session some at'))
+    (λ here zero_is. let same : session ≡ first = subst (λ n. session ≡ get_or (first ∷ sessions) n session) zero_is at in rw here (ap (λ s. Some s) (sym same)))
+    (λ there n some suc_is.
+    let at' : session ≡ get_or sessions n session = subst (λ k. session ≡ get_or (first ∷ sessions) k session) suc_is at in
+    rw there (found_at number sessions n session some at'))
 
 pub not_found : (number : ℕ) (sessions : List Session) → position (has_number number) sessions ≡ None → session_of number sessions ≡ None
 not_found number [] none = refl
 not_found number (first ∷ sessions) none =
     none_place (has_number number first) (position (has_number number) sessions) (session_of number (first ∷ sessions) ≡ None) (sym (first_place (has_number number) first sessions) ∙ none)
-      (λ other more. rw other (not_found number sessions more))
+    (λ other more. rw other (not_found number sessions more))
 
 -- what a session in a transaction has written once it wrote more
 wrote_at : (number : ℕ) (more : List RowEvent) (first : Session) (sessions : List Session) (b : Bool) → has_number number first ≡ b → is_in_transaction (cond b (Some first) (session_of number sessions)) ≡ true

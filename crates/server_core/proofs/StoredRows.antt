@@ -29,7 +29,7 @@ pub goes_on : (front : List Value) (columns : List Column) (values : List Value)
 unfolding stored_from
 goes_on front columns values i place column value v total lt is lt' is' h so_far =
     let one : with_front front (stored_from place (drop i columns) (drop i values)) ≡ with_front (front ++ (v ∷ [])) (stored_from (place + 1) (drop (i + 1) columns) (drop (i + 1) values)) =
-      rw (from_here columns i column lt is, from_here values i value lt' is', h) (regroup front v (stored_from (place + 1) (drop (i + 1) columns) (drop (i + 1) values))) in
+    rw (from_here columns i column lt is, from_here values i value lt' is', h) (regroup front v (stored_from (place + 1) (drop (i + 1) columns) (drop (i + 1) values))) in
     sym one ∙ so_far
 
 pub fails : (e : ImageFault) (front : List Value) (columns : List Column) (values : List Value) (i place : ℕ) (column : Column) (value : Value) (total : Result (List Value) UnfitAt)
@@ -40,7 +40,7 @@ fails faults.Memory front columns values i place column value total lt is lt' is
 fails (faults.Unfit unfit) front columns values i place column value total lt is lt' is' h so_far =
     let at : record { column = place; unfit = unfit.unfit } ≡ unfit = ap (λ (k : ℕ). record { column = k; unfit = unfit.unfit }) (sym h.1) in
     let one : with_front front (stored_from place (drop i columns) (drop i values)) ≡ Err unfit =
-      rw (from_here columns i column lt is, from_here values i value lt' is', h.0) (ap (λ (u : UnfitAt). Err u) at) in
+    rw (from_here columns i column lt is, from_here values i value lt' is', h.0) (ap (λ (u : UnfitAt). Err u) at) in
     sym so_far ∙ one
 
 pub is_full : (front : List Value) (columns : List Column) (values : List Value) (i place : ℕ) (total : Result (List Value) UnfitAt) → length columns ≤ i

@@ -20,7 +20,7 @@ pub unchanged_none : (name : List ℕ) (change : TableRows → TableRows) (table
 unchanged_none name change [] none = refl
 unchanged_none name change (table ∷ tables) none =
     none_at (is_named name table) table (find_table name tables) (with_change name change (table ∷ tables) ≡ table ∷ tables) none
-      (λ not more. rw not (ap (λ others. table ∷ others) (unchanged_none name change tables more)))
+    (λ not more. rw not (ap (λ others. table ∷ others) (unchanged_none name change tables more)))
 
 -- no other table has the name
 named_at : (b any : Bool) (table : TableRows) (found : Option TableRows) → (b || any) ≡ false → (any ≡ false → found ≡ None) → cond b (Some table) found ≡ None
@@ -63,8 +63,8 @@ put_there : (row : List Value) (table : TableRows) → is_some (row_at_key table
 unfolding has_key
 put_there row table is =
     ap (λ (rows : List (List Value)). record { schema = table.schema; rows = rows })
-      (put_there_at (has_key (key_places table.schema) table.rows (key_of (key_places table.schema) row)) (with_row (key_places table.schema) row table.rows) table.rows
-        (any_found (is_at (key_places table.schema) (key_of (key_places table.schema) row)) table.rows ∙ is))
+    (put_there_at (has_key (key_places table.schema) table.rows (key_of (key_places table.schema) row)) (with_row (key_places table.schema) row table.rows) table.rows
+    (any_found (is_at (key_places table.schema) (key_of (key_places table.schema) row)) table.rows ∙ is))
 
 pub put_row_there : (name : List ℕ) (row : List Value) (table : TableRows) (tables : Database) → NamesDiffer tables → find_table name tables ≡ Some table → has_row name (key_of (key_places table.schema) row) tables ≡ true → put_row name row tables ≡ tables
 put_row_there name row table tables differ some is =

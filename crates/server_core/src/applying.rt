@@ -13,20 +13,11 @@ use row_store::Tables;
 use std::alloc::{AllocError, Global};
 
 /// The clustered key that a row has in the table of this name; none where no table has the name.
-fn key_in(
-    alloc: Global,
-    tables: &Tables,
-    name: &Name,
-    row: &Row,
-) -> Result<Option<Key>, AllocError>
+fn key_in(alloc: Global, tables: &Tables, name: &Name, row: &Row) -> Result<Option<Key>, AllocError>
     ensures { IfOk result (λ key. key ≡ option_map (λ table. key_of (key_places table.schema) row.now) (find_table name.now (database tables.now))) }
 {
     match tables.find(name) {
-        Some(table) => Ok(Some(key_of(
-            alloc,
-            table.schema().key_places(),
-            row.as_slice(),
-        )?)),
+        Some(table) => Ok(Some(key_of(alloc, table.schema().key_places(), row.as_slice())?)),
         None => Ok(None),
     }
 }
@@ -104,11 +95,7 @@ pub fn apply(alloc: Global, tables: &mut Tables, event: &RowEvent) -> Result<(),
 
 /// Does to the tables what events say, one by one. Where there is no memory, some of them may be done.
 #[tactic(auto, unfolding(server_words::specs::States::after_events))]
-pub fn apply_each(
-    alloc: Global,
-    tables: &mut Tables,
-    events: &[RowEvent],
-) -> Result<(), AllocError>
+pub fn apply_each(alloc: Global, tables: &mut Tables, events: &[RowEvent]) -> Result<(), AllocError>
     ensures { OnOk result (database tables.new ≡ after_events (database tables.old) events.now) }
 {
     for event in events {
@@ -128,11 +115,7 @@ pub fn applied(alloc: Global, tables: &Tables, events: &[RowEvent]) -> Result<Ta
 
 /// Does to the tables what events say; all is as before where there is no memory. Several events are done on a copy.
 #[tactic(auto, unfolding(server_words::specs::States::after_events))]
-pub fn apply_all(
-    alloc: Global,
-    tables: &mut Tables,
-    events: &[RowEvent],
-) -> Result<(), AllocError>
+pub fn apply_all(alloc: Global, tables: &mut Tables, events: &[RowEvent]) -> Result<(), AllocError>
     ensures ok { OnOk result (database tables.new ≡ after_events (database tables.old) events.now) }
     ensures err { OnErr result (database tables.new ≡ database tables.old) }
 {

@@ -4,7 +4,6 @@ ghost use Rattle.std.specs.Prelude.{◌≡◌, [], IfOk, slice_get, option_copie
 ghost use Rattle.gho_schema.specs.Rows.{key_of, key_places};
 ghost use Rattle.server_words.specs.Chunks.{keys_of, last_of, ends_of, chunk_end, end_key, first_keys, span_keys};
 
-
 use gho_schema::key_of;
 use gho_values::{Bound, Duplicate, Key, Keys, Row, Sequence, Span};
 use row_store::Table;
@@ -23,12 +22,7 @@ fn keys_of(alloc: Global, places: &[u32], rows: &[Row]) -> Result<Keys, AllocErr
 }
 
 /// The key of the last row, or of this one where there is none.
-fn last_key(
-    alloc: Global,
-    places: &[u32],
-    first: &Row,
-    others: &[Row],
-) -> Result<Key, AllocError>
+fn last_key(alloc: Global, places: &[u32], first: &Row, others: &[Row]) -> Result<Key, AllocError>
     ensures { IfOk result (λ key. key ≡ last_of (key_of places.now first.now) (keys_of places.now others.now)) }
 {
     match others.last() {
@@ -122,12 +116,7 @@ fn first_keys(
 
 /// The keys of a span, this many at most.
 #[tactic(auto, unfolding(server_words::specs::Chunks::span_keys))]
-pub fn span_keys(
-    alloc: Global,
-    span: &Span,
-    size: u32,
-    table: &Table,
-) -> Result<Answer, AllocError>
+pub fn span_keys(alloc: Global, span: &Span, size: u32, table: &Table) -> Result<Answer, AllocError>
     ensures { IfOk result (λ answer. answer ≡ span_keys span.now size table.now.table) }
 {
     first_keys(

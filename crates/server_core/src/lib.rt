@@ -10,6 +10,4 @@ mod sessions;
 mod statement;
 mod view;
 
-
-
 pub use server::Server;

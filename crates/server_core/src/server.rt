@@ -1,15 +1,16 @@
 //! The server.
 
 ghost use Rattle.std.specs.Prelude.{◌≡◌, true, IfOk, OnOk, OnErr};
+ghost use Rattle.gho_schema.specs.Rows.{key_places};
 ghost use Rattle.row_store.specs.Databases.{database, find_table, rename_tables};
 ghost use Rattle.server_words.specs.Statements.{says};
 ghost use Rattle.server_words.specs.Copying.{copies};
-ghost use Rattle.server_words.specs.Chunks.{span_keys};
+ghost use Rattle.server_words.specs.Chunks.{keys_of, ends_of, chunk_end, span_keys};
 ghost use Rattle.server_words.specs.States.{opened, view, with_writes, committed, session_of, with_session, wrote, is_in_transaction};
-ghost use Rattle.server_words.specs.Serving.{commits, rolls_back, begins, creates, renames};
+ghost use Rattle.server_words.specs.Serving.{of_committed, commits, rolls_back, begins, creates, renames};
 
 use crate::applying::apply_all;
-use crate::chunk::span_keys;
+use crate::chunk::{chunk_end, ends_of, span_keys};
 use crate::copying::copies;
 use crate::refusing::refuses;
 use crate::sessions::{begin, is_in_transaction, rest, write, writes_of};
@@ -18,10 +19,10 @@ use crate::view::{View, extended, prepare, seen, settled};
 use alter_grammar::MapColumn;
 use event_codec::{Events, RowEvent};
 use gho_schema::Schema;
-use gho_values::{Duplicate, Key, Name, Span};
+use gho_values::{Bound, Duplicate, Key, Name, Sequence, Span};
 use row_store::{AddFault, Pairs, RenameFault, Table, Tables};
 use script_text::Statement;
-use server_words::{Answer, Limits, Session};
+use server_words::{Answer, Limits, Request, Serve, Session};
 use std::alloc::{AllocError, Global};
 use std::marker::Model;
 use std::mem;
@@ -40,6 +41,7 @@ pub struct Server {
 
 impl Model for Server {
     ghost use Rattle.std.specs.Prelude.{[]};
+    ghost use Rattle.gho_schema.specs.Rows.{key_places};
     ghost use Rattle.row_store.specs.Databases.{database};
     ghost use Rattle.server_words.specs.States.{State};
     ghost use Rattle.server_core.specs.Views.{IsView};
@@ -130,7 +132,11 @@ impl Server {
     {
         let sessions = self.sessions.as_slice();
         prepare(alloc, &self.tables, sessions, &mut self.view, session)?;
-        let said = says(alloc, seen(&self.tables, sessions, &self.view, session), statement)?;
+        let said = says(
+            alloc,
+            seen(&self.tables, sessions, &self.view, session),
+            statement,
+        )?;
         self.write(alloc, session, said.events)?;
         Ok(said.answer)
     }
@@ -168,7 +174,8 @@ impl Server {
             &mut self.view,
             session,
         )?;
-        self.log.reserve(writes_of(self.sessions.as_slice(), session).len())?;
+        self.log
+            .reserve(writes_of(self.sessions.as_slice(), session).len())?;
         let tables = mem::replace(&mut self.tables, Tables::new(alloc));
         self.tables = settled(tables, self.sessions.as_slice(), self.view.take(), session);
         let mut writes = rest(alloc, &mut self.sessions, session).into_vec();
@@ -208,6 +215,31 @@ impl Server {
         Ok(answer)
     }
 
+    fn ends(&self, alloc: Global, table: &Name) -> Result<Answer, AllocError>
+        ensures { IfOk result (λ answer. answer ≡ of_committed (find_table table.now self.now.tables) (λ t. ends_of (keys_of (key_places t.schema) t.rows))) }
+    {
+        match self.tables.find(table) {
+            Some(table) => ends_of(alloc, table),
+            None => Ok(refuses(1146)),
+        }
+    }
+
+    fn chunk_end(
+        &self,
+        alloc: Global,
+        table: &Name,
+        low: &Bound,
+        top: &Key,
+        size: u32,
+    ) -> Result<Answer, AllocError>
+        ensures { IfOk result (λ answer. answer ≡ of_committed (find_table table.now self.now.tables) (λ t. Answer.End (chunk_end low.now top.now size t))) }
+    {
+        match self.tables.find(table) {
+            Some(table) => Ok(Answer::End(chunk_end(alloc, low, top, size, table)?)),
+            None => Ok(refuses(1146)),
+        }
+    }
+
     fn create(&mut self, alloc: Global, schema: &Schema) -> Result<Answer, AllocError>
         ensures answer { IfOk result (λ answer. answer ≡ (creates schema.now self.old).answer) }
         ensures ok { OnOk result (self.new ≡ (creates schema.now self.old).after) }
@@ -232,5 +264,59 @@ impl Server {
             Err(RenameFault::Refused(reason)) => Ok(refuses(reason.number())),
             Err(RenameFault::Memory) => Err(AllocError),
         }
+    }
+}
+
+impl Serve for Server {
+    ghost state = { λ s. s };
+
+    fn connect(&mut self, alloc: Global, is_tool: bool) -> Result<u32, AllocError> {
+        let number = self.made + 1;
+        self.view = None;
+        self.sessions.push(Session {
+            number,
+            is_tool,
+            in_transaction: false,
+            writes: Sequence::new(alloc),
+            polls: 0,
+        })?;
+        self.made = number;
+        Ok(number)
+    }
+
+    #[tactic(auto, unfolding(server_words::specs::Serving::answered))]
+    fn call(
+        &mut self,
+        alloc: Global,
+        session: u32,
+        request: &Request,
+    ) -> Result<Answer, AllocError> {
+        match request {
+            Request::Commit => self.commit(alloc, session),
+            Request::Rollback => Ok(self.roll_back(alloc, session)),
+            Request::Do(statement) => self.execute(alloc, session, statement),
+            Request::Ends(table) => self.ends(alloc, table),
+            Request::ChunkEnd {
+                table,
+                low,
+                top,
+                size,
+            } => self.chunk_end(alloc, table, low, top, *size),
+            Request::BeginSpan { table, span, size } => {
+                self.begin_span(alloc, session, table, span, *size)
+            }
+            Request::CopyRow {
+                from,
+                into,
+                map,
+                key,
+            } => self.copy_row(alloc, session, from, into, map.as_slice(), key),
+            Request::Create(schema) => self.create(alloc, schema),
+            Request::Rename(pairs) => self.rename(pairs),
+        }
+    }
+
+    fn tables(&self) -> &Tables {
+        &self.tables
     }
 }

@@ -81,12 +81,7 @@ fn written_unless(
 }
 
 #[tactic(auto, unfolding(server_words::specs::Statements::inserts))]
-fn inserts(
-    alloc: Global,
-    name: &Name,
-    values: &[Value],
-    table: &Table,
-) -> Result<Said, AllocError>
+fn inserts(alloc: Global, name: &Name, values: &[Value], table: &Table) -> Result<Said, AllocError>
     ensures { IfOk result (λ said. said ≡ inserts name.now values.now table.now.table) }
 {
     let columns = table.schema().columns.as_slice();

@@ -1,6 +1,5 @@
 use Rattle.std.proofs.Common.{◌≡◌, Some, None, refl, sym, ◌∙◌}
 use Rattle.std.specs.Option.{option_map}
-
 use Rattle.gho_schema.specs.Rows.{key_of, key_places}
 use Rattle.row_store.specs.Databases.{database, find_table, put_in_table, TableRows}
 use Rattle.server_core.proofs.Written.{unchanged_none, put_row_of_key, nothing_mapped}

@@ -7,4 +7,4 @@ use Rattle.server_core.proofs.chunk.last_key.Goals as goal
 pub returns-in-Some : goal.returns-in-Some
 returns-in-Some c =
     rw (last_found last_of (λ y. refl) (λ y next more. refl) (key_of c.args.places.now) (key_of c.args.places.now c.args.first.now) c.args.others.now c.in-Some.last.now c.in-Some.ensures.value)
-      (rw c.as_slice.ensures at c.key_of.ensures)
+    (rw c.as_slice.ensures at c.key_of.ensures)

@@ -11,7 +11,7 @@ returns-in-Some-clause-sessions c =
 pub returns-in-Some-clause-writes : goal.returns-in-Some-clause-writes
 returns-in-Some-clause-writes c =
     let found : session_of c.args.number c.args.sessions.now.items ≡ Some c.index_mut-session.result.now =
-      found_at c.args.number c.args.sessions.now.items c.in-Some.place c.index_mut-session.result.now (rw c.as_slice.ensures.value at (sym c.in-Some.ensures)) c.index_mut-session.ensures.value in
+    found_at c.args.number c.args.sessions.now.items c.in-Some.place c.index_mut-session.result.now (rw c.as_slice.ensures.value at (sym c.in-Some.ensures)) c.index_mut-session.ensures.value in
     c.replace.ensures.value ∙ sym (ap writes_of found)
 
 pub returns-in-None-clause-sessions : goal.returns-in-None-clause-sessions

@@ -9,6 +9,6 @@ pub returns-in-Ok : goal.returns-in-Ok
 returns-in-Ok c =
     let kept : IsView (database c.args.tables.now) c.args.sessions.now (Some c.in_ok-kept.kept) = subst (IsView (database c.args.tables.now) c.args.sessions.now) c.in_ok-kept.was c.requires.kept in
     let seen : database c.in_ok-kept.kept.tables ≡ after_events (database c.args.tables.now) (writes_of (session_of c.args.session c.args.sessions.now)) =
-      subst (λ (n : ℕ). database c.in_ok-kept.kept.tables ≡ after_events (database c.args.tables.now) (writes_of (session_of n c.args.sessions.now))) c.if-kept-session.false kept in
+    subst (λ (n : ℕ). database c.in_ok-kept.kept.tables ≡ after_events (database c.args.tables.now) (writes_of (session_of n c.args.sessions.now))) c.if-kept-session.false kept in
     rw c.if-kept-session.false
-      (kept_more (database c.args.tables.now) (database c.in_ok-kept.kept.tables) (database c.apply_each.new.tables) c.args.sessions.now c.args.session c.args.events.now c.requires.busy seen c.in-Ok.ensures)
+    (kept_more (database c.args.tables.now) (database c.in_ok-kept.kept.tables) (database c.apply_each.new.tables) c.args.sessions.now c.args.session c.args.events.now c.requires.busy seen c.in-Ok.ensures)

@@ -1,0 +1,11 @@
+pub mod Apart
+pub mod Clauses
+pub mod ImageRows
+pub mod ImageTables
+pub mod Images
+pub mod Keeping
+pub mod KeepingKeys
+pub mod KeepingLaws
+pub mod Places
+pub mod Steps
+pub mod Traces

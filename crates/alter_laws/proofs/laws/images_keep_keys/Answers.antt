@@ -1,0 +1,11 @@
+use Rattle.alter_laws.proofs.KeepingKeys.{keeps_keys, stay_apart, clustered_stay}
+use Rattle.alter_laws.proofs.laws.images_keep_keys.Goals as goal
+
+pub returns-clause-keys : goal.returns-clause-keys
+returns-clause-keys c = keeps_keys
+
+pub returns-clause-apart : goal.returns-clause-apart
+returns-clause-apart c = stay_apart
+
+pub returns-clause-clustered : goal.returns-clause-clustered
+returns-clause-clustered c = clustered_stay

@@ -1,0 +1,12 @@
+//! What holds of all ALTERs that are taken: each function's contract is a law, and its body does nothing.
+#![tactic(auto)]
+
+mod laws;
+
+pub use laws::{
+    altered_schemas_are_lawful, altered_tables_are_tables, images_are_rows, images_keep_keys,
+    read_clauses_write_kinds,
+};
+
+#[cfg(test)]
+mod tests;

@@ -1,0 +1,118 @@
+-- The places of keys are places of columns after a change as before.
+use Rattle.std.proofs.Common.{◌≡◌, ℕ, zero, suc, ◌+◌, ◌-◌, ◌<◌, ◌≤◌, Bool, true, false, cond, eqb, ltb, List, [], ◌∷◌, ◌++◌, length, take, drop, Option, Some, None, ◌≢◌, refl, sym, subst, map, arith, false-eqb}
+use Rattle.std.specs.Prelude.{filter, position}
+use Rattle.std.specs.List.{cons_option, filter_map, remove, AllByRecursion, position_or_len}
+use Rattle.std.proofs.lemmas.Bool.{ltb-true, ltb-false}
+use Rattle.gho_schema.specs.declared.schema.Index.{Index}
+use Rattle.alter_schema.specs.declared.places.PlaceChange.{PlaceChange}
+use Rattle.alter_schema.specs.declared.places.PlaceChange.TheVariants.{Added, Dropped, Moved}
+use Rattle.alter_schema.specs.Places.{opened, closed, place_after, index_after, has_places, keys_after, indexes_after, ArePlaces, IsChangeOf}
+
+-- ---- lists all of whose items have a property
+
+module _ {X Y : Type 0} (P : X → Type 0) (Q : Y → Type 0) where
+  All-cons_option : (h : X → Option Y) → ((x : X) (y : Y) → P x → h x ≡ Some y → Q y) → (x : X) (o : Option Y) (ys : List Y) → h x ≡ o → P x → AllByRecursion Q ys → AllByRecursion Q (cons_option o ys)
+  All-cons_option h each x (Some y) ys e p all = (each x y p e, all)
+  All-cons_option h each x None ys e p all = all
+
+  pub All-filter_map : (h : X → Option Y) → ((x : X) (y : Y) → P x → h x ≡ Some y → Q y) → (xs : List X) → AllByRecursion P xs → AllByRecursion Q (filter_map h xs)
+  All-filter_map h each [] all = tt
+  All-filter_map h each (x ∷ xs) all = All-cons_option h each x (h x) (filter_map h xs) refl all.0 (All-filter_map h each xs all.1)
+
+  pub All-map : (f : X → Y) → ((x : X) → P x → Q (f x)) → (xs : List X) → AllByRecursion P xs → AllByRecursion Q (map f xs)
+  All-map f each [] all = tt
+  All-map f each (x ∷ xs) all = (each x all.0, All-map f each xs all.1)
+
+module _ {X : Type 0} (P : X → Type 0) where
+  All-filter-by : (b : Bool) (x : X) (xs : List X) → P x → AllByRecursion P xs → AllByRecursion P (cond b (x ∷ xs) xs)
+  All-filter-by true x xs p all = (p, all)
+  All-filter-by false x xs p all = all
+
+  pub All-filter : (test : X → Bool) (xs : List X) → AllByRecursion P xs → AllByRecursion P (filter test xs)
+  All-filter test [] all = tt
+  All-filter test (x ∷ xs) all = All-filter-by (test x) x (filter test xs) all.0 (All-filter test xs all.1)
+
+  pub All-append : (xs ys : List X) → AllByRecursion P xs → AllByRecursion P ys → AllByRecursion P (xs ++ ys)
+  All-append [] ys all others = others
+  All-append (x ∷ xs) ys all others = (all.0, All-append xs ys all.1 others)
+
+  All-take : (n : ℕ) (xs : List X) → AllByRecursion P xs → AllByRecursion P (take n xs)
+  All-take zero xs all = tt
+  All-take (suc n) [] all = tt
+  All-take (suc n) (x ∷ xs) all = (all.0, All-take n xs all.1)
+
+  All-drop : (n : ℕ) (xs : List X) → AllByRecursion P xs → AllByRecursion P (drop n xs)
+  All-drop zero xs all = all
+  All-drop (suc n) [] all = tt
+  All-drop (suc n) (x ∷ xs) all = All-drop n xs all.1
+
+  pub All-remove : (xs : List X) (i : ℕ) → AllByRecursion P xs → AllByRecursion P (remove xs i)
+  All-remove xs i all = All-append (take i xs) (drop (suc i) xs) (All-take i xs all) (All-drop (suc i) xs all)
+
+some_if : (b : Bool) (x y : ℕ) → cond b (Some x) None ≡ Some y → (b ≡ true) × (x ≡ y)
+some_if true x y e = (refl, cc)
+some_if false x y e = absurd cc
+
+-- where an item was found there is one
+pub position-within : {X : Type 0} (test : X → Bool) (xs : List X) (place : ℕ) → position test xs ≡ Some place → place < length xs
+position-within test xs place e =
+    let found = some_if (ltb (position_or_len test xs) (length xs)) (position_or_len test xs) place e in
+    subst (λ (n : ℕ). n < length xs) found.1 (ltb-true _ _ found.0)
+
+-- ---- places
+
+opened-within : (at place count : ℕ) (b : Bool) → place < count → cond b place (place + 1) < count + 1
+opened-within at place count true lt = omega arith
+opened-within at place count false lt = omega arith
+
+closed-within : (at place count : ℕ) (b : Bool) → ltb at place ≡ b → at < count → place < count → eqb place at ≡ false → cond b (place - 1) place + 1 < count
+closed-within at place count true e within lt other = let less : at < place = ltb-true at place e in omega arith
+closed-within at place count false e within lt other =
+    let le : place ≤ at = ltb-false at place e in
+    let ne : place ≢ at = false-eqb place at (sym other) in
+    omega arith
+
+-- how many columns there are after the change
+abbrev pub count_after : PlaceChange → ℕ → ℕ
+count_after (Added at) count = count + 1
+count_after (Dropped at) count = count - 1
+count_after (Moved from to) count = count
+
+abbrev some_place : ℕ → Option ℕ
+some_place x = Some x
+
+some_is : (x y : ℕ) → some_place x ≡ some_place y → x ≡ y
+some_is x y e = cc
+
+dropped-within : (at place count after : ℕ) (b : Bool) → eqb place at ≡ b → at < count → place < count → cond b None (Some (closed at place)) ≡ Some after → after < count - 1
+dropped-within at place count after true e within lt h = absurd cc
+dropped-within at place count after false e within lt h =
+    let is : closed at place ≡ after = some_is (closed at place) after h in
+    let less : closed at place + 1 < count = closed-within at place count (ltb at place) refl within lt e in
+    omega arith
+
+moved-within : (from to place count : ℕ) (b : Bool) → eqb place from ≡ b → from < count → to < count → place < count → cond b to (opened to (closed from place)) < count
+moved-within from to place count true e from_within to_within lt = to_within
+moved-within from to place count false e from_within to_within lt =
+    let less : closed from place + 1 < count = closed-within from place count (ltb from place) refl from_within lt e in
+    let more : opened to (closed from place) < closed from place + 1 + 1 = opened-within to (closed from place) (closed from place + 1) (ltb (closed from place) to) (omega arith) in
+    omega arith
+
+-- a place of columns is one of them after the change, where it stands then
+pub place_after-within : (change : PlaceChange) (count place after : ℕ) → IsChangeOf count change → place < count → place_after change place ≡ Some after → after < count_after change count
+unfolding place_after
+place_after-within (Added at) count place after within lt e = let is = some_is (opened at place) after e in subst (λ (n : ℕ). n < count + 1) is (opened-within at place count (ltb place at) lt)
+place_after-within (Dropped at) count place after within lt e = dropped-within at place count after (eqb place at) refl within lt e
+place_after-within (Moved from to) count place after within lt e = let is = some_is (cond (eqb place from) to (opened to (closed from place))) after e in subst (λ (n : ℕ). n < count) is (moved-within from to place count (eqb place from) refl within.0 within.1 lt)
+
+index_after-within : (change : PlaceChange) (count : ℕ) (index : Index) → IsChangeOf count change → AllByRecursion (λ place. place < count) index.places → AllByRecursion (λ place. place < count_after change count) (index_after change index).places
+unfolding index_after
+index_after-within change count index within all = All-filter_map (λ (place : ℕ). place < count) (λ (place : ℕ). place < count_after change count) (place_after change) (λ place after lt e. place_after-within change count place after within lt e) index.places all
+
+pub keys_after-within : (change : PlaceChange) (count : ℕ) (indexes : List Index) → IsChangeOf count change → ArePlaces count indexes → ArePlaces (count_after change count) (keys_after change indexes)
+keys_after-within change count indexes within all =
+    All-map (λ (index : Index). AllByRecursion (λ place. place < count) index.places) (λ (index : Index). AllByRecursion (λ place. place < count_after change count) index.places) (index_after change) (λ index one. index_after-within change count index within one) indexes all
+
+pub indexes_after-within : (change : PlaceChange) (count : ℕ) (indexes : List Index) → IsChangeOf count change → ArePlaces count indexes → ArePlaces (count_after change count) (indexes_after change indexes)
+indexes_after-within change count indexes within all =
+    All-filter (λ (index : Index). AllByRecursion (λ place. place < count_after change count) index.places) has_places (keys_after change indexes) (keys_after-within change count indexes within all)

@@ -1,0 +1,109 @@
+-- What each clause but those on indexes makes of the table, or the first reason to refuse it ("ALTER TABLE Statement").
+use Rattle.std.specs.Prelude.{ℕ, nat_le, Bool, true, false, not, ◌&&◌, ◌||◌, if◌then◌else◌, List, [], ◌∷◌, length, unwrap_or, Option, Some, None, Result, Ok, Err}
+use Rattle.std.specs.Prelude.{slice_set}
+use Rattle.std.specs.List.{remove}
+use Rattle.gho_schema.specs.declared.schema.Column.{Column}
+use Rattle.gho_schema.specs.declared.schema.Schema.{Schema}
+use Rattle.gho_schema.specs.Names.{same_name}
+use Rattle.alter_grammar.specs.declared.clause.NewColumn.{NewColumn}
+use Rattle.alter_grammar.specs.declared.clause.Spot.{Spot}
+use Rattle.alter_grammar.specs.declared.clause.Spot.TheVariants.{Unsaid, First, After}
+use Rattle.table_words.specs.Reads.{◌>>=◌}
+use Rattle.schema_text.specs.Declaring.{Reasons, first_reason, unless}
+use Rattle.schema_text.specs.Limits.{is_column_name}
+use Rattle.alter_schema.specs.declared.code.AlterCode.{AlterCode}
+use Rattle.alter_schema.specs.declared.code.AlterCode.TheVariants as codes
+use Rattle.alter_schema.specs.declared.standing.Standing.{Standing}
+use Rattle.alter_schema.specs.Columns.{has_column, column_named, is_in_keys, is_in_primary, is_spot, spot_place, column_of, fitting, is_key_conversion, is_conversion}
+use Rattle.alter_schema.specs.Standing.{put_in, taken_out, moved_to, origin_at}
+
+-- ---- ADD
+
+abbrev pub add_reasons : List Column → NewColumn → Spot → Reasons AlterCode
+add_reasons columns written spot =
+    (not (is_spot columns spot), codes.UnknownName)
+    ∷ (has_column columns written.name, codes.RepeatedName)
+    ∷ (nat_le 64 (length columns) || not (is_column_name written.name), codes.Scope)
+    ∷ []
+
+-- A column without NULL or NOT NULL may be null ("CREATE TABLE Statement").
+unfoldable pub added : Standing → NewColumn → Spot → Result Standing AlterCode
+added standing written spot = unless (first_reason (add_reasons standing.schema.columns written spot)) (do
+  column ← column_of None written (unwrap_or written.nullable true)
+  fitting (put_in standing (spot_place standing.schema.columns spot (length standing.schema.columns)) column))
+
+-- ---- DROP
+
+abbrev pub dropped_at : Standing → Option (ℕ × Column) → Result Standing AlterCode
+dropped_at standing None = Err codes.UnknownName
+dropped_at standing (Some found) = if is_in_keys standing.schema.uniques found.0 then Err codes.KeyColumnDropped else Ok (taken_out standing found.0)
+
+unfoldable pub dropped : Standing → List ℕ → Result Standing AlterCode
+dropped standing name = dropped_at standing (column_named standing.schema.columns name)
+
+-- ---- RENAME
+
+-- another name than before, whatever the case of letters
+abbrev pub is_unapproved : Bool → List ℕ → List ℕ → Bool
+is_unapproved approve old new = not approve && not (same_name old new)
+
+abbrev pub rename_reasons : Bool → List Column → ℕ → List ℕ → List ℕ → Reasons AlterCode
+rename_reasons approve columns place old new =
+    (has_column (remove columns place) new, codes.RepeatedName)
+    ∷ (not (is_column_name new), codes.Scope)
+    ∷ (is_unapproved approve old new, codes.RenameNotApproved)
+    ∷ []
+
+-- the column with another name
+abbrev pub with_name : Column → List ℕ → Column
+with_name column new = record column { name = new }
+
+unfoldable pub renamed_in : Standing → ℕ → Column → Standing
+renamed_in standing place column = record standing { schema = record standing.schema { columns = slice_set standing.schema.columns place column } }
+
+abbrev pub renamed_at : Bool → Standing → List ℕ → Option (ℕ × Column) → Result Standing AlterCode
+renamed_at approve standing new None = Err codes.UnknownName
+renamed_at approve standing new (Some found) = unless (first_reason (rename_reasons approve standing.schema.columns found.0 found.1.name new)) (Ok (renamed_in standing found.0 (with_name found.1 new)))
+
+unfoldable pub renamed : Bool → Standing → List ℕ → List ℕ → Result Standing AlterCode
+renamed approve standing old new = renamed_at approve standing new (column_named standing.schema.columns old)
+
+-- ---- CHANGE and MODIFY
+
+-- the column behind which the changed one is to stand is there, and is another, by its old name and by its new one
+abbrev pub is_other_spot : List Column → List ℕ → List ℕ → Spot → Bool
+is_other_spot columns old new Unsaid = true
+is_other_spot columns old new First = true
+is_other_spot columns old new (After name) = has_column columns name && not (same_name name old) && not (same_name name new)
+
+abbrev pub change_reasons : Schema → ℕ → Column → NewColumn → Spot → Reasons AlterCode
+change_reasons schema place column written spot =
+    (not (is_other_spot schema.columns column.name written.name spot), codes.UnknownName)
+    ∷ (has_column (remove schema.columns place) written.name, codes.RepeatedName)
+    ∷ (is_in_keys schema.uniques place && not (is_key_conversion column.kind written.kind), codes.KeyColumnConverted)
+    ∷ (not (is_conversion column.kind written.kind) || not (is_column_name written.name), codes.Scope)
+    ∷ []
+
+-- a column of the PRIMARY KEY stays NOT NULL unless NULL is written
+abbrev pub changed_nullable : Schema → ℕ → NewColumn → Bool
+changed_nullable schema place written = unwrap_or written.nullable (not (is_in_primary schema.uniques place))
+
+-- the changed column among the others, at the place it had where no other is said
+abbrev pub changed_in : Standing → ℕ → Spot → Column → Standing
+changed_in standing place spot column = moved_to standing place (spot_place (remove standing.schema.columns place) spot place) column
+
+-- a rename that isn't approved comes last
+abbrev pub unless_unapproved : Bool → Standing → Result Standing AlterCode
+unless_unapproved true standing = Err codes.RenameNotApproved
+unless_unapproved false standing = Ok standing
+
+abbrev pub changed_column : Bool → Standing → ℕ → Column → NewColumn → Spot → Result Standing AlterCode
+changed_column approve standing place column written spot =
+    column_of (origin_at standing place) written (changed_nullable standing.schema place written) >>= λ new. (fitting (changed_in standing place spot new) >>= λ changed. unless_unapproved (is_unapproved approve column.name written.name) changed)
+
+abbrev pub changed_at : Bool → Standing → NewColumn → Spot → Option (ℕ × Column) → Result Standing AlterCode
+changed_at approve standing written spot None = Err codes.UnknownName
+changed_at approve standing written spot (Some found) = unless (first_reason (change_reasons standing.schema found.0 found.1 written spot)) (changed_column approve standing found.0 found.1 written spot)
+
+unfoldable pub changed : Bool → Standing → List ℕ → NewColumn → Spot → Result Standing AlterCode
+changed approve standing old written spot = changed_at approve standing written spot (column_named standing.schema.columns old)

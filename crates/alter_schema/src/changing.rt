@@ -1,0 +1,139 @@
+//! CHANGE COLUMN and MODIFY COLUMN.
+
+ghost use Rattle.std.specs.Prelude.{◌≡◌, ◌<◌, length, IfOk};
+ghost use Rattle.schema_text.specs.Declaring.{first_reason};
+ghost use Rattle.alter_schema.specs.Changing.{is_other_spot, change_reasons, changed_nullable, changed_in, unless_unapproved, changed_column, changed};
+ghost use Rattle.alter_schema.specs.Codes.{Answers};
+ghost use Rattle.alter_schema.specs.Standing.{Stands};
+
+use crate::code::{AlterCode, AlterFault};
+use crate::columns::{
+    column_named, column_of, fitting, has_column, is_in_keys, is_in_primary, spot_place,
+};
+use crate::conversions::{is_conversion, is_key_conversion};
+use crate::renaming::is_unapproved;
+use crate::standing::{Standing, origin_at, removed};
+use alter_grammar::{NewColumn, Spot};
+use gho_schema::{Column, Schema, same_name};
+use gho_values::{Duplicate, Name};
+use schema_text::is_column_name;
+use std::alloc::{AllocError, Global};
+
+fn is_other_spot(columns: &[Column], old: &Name, new: &Name, spot: &Spot) -> bool
+    ensures { result ≡ is_other_spot columns.now old.now new.now spot.now }
+{
+    match spot {
+        Spot::Unsaid | Spot::First => true,
+        Spot::After(name) => {
+            let text = name.as_str().as_bytes();
+            has_column(columns, name)
+                && !same_name(text, old.as_str().as_bytes())
+                && !same_name(text, new.as_str().as_bytes())
+        }
+    }
+}
+
+fn change_reason(
+    schema: &Schema,
+    place: u32,
+    column: &Column,
+    written: &NewColumn,
+    spot: &Spot,
+) -> Result<Option<AlterCode>, AllocError>
+    requires { place < length schema.now.columns }
+    ensures { IfOk result (λ reason. reason ≡ first_reason (change_reasons schema.now place column.now written.now spot.now)) }
+{
+    let columns = schema.columns.as_slice();
+    let others = removed(schema.columns.copy()?, place as usize);
+    let is_in_keys = is_in_keys(schema.uniques.as_slice(), place);
+    Ok(if !is_other_spot(columns, &column.name, &written.name, spot) {
+        Some(AlterCode::UnknownName)
+    } else if has_column(others.as_slice(), &written.name) {
+        Some(AlterCode::RepeatedName)
+    } else if is_in_keys && !is_key_conversion(column.kind, written.kind) {
+        Some(AlterCode::KeyColumnConverted)
+    } else if !is_conversion(column.kind, written.kind) || !is_column_name(written.name.as_str()) {
+        Some(AlterCode::Scope)
+    } else {
+        None
+    })
+}
+
+fn changed_nullable(schema: &Schema, place: u32, written: &NewColumn) -> bool
+    ensures { result ≡ changed_nullable schema.now place written.now }
+{
+    match written.nullable {
+        Some(nullable) => nullable,
+        None => !is_in_primary(schema.uniques.as_slice(), place),
+    }
+}
+
+fn changed_in(
+    alloc: Global,
+    standing: &Standing,
+    place: u32,
+    spot: &Spot,
+    column: Column,
+) -> Result<Standing, AllocError>
+    requires stands { Stands standing.now }
+    requires within { place < length standing.now.schema.columns }
+    ensures { IfOk result (λ changed. changed ≡ changed_in standing.now place spot.now column) }
+{
+    let others = removed(standing.schema.columns.copy()?, place as usize);
+    let to = spot_place(others.as_slice(), spot, place);
+    standing.moved_to(alloc, place, to, column)
+}
+
+fn unless_unapproved(is_unapproved: bool, standing: Standing) -> Result<Standing, AlterFault>
+    ensures { Answers (λ standing. standing) result (unless_unapproved is_unapproved standing) }
+{
+    if is_unapproved {
+        Err(AlterFault::Refused(AlterCode::RenameNotApproved))
+    } else {
+        Ok(standing)
+    }
+}
+
+fn changed_column(
+    alloc: Global,
+    approve: bool,
+    standing: &Standing,
+    place: u32,
+    column: &Column,
+    written: &NewColumn,
+    spot: &Spot,
+) -> Result<Standing, AlterFault>
+    requires stands { Stands standing.now }
+    requires within { place < length standing.now.schema.columns }
+    ensures { Answers (λ standing. standing) result (changed_column approve standing.now place column.now written.now spot.now) }
+{
+    let origin = origin_at(standing.origins.as_slice(), place);
+    let nullable = changed_nullable(&standing.schema, place, written);
+    let new = column_of(alloc, origin, written, nullable)?;
+    let changed = fitting(changed_in(alloc, standing, place, spot, new)?)?;
+    unless_unapproved(is_unapproved(approve, &column.name, &written.name), changed)
+}
+
+/// The table with a column as it is written now.
+#[tactic(auto, unfolding(crate::specs::Changing::changed))]
+pub fn changed(
+    alloc: Global,
+    approve: bool,
+    standing: &Standing,
+    old: &Name,
+    written: &NewColumn,
+    spot: &Spot,
+) -> Result<Standing, AlterFault>
+    requires { Stands standing.now }
+    ensures { Answers (λ standing. standing) result (changed approve standing.now old.now written.now spot.now) }
+{
+    match column_named(standing.schema.columns.as_slice(), old) {
+        None => Err(AlterFault::Refused(AlterCode::UnknownName)),
+        Some((place, column)) => {
+            match change_reason(&standing.schema, place, column, written, spot)? {
+                Some(code) => Err(AlterFault::Refused(code)),
+                None => changed_column(alloc, approve, standing, place, column, written, spot),
+            }
+        }
+    }
+}

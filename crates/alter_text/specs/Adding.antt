@@ -1,0 +1,48 @@
+-- Clauses that write a column or an index: ADD, CHANGE and MODIFY ("ALTER TABLE Statement").
+use Rattle.std.specs.Prelude.{codes, ℕ, if◌then◌else◌, List, [], ◌∷◌, Option, Some, None, Result, Ok, Err}
+use Rattle.alter_grammar.specs.declared.clause.Clause.{Clause}
+use Rattle.alter_grammar.specs.declared.clause.Clause.TheVariants.{Add, Change, AddIndex}
+use Rattle.table_words.specs.declared.token.Token.{Token}
+use Rattle.table_words.specs.Keys.{key_at}
+use Rattle.table_words.specs.Pieces.{name_at}
+use Rattle.table_words.specs.Reads.{◌>>=◌}
+use Rattle.table_words.specs.Tokens.{is_keyword}
+use Rattle.alter_schema.specs.declared.code.AlterCode.TheVariants as refusals
+use Rattle.alter_text.specs.Column.{primary_at, new_column_at, spot_at}
+use Rattle.alter_text.specs.Pieces.{Read, in_alter, behind_column, is_index_word, is_out_of_scope}
+
+unfoldable pub add_column_at : List Token → Read Clause
+add_column_at words = do
+  column ← new_column_at words
+  spot ← spot_at column.1
+  Ok (Add column.0 spot.0, spot.1)
+
+unfoldable pub add_index_at : List Token → Read Clause
+add_index_at words = do
+  key ← in_alter (key_at words)
+  Ok (AddIndex key.0.name key.0.columns, key.1)
+
+-- Behind ADD: what isn't taken, a unique key, the PRIMARY KEY, an index, or a column with or without COLUMN in front.
+unfoldable pub add_at : List Token → Read Clause
+add_at [] = Err refusals.Syntax
+add_at (word ∷ rest) =
+    if is_out_of_scope word then Err refusals.Scope
+    else (if is_keyword word (codes "UNIQUE") then Err refusals.AddUnique
+    else (if is_keyword word (codes "PRIMARY") then primary_at rest
+    else (if is_index_word word then add_index_at rest
+    else add_column_at (behind_column (word ∷ rest)))))
+
+-- Behind CHANGE: a column, what it is afterwards, and where it stands.
+unfoldable pub change_at : List Token → Read Clause
+change_at words = do
+  old ← in_alter (name_at (behind_column words))
+  column ← new_column_at old.1
+  spot ← spot_at column.1
+  Ok (Change old.0 column.0 spot.0, spot.1)
+
+-- Behind MODIFY: the same with one name.
+unfoldable pub modify_at : List Token → Read Clause
+modify_at words = do
+  column ← new_column_at (behind_column words)
+  spot ← spot_at column.1
+  Ok (Change column.0.name column.0 spot.0, spot.1)

@@ -1,0 +1,92 @@
+//! A column as a clause writes it, and where it is to stand.
+
+ghost use Rattle.std.specs.Prelude.{option_map};
+ghost use Rattle.alter_schema.specs.Codes.{Answers};
+ghost use Rattle.alter_text.specs.Column.{new_attribute_at, new_attributes_at, new_column_at, after_at, spot_at};
+
+use crate::pieces::{attribute_at, keyword_at, kind_at, name_at};
+use alter_grammar::{NewColumn, Spot};
+use alter_schema::{AlterCode, AlterFault};
+use std::alloc::Global;
+use table_words::{Attribute, Attributes, Token, behind_keyword};
+
+#[tactic(auto, unfolding(crate::specs::Column::new_attribute_at))]
+fn new_attribute_at(
+    alloc: Global,
+    words: &[Token],
+) -> Result<Option<(Attribute, &[Token])>, AlterFault>
+    ensures { Answers (option_map (λ read. (read.0, read.1.now))) result (new_attribute_at words.now) }
+{
+    match words {
+        [] => Ok(None),
+        [word, rest @ ..] => {
+            if word.is_keyword("UNIQUE") {
+                Err(AlterFault::Refused(AlterCode::AddUnique))
+            } else if word.is_keyword("PRIMARY") {
+                keyword_at("KEY", rest)?;
+                Err(AlterFault::Refused(AlterCode::ClusteredKeyChange))
+            } else {
+                attribute_at(alloc, words)
+            }
+        }
+    }
+}
+
+#[tactic(auto, unfolding(crate::specs::Column::new_attributes_at))]
+fn new_attributes_at(alloc: Global, words: &[Token]) -> Result<(Attributes, &[Token]), AlterFault>
+    ensures { Answers (λ read. (read.0, read.1.now)) result (new_attributes_at words.now) }
+{
+    let mut attributes = Attributes::new();
+    let mut rest = words;
+    for _ in 0..words.len() {
+        match new_attribute_at(alloc, rest)? {
+            None => return Ok((attributes, rest)),
+            Some((attribute, behind)) => {
+                attributes = attributes.with(attribute);
+                rest = behind;
+            }
+        }
+    }
+    Ok((attributes, rest))
+}
+
+/// The column at the front, and what stands behind it.
+#[tactic(auto, unfolding(crate::specs::Column::new_column_at))]
+pub fn new_column_at(alloc: Global, words: &[Token]) -> Result<(NewColumn, &[Token]), AlterFault>
+    ensures { Answers (λ column. (column.0, column.1.now)) result (new_column_at words.now) }
+{
+    let (name, rest) = name_at(alloc, words)?;
+    let (kind, rest) = kind_at(rest)?;
+    let (attributes, rest) = new_attributes_at(alloc, rest)?;
+    let Attributes { nullable, default } = attributes;
+    Ok((
+        NewColumn {
+            name,
+            kind,
+            nullable,
+            default,
+        },
+        rest,
+    ))
+}
+
+fn after_at(alloc: Global, words: &[Token]) -> Result<(Spot, &[Token]), AlterFault>
+    ensures { Answers (λ spot. (spot.0, spot.1.now)) result (after_at words.now) }
+{
+    let (name, rest) = name_at(alloc, words)?;
+    Ok((Spot::After(name), rest))
+}
+
+/// Where a clause puts its column, and what stands behind that.
+#[tactic(auto, unfolding(crate::specs::Column::spot_at))]
+pub fn spot_at(alloc: Global, words: &[Token]) -> Result<(Spot, &[Token]), AlterFault>
+    ensures { Answers (λ spot. (spot.0, spot.1.now)) result (spot_at words.now) }
+{
+    match behind_keyword("FIRST", words) {
+        Some(rest) => Ok((Spot::First, rest)),
+        None => match behind_keyword("AFTER", words) {
+            Some(rest) => after_at(alloc, rest),
+            None => Ok((Spot::Unsaid, words)),
+        },
+    }
+}

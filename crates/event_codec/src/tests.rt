@@ -1,0 +1,4 @@
+//! Spellings worked out by hand, and damaged ones.
+
+mod refuses;
+mod spells;

@@ -1,0 +1,5 @@
+pub mod Granting
+pub mod Holding
+pub mod Laws
+pub mod Requests
+pub mod Waiting

@@ -1,0 +1,6 @@
+//! Lists of calls with answers worked out by hand.
+
+mod ends;
+mod names;
+mod orders;
+mod trial;

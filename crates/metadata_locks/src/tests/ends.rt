@@ -1,0 +1,156 @@
+//! Ends of requests, and asks and polls that are taken back.
+
+use super::trial::Step::{
+    BackS, BackX, End, Free, Holder, New, Poll, PollBack, PollEnd, S, Turn, Waiting, X,
+};
+use super::trial::tried;
+use std::test::Fail;
+
+#[test]
+fn an_end_takes_what_the_request_added(rt: HostRuntime) -> Result<(), Fail> {
+    tried(
+        &rt,
+        &[
+            Turn(1, "tu"),
+            Holder("t", 0),
+            X(2, "tu", 0),
+            New,
+            X(1, "t", 0),
+            Turn(1, "t"),
+            Holder("t", 1),
+            S(2, "t", 1),
+            New,
+            S(1, "t", 0),
+            Turn(1, "t"),
+            S(2, "t", 0),
+            X(3, "t", 1),
+            New,
+            X(1, "t", 0),
+            Turn(1, "tuv"),
+            Holder("t", 1),
+            Holder("u", 0),
+            S(2, "uv", 0),
+            New,
+            S(1, "t", 0),
+            X(2, "t", 1),
+            End(2),
+            Waiting(2, 0),
+            S(3, "t", 0),
+            New,
+            S(1, "t", 0),
+            S(2, "u", 0),
+            X(2, "t", 1),
+            End(2),
+            X(3, "u", 2),
+            New,
+            S(1, "t", 0),
+            X(2, "t", 1),
+            X(3, "t", 1),
+            X(4, "t", 1),
+            End(3),
+            Free(1),
+            Poll(4, 2),
+            PollEnd(2),
+            PollEnd(4),
+            S(5, "t", 0),
+            New,
+            X(3, "t", 0),
+            X(2, "t", 3),
+            Free(3),
+            PollEnd(2),
+            Holder("t", 0),
+            Waiting(2, 0),
+        ],
+    )?;
+    Ok(())
+}
+
+#[test]
+fn an_ask_is_taken_back(rt: HostRuntime) -> Result<(), Fail> {
+    tried(
+        &rt,
+        &[
+            BackX(1, "tu", 0),
+            X(2, "tu", 0),
+            New,
+            BackS(1, "t"),
+            X(2, "t", 0),
+            New,
+            S(1, "t", 0),
+            BackX(2, "t", 1),
+            Waiting(2, 0),
+            S(3, "t", 0),
+            New,
+            S(1, "t", 0),
+            BackX(1, "tu", 0),
+            S(2, "tu", 0),
+            X(3, "t", 1),
+            New,
+            S(1, "t", 0),
+            BackS(1, "tu"),
+            X(2, "u", 0),
+            X(2, "t", 1),
+            New,
+            S(1, "t", 0),
+            X(2, "t", 1),
+            BackX(3, "t", 1),
+            X(4, "t", 1),
+            Free(1),
+            Poll(4, 2),
+            Poll(2, 0),
+            New,
+            X(1, "t", 0),
+            BackX(1, "t", 0),
+            Holder("t", 1),
+        ],
+    )?;
+    Ok(())
+}
+
+#[test]
+fn a_poll_is_taken_back(rt: HostRuntime) -> Result<(), Fail> {
+    tried(
+        &rt,
+        &[
+            S(1, "t", 0),
+            X(2, "t", 1),
+            Free(1),
+            PollBack(2),
+            Holder("t", 0),
+            Waiting(2, 1),
+            S(3, "t", 2),
+            Poll(2, 0),
+            Holder("t", 2),
+            New,
+            S(1, "t", 0),
+            X(3, "t", 1),
+            X(2, "t", 1),
+            X(4, "t", 1),
+            Free(1),
+            PollBack(3),
+            Poll(2, 3),
+            Poll(4, 2),
+            Poll(3, 0),
+            Free(3),
+            PollBack(2),
+            PollBack(2),
+            Poll(4, 2),
+            PollEnd(2),
+            Poll(4, 0),
+            New,
+            S(1, "t", 0),
+            S(2, "u", 0),
+            X(2, "t", 1),
+            X(3, "t", 1),
+            X(4, "v", 0),
+            Free(1),
+            PollBack(2),
+            S(5, "v", 4),
+            X(6, "u", 2),
+            Free(2),
+            Poll(3, 0),
+            Poll(6, 0),
+        ],
+    )?;
+    Ok(())
+}

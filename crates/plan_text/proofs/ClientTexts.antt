@@ -1,0 +1,56 @@
+-- Reading the texts of clients one after the other, as a loop does; and counting their lines.
+use Rattle.std.proofs.Common.{◌≡◌, ℕ, ◌+◌, ◌-◌, ◌<◌, ◌≤◌, Bool, true, false, List, [], ◌∷◌, ◌++◌, length, drop, get_or, Option, Some, None, Result, Ok, Err, cond, refl, sym, ap, ◌∙◌, arith, append_assoc}
+use Rattle.std.proofs.lemmas.List.{drop_all, drop_more, append-nil}
+use Rattle.std.specs.List.{sum_by, fold}
+use Rattle.toml.specs.declared.value.Value.{Value as TomlValue}
+use Rattle.toml.specs.Data.{Data, Items, no_items, item}
+use Rattle.toml.specs.View.{view, items_view}
+use Rattle.toml.proofs.Views.{items_view-drop}
+use Rattle.gho_schema.specs.declared.schema.Schema.{Schema}
+use Rattle.gho_schema.specs.Reading.{◌>>=◌}
+use Rattle.script_text.specs.declared.script.ScriptLine.{ScriptLine}
+use Rattle.plan_text.specs.declared.fault.Refusal.TheVariants.{TooLong, NotToml, NotBuilt}
+use Rattle.plan_text.specs.declared.fault.PlanFault.{PlanFault}
+use Rattle.plan_text.specs.declared.fault.PlanFault.TheVariants as faults
+use Rattle.plan_text.specs.Documents.{Finds}
+use Rattle.plan_text.specs.Clients.{client_of, clients_of}
+
+abbrev pub Lines : Type 0
+Lines = List ScriptLine
+
+-- the item at this place is the first of those from there on
+from_here : (items : List TomlValue) (i : ℕ) (x : TomlValue) → i < length items → x ≡ get_or items i x → items_view (drop i items) ≡ item (view x) (items_view (drop (i + 1) items))
+from_here items i x lt is = items_view-drop items i x lt ∙ ap (λ (y : TomlValue). item (view y) (items_view (drop (i + 1) items))) (sym is)
+
+-- the scripts so far, and those that are still read
+abbrev pub with_front : List Lines → Option (List Lines) → Option (List Lines)
+with_front front read = read >>= λ scripts. Some (front ++ scripts)
+
+regroup : (front : List Lines) (script : Lines) (others : Option (List Lines)) → with_front front (others >>= λ scripts. Some (script ∷ scripts)) ≡ with_front (front ++ (script ∷ [])) others
+regroup front script (Some scripts) = ap (λ (s : List Lines). Some s) (simp append_assoc)
+regroup front script None = refl
+
+pub goes_on : (schema : Schema) (front : List Lines) (script : Lines) (items : List TomlValue) (i : ℕ) (x : TomlValue) (total : Option (List Lines))
+    → i < length items → x ≡ get_or items i x → client_of schema (view x) ≡ Some script
+    → with_front front (clients_of schema (items_view (drop i items))) ≡ total → with_front (front ++ (script ∷ [])) (clients_of schema (items_view (drop (i + 1) items))) ≡ total
+unfolding clients_of
+goes_on schema front script items i x total lt is h so_far =
+    let one : with_front front (clients_of schema (items_view (drop i items))) ≡ with_front (front ++ (script ∷ [])) (clients_of schema (items_view (drop (i + 1) items))) =
+    rw (from_here items i x lt is, h) (regroup front script (clients_of schema (items_view (drop (i + 1) items)))) in
+    sym one ∙ so_far
+
+pub fails : (e : PlanFault) (schema : Schema) (front : List Lines) (items : List TomlValue) (i : ℕ) (x : TomlValue) (total : Option (List Lines))
+    → i < length items → x ≡ get_or items i x → Finds (λ (s : Lines). s) (Err e) (client_of schema (view x)) → with_front front (clients_of schema (items_view (drop i items))) ≡ total → Finds (λ (s : List Lines). s) (Err e) total
+unfolding clients_of
+fails faults.Memory schema front items i x total lt is h so_far = tt
+fails (faults.Refused TooLong) schema front items i x total lt is h so_far = h
+fails (faults.Refused NotToml) schema front items i x total lt is h so_far = h
+fails (faults.Refused NotBuilt) schema front items i x total lt is h so_far =
+    let one : with_front front (clients_of schema (items_view (drop i items))) ≡ None = rw (from_here items i x lt is, h) refl in
+    sym so_far ∙ one
+
+pub is_full : (schema : Schema) (front : List Lines) (items : List TomlValue) (i : ℕ) (total : Option (List Lines)) → length items ≤ i → with_front front (clients_of schema (items_view (drop i items))) ≡ total → total ≡ Some front
+unfolding clients_of
+is_full schema front items i total le so_far =
+    let one : with_front front (clients_of schema (items_view (drop i items))) ≡ Some front = rw (drop_all i items le) (ap (λ (s : List Lines). Some s) (append-nil front)) in
+    sym so_far ∙ one

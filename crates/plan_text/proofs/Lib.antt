@@ -1,0 +1,4 @@
+mod ClientTexts
+mod Members
+mod RowOrder
+mod RowTexts

@@ -1,0 +1,9 @@
+-- What holds of all schemas that are read. The functions of the module `laws` prove each.
+use Rattle.std.specs.Prelude.{◌≡◌, ℕ, List, Ok}
+use Rattle.gho_schema.specs.declared.schema.Schema.{Schema}
+use Rattle.schema_text.specs.Lawful.{IsLawful}
+use Rattle.schema_text.specs.Reading.{schema_at}
+
+-- Every schema that is read is lawful.
+abbrev pub ReadSchemasAreLawful : Type 0
+ReadSchemasAreLawful = (migrated text : List ℕ) (schema : Schema) → schema_at migrated text ≡ Ok schema → IsLawful schema

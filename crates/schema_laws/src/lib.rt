@@ -1,0 +1,9 @@
+//! What holds of all schemas that are read: each function's contract is a law, and its body is empty.
+#![tactic(auto)]
+
+mod laws;
+
+pub use laws::read_schemas_are_lawful;
+
+#[cfg(test)]
+mod tests;

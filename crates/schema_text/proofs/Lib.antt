@@ -1,0 +1,5 @@
+pub mod DeclaredColumns
+pub mod FreeNames
+pub mod Places
+pub mod Reasons
+pub mod Rest

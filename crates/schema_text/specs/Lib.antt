@@ -1,0 +1,13 @@
+pub mod Clustering
+pub mod Columns
+pub mod Declaring
+pub mod Defaults
+pub mod Keys
+pub mod Lawful
+pub mod Limits
+pub mod Options
+pub mod Parts
+pub mod Printing
+pub mod Reading
+pub mod Storing
+pub mod Written

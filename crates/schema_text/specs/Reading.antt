@@ -1,0 +1,14 @@
+-- *The schema of a text*: what a text of CREATE TABLE declares, or why it is refused.
+use Rattle.std.specs.Prelude.{ℕ, List, Result}
+use Rattle.gho_schema.specs.declared.schema.Schema.{Schema}
+use Rattle.table_words.specs.declared.code.SchemaCode.{SchemaCode}
+use Rattle.table_words.specs.Reads.{◌>>=◌}
+use Rattle.table_words.specs.Tokens.{text_words}
+use Rattle.schema_text.specs.Declaring.{declared}
+use Rattle.schema_text.specs.Written.{written}
+
+-- The text's first word that doesn't fit is refused before all else; then the table that it writes is.
+unfoldable pub schema_at : List ℕ → List ℕ → Result Schema SchemaCode
+schema_at migrated text = do
+  table ← written (text_words text)
+  declared migrated table

@@ -1,0 +1,71 @@
+-- The columns of a key as they are written.
+use Rattle.std.specs.Prelude.{codes, ℕ, Bool, true, false, if◌then◌else◌, List, [], ◌∷◌, length, Option, Some, None, Result, Ok, Err}
+use Rattle.sql_words.specs.declared.word.WordClass.{WordClass}
+use Rattle.sql_words.specs.declared.word.WordClass.TheVariants as class
+use Rattle.table_words.specs.declared.code.SchemaCode.{SchemaCode}
+use Rattle.table_words.specs.declared.code.SchemaCode.TheVariants.{Syntax, Scope}
+use Rattle.table_words.specs.declared.keys.KeyText.{KeyText}
+use Rattle.table_words.specs.declared.token.Token.{Token}
+use Rattle.table_words.specs.Listed.{listed}
+use Rattle.table_words.specs.Pieces.{behind_keyword, behind_sign, sign_at, name_at}
+use Rattle.table_words.specs.Reads.{◌>>=◌, Read}
+use Rattle.table_words.specs.Scope.{misfit}
+
+-- a number at the front
+abbrev pub is_number : WordClass → Bool
+is_number class.Number = true
+is_number class.Name = false
+is_number class.Quoted = false
+is_number class.Text = false
+is_number class.Bytes = false
+is_number class.Sign = false
+
+abbrev pub begins_number : List Token → Bool
+begins_number [] = false
+begins_number (word ∷ rest) = is_number word.class
+
+-- An opening parenthesis and a number are the length of a prefix, which this program doesn't take.
+abbrev pub prefix_or : SchemaCode → Option (List Token) → SchemaCode
+prefix_or other None = other
+prefix_or other (Some rest) = if begins_number rest then Scope else other
+
+-- DESC neither
+abbrev pub descending_or : SchemaCode → Option (List Token) → SchemaCode
+descending_or other None = other
+descending_or other (Some rest) = Scope
+
+-- What a key is refused with where these words stand behind one of its columns.
+unfoldable pub key_misfit : List Token → SchemaCode
+key_misfit words = descending_or (prefix_or (misfit words) (behind_sign (codes "(") words)) (behind_keyword (codes "DESC") words)
+
+-- the key's closing parenthesis
+abbrev pub closed : List (List ℕ) → List Token → Option (List Token) → Read (List (List ℕ))
+closed names words None = Err (key_misfit words)
+closed names words (Some rest) = Ok (names, rest)
+
+unfoldable pub names_at : List Token → Read (List (List ℕ))
+names_at words = listed name_at Syntax (length words) words
+
+-- The names of a key's columns in parentheses ("CREATE INDEX Statement").
+unfoldable pub key_columns_at : List Token → Read (List (List ℕ))
+key_columns_at words = do
+  rest ← sign_at (codes "(") words
+  names ← names_at rest
+  closed names.0 names.1 (behind_sign (codes ")") names.1)
+
+-- nothing where the parenthesis stands, else the key's name
+abbrev pub key_name : List Token → Option (List Token) → Read (Option (List ℕ))
+key_name words (Some rest) = Ok (None, words)
+key_name words None = do
+  name ← name_at words
+  Ok (Some name.0, name.1)
+
+unfoldable pub key_name_at : List Token → Read (Option (List ℕ))
+key_name_at words = key_name words (behind_sign (codes "(") words)
+
+-- A key's name, where one is written, and its columns.
+unfoldable pub key_at : List Token → Read KeyText
+key_at words = do
+  name ← key_name_at words
+  columns ← key_columns_at name.1
+  Ok (record { name = name.0; columns = columns.0 }, columns.1)

@@ -1,0 +1,9 @@
+pub mod Attributes
+pub mod Codes
+pub mod Keys
+pub mod Kinds
+pub mod Listed
+pub mod Pieces
+pub mod Reads
+pub mod Scope
+pub mod Tokens
