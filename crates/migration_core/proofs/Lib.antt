@@ -1,0 +1,7 @@
+mod Books
+mod Ends
+mod Givens
+mod Kept
+mod Seats
+mod Sessions
+mod Turns
