@@ -1,5 +1,5 @@
 -- A run that hasn't ended has an actor whose turn comes next.
-use Rattle.std.proofs.Common.{◌≡◌, ℕ, ◌+◌, ◌==◌, Bool, true, false, ◌&&◌, List, [], ◌∷◌, ◌++◌, Option, Some, None, cond, refl, sym, ap, ◌∙◌, subst}
+use Rattle.std.proofs.Common.{◌≡◌, ℕ, ◌+◌, Bool, true, false, List, [], ◌∷◌, ◌++◌, Option, Some, None, cond, refl, sym, subst}
 use Rattle.std.proofs.lemmas.Bool.{true≢false, eq-eqb}
 use Rattle.std.specs.List.{AllByRecursion, find}
 use Rattle.std.specs.Option.{IsSome, IfSome, IfNone}
@@ -15,7 +15,7 @@ use Rattle.tool_program.specs.declared.tool.Tool.{Tool}
 use Rattle.tool_program.specs.declared.tool.Tool.TheVariants.{Creating, Reaching, Choosing, Spanning, Copying, Renaming, Done, Reverting, Reverted}
 use Rattle.tool_program.specs.Programs.{plan_altered, progress, tool_actor, tool_call, tool_asks, is_none, over_from, clients_over, given, is_over, has_ended}
 use Rattle.tool_program.specs.Orders.{actors, clients_from, behind_last, last_actor, is_some, is_ready, next_actor}
-use Rattle.migration_core.proofs.Givens.{tool_given, given_to_tool}
+use Rattle.migration_core.proofs.Givens.{given_to_tool}
 
 found_at : {X : Type 0} (b : Bool) (y x : X) (more : Option X) → cond b (Some y) more ≡ Some x → (P : X → Type 0) → (b ≡ true → P y) → (more ≡ Some x → P x) → P x
 found_at true y x more some P here there = let same : y ≡ x = cc in subst P same (here refl)

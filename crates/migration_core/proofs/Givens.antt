@@ -1,5 +1,5 @@
 -- What is given to the tool's actors.
-use Rattle.std.proofs.Common.{◌≡◌, ℕ, ◌+◌, Bool, true, false, ◌&&◌, List, Option, Some, None, cond, refl, sym, ◌∙◌}
+use Rattle.std.proofs.Common.{◌≡◌, ℕ, false, ◌&&◌, List, Option, Some, None, cond, refl}
 use Rattle.std.proofs.lemmas.Bool.{true≢false}
 use Rattle.std.specs.List.{slice_get}
 use Rattle.script_text.specs.declared.actor.Actor.{Actor}

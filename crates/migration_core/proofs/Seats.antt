@@ -1,5 +1,5 @@
 -- Writing each item of a list in place.
-use Rattle.std.proofs.Common.{◌≡◌, ℕ, zero, suc, ◌+◌, List, [], ◌∷◌, ◌++◌, map, take, drop, Option, Some, None, refl, sym, ap, ◌∙◌, subst}
+use Rattle.std.proofs.Common.{◌≡◌, ℕ, zero, suc, List, [], ◌∷◌, ◌++◌, map, take, drop, Some, sym, ap, subst}
 use Rattle.std.specs.List.{AllByRecursion, slice_get, slice_set}
 
 -- the item at the place holds what all that are left hold

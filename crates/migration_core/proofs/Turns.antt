@@ -1,5 +1,5 @@
 -- Turns of the next actor, one after the other.
-use Rattle.std.proofs.Common.{◌≡◌, ℕ, ◌+◌, ◌<◌, ◌≤◌, Bool, true, false, ◌||◌, List, [], ◌∷◌, ◌++◌, length, Option, Some, None, refl, sym, ap, ◌∙◌, subst, arith}
+use Rattle.std.proofs.Common.{◌≡◌, ℕ, ◌+◌, ◌<◌, ◌≤◌, Bool, true, false, ◌||◌, List, [], ◌∷◌, ◌++◌, length, Option, Some, None, refl, sym, ap, ◌∙◌, subst}
 use Rattle.std.proofs.lemmas.Bool.{false≢true, true≢false, leb-false, le-leb}
 use Rattle.std.proofs.lemmas.List.{length-append}
 use Rattle.std.specs.Prelude.{nat_le}
@@ -9,7 +9,7 @@ use Rattle.server_words.specs.declared.entry.Entry.{Entry}
 use Rattle.server_words.specs.Along.{Along-more}
 use Rattle.plan_text.specs.PlanData.{PlanData}
 use Rattle.tool_program.specs.Programs.{given, has_ended}
-use Rattle.tool_program.specs.Orders.{is_some, is_ready, next_actor, ReplayOrder}
+use Rattle.tool_program.specs.Orders.{is_some, next_actor, ReplayOrder}
 use Rattle.migration_core.specs.declared.run.Stepped.{Stepped}
 use Rattle.migration_core.specs.declared.run.Stepped.TheVariants.{Took, Idle, Over, NoMemory}
 use Rattle.migration_core.specs.Runs.{RunView, turn_of, journal_after, is_over, Steps, Grows, Passes}

@@ -6,7 +6,7 @@ use Rattle.server_words.specs.declared.entry.Entry.{Entry}
 use Rattle.plan_text.specs.PlanData.{PlanData}
 use Rattle.plan_text.specs.Journals.{same_actor, turns_of}
 use Rattle.tool_program.specs.declared.tool.Tool.{Tool}
-use Rattle.tool_program.specs.Programs.{plan_altered, session_named, Progress, progress}
+use Rattle.tool_program.specs.Programs.{plan_altered, session_named, progress}
 use Rattle.tool_program.specs.Orders.{actors, last_actor}
 use Rattle.migration_core.specs.declared.seat.Seat.{Seat}
 

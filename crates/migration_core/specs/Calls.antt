@@ -1,5 +1,5 @@
 -- What is kept of a plan, and what an answer changes in how far the tool is.
-use Rattle.std.specs.Prelude.{◌≡◌, ℕ, ◌+◌, if◌then◌else◌, List, Option, Some, None}
+use Rattle.std.specs.Prelude.{◌≡◌, ℕ, ◌+◌, if◌then◌else◌, List, Some}
 use Rattle.std.specs.Ordering.{is_eq}
 use Rattle.gho_values.specs.declared.value.Value.{Value}
 use Rattle.gho_values.specs.declared.span.Bound.TheVariants.{Open}

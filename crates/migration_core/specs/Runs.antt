@@ -1,7 +1,6 @@
 -- *Run*: a plan's turns taken one by one on a server, each of them written into the journal.
 use Rattle.std.specs.Prelude.{◌≡◌, ℕ, ◌+◌, ◌≤◌, ◌<◌, nat_le, Bool, true, false, ◌||◌, not, if◌then◌else◌, List, [], ◌∷◌, ◌++◌, length, Option, Some, None}
 use Rattle.script_text.specs.declared.actor.Actor.{Actor}
-use Rattle.server_words.specs.declared.answer.Answer.{Answer}
 use Rattle.server_words.specs.declared.entry.Asked.{Asked}
 use Rattle.server_words.specs.declared.entry.Entry.{Entry}
 use Rattle.server_words.specs.States.{State, session_of, connected}

@@ -28,11 +28,11 @@ pub const TURN_LIMIT: usize = 200_000;
 /// A plan, and a journal of it.
 #[derive(Drop)]
 pub struct Book<'a> {
-    pub(crate) migration: Migration<'a>,
-    pub(crate) entries: Vec<Entry>,
-    pub(crate) tool: Tool,
+    migration: Migration<'a>,
+    entries: Vec<Entry>,
+    tool: Tool,
     pub(crate) seats: Vec<Seat>,
-    pub(crate) last: Option<Actor>,
+    last: Option<Actor>,
 }
 
 impl<'a> Model for Book<'a> {

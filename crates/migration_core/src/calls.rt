@@ -97,6 +97,7 @@ impl Migration<'_> {
     pub fn has_call(&self, tool: &Tool) -> bool
         ensures { result ≡ is_some (tool_asks self.now (plan_altered self.now) tool.now) }
     {
+        // The migration knows that the ALTER is taken.
         let _ = &self.schema;
         match tool {
             Tool::Done | Tool::Reverted(_) => false,

@@ -2,6 +2,8 @@
 
 ghost use Rattle.std.specs.Prelude.{◌≡◌, ◌<◌, [], length, true, false, IsSome, IfSome, IfNone, IfOk};
 ghost use Rattle.plan_text.specs.Journals.{opening, state_at, IsFaithful, KeepsPlan};
+ghost use Rattle.plan_text.specs.Histories.{history, Serial, tables_left};
+ghost use Rattle.serial_laws.specs.SerialLaws.{IsMigratable};
 ghost use Rattle.tool_program.specs.Programs.{plan_altered, has_ended, verdict_of, Follows};
 ghost use Rattle.tool_program.specs.Orders.{is_ready, next_actor, ReplayOrder};
 ghost use Rattle.migration_core.specs.Runs.{Steps, Passes, is_over};
@@ -11,6 +13,7 @@ use crate::book::{Book, TURN_LIMIT};
 use crate::turn::take_turn;
 use plan_text::Plan;
 use script_text::Actor;
+use serial_laws::laws::journals_are_serial;
 use server_words::{Entry, Journal, Serve, Verdict};
 use std::alloc::{AllocError, Global};
 use std::marker::Model;
@@ -172,14 +175,17 @@ impl<'a, V: Serve> Run<'a, V> {
         &self.server
     }
 
-    /// The server and the journal. It takes no memory.
+    /// The server and the journal. Its history is serial: what ended, one at a time, leads from the plan's opening tables to
+    /// those at its end. It takes no memory.
     pub fn stop(self) -> (V, Journal)
         ensures journal { result.1 ≡ self.entry.journal }
         ensures state { self.entry.is_halted ≡ false → V.state result.0 ≡ state_at self.entry.plan self.entry.journal }
         ensures faithful { IsFaithful self.entry.plan self.entry.journal }
         ensures kept { KeepsPlan self.entry.plan self.entry.journal }
         ensures follows { Follows self.entry.plan self.entry.journal }
+        ensures serial { IsMigratable self.entry.plan → Serial self.entry.plan self.entry.plan.tables (history self.entry.plan self.entry.journal) (tables_left self.entry.plan (state_at self.entry.plan self.entry.journal).tables) }
     {
+        journals_are_serial();
         (self.server, self.book.into_journal())
     }
 }

@@ -1,5 +1,4 @@
-use Rattle.std.proofs.Common.{◌≡◌, List, [], ◌∷◌, ◌++◌, map, drop}
-use Rattle.script_text.specs.declared.actor.Actor.{Actor}
+use Rattle.std.proofs.Common.{◌≡◌, [], ◌∷◌, ◌++◌, map, drop}
 use Rattle.script_text.specs.declared.actor.Actor.TheVariants.{Op, Insp, Copy, Apply, Lock, Ren}
 use Rattle.migration_core.specs.Books.{seat_at}
 use Rattle.migration_core.proofs.book.tool_seats.Given as goal

@@ -1,4 +1,4 @@
-use Rattle.std.proofs.Common.{◌≡◌, ℕ, ◌+◌, ◌<◌, ◌^◌, ◌++◌, List, map, take, drop}
+use Rattle.std.proofs.Common.{◌≡◌, ℕ, ◌<◌, ◌^◌, ◌++◌, List, map, take, drop}
 use Rattle.std.specs.List.{AllByRecursion}
 use Rattle.script_text.specs.declared.actor.Actor.{Actor}
 use Rattle.migration_core.specs.declared.seat.Seat.{Seat}

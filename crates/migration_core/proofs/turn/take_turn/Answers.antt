@@ -1,9 +1,9 @@
-use Rattle.std.proofs.Common.{◌≡◌, [], ◌∷◌, ◌++◌, Some, sym, ◌∙◌, rules}
-use Rattle.plan_text.specs.Journals.{serves_asked, state_at}
+use Rattle.std.proofs.Common.{◌≡◌, Some, sym, ◌∙◌, rules}
+use Rattle.plan_text.specs.Journals.{state_at}
 use Rattle.tool_program.specs.Programs.{given, session_for}
-use Rattle.migration_core.specs.Runs.{opened_for, served, journal_after}
+use Rattle.migration_core.specs.Runs.{opened_for, served}
 use Rattle.migration_core.proofs.Givens.{given_stands}
-use Rattle.migration_core.proofs.Kept.{entry_of, connected_is, journal_grows, state_grows}
+use Rattle.migration_core.proofs.Kept.{connected_is, journal_grows, state_grows}
 use Rattle.migration_core.proofs.turn.take_turn.Goals as goal
 
 pub session-requires : goal.session-requires

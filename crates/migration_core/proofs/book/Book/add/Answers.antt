@@ -1,8 +1,6 @@
-use Rattle.std.proofs.Common.{rules, ◌≡◌, ℕ, ◌<◌, [], ◌∷◌, ◌++◌, map, length, Some, sym, ap, ◌∙◌, arith}
-use Rattle.tool_program.specs.Programs.{Progress, progress, after_turn}
+use Rattle.std.proofs.Common.{rules, ◌≡◌, ◌<◌, [], ◌∷◌, ◌++◌, length, arith}
+use Rattle.tool_program.specs.Programs.{progress, after_turn}
 use Rattle.tool_program.specs.Orders.{actors}
-use Rattle.migration_core.specs.Calls.{applied}
-use Rattle.migration_core.specs.Books.{marked}
 use Rattle.migration_core.proofs.Books.{few_turns, IsBook-more}
 use Rattle.migration_core.proofs.book.Book.add.Goals as goal
 

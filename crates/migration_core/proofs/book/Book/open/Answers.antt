@@ -1,7 +1,3 @@
-use Rattle.std.proofs.Common.{rules, ◌≡◌, [], map, Option, Some, None, sym, ap, ◌∙◌}
-use Rattle.tool_program.specs.declared.tool.Tool.TheVariants.{Creating}
-use Rattle.tool_program.specs.Orders.{actors}
-use Rattle.migration_core.specs.Books.{seat_at, IsBook}
 use Rattle.migration_core.proofs.Books.{IsBook-none}
 use Rattle.migration_core.proofs.book.Book.open.Goals as goal
 

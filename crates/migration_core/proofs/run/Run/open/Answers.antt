@@ -1,4 +1,4 @@
-use Rattle.std.proofs.Common.{◌≡◌, sym, ◌∙◌}
+use Rattle.std.proofs.Common.{sym, ◌∙◌}
 use Rattle.migration_core.proofs.Kept.{IsKept-none, state_none}
 use Rattle.migration_core.proofs.run.Run.open.Goals as goal
 

@@ -1,4 +1,4 @@
-use Rattle.std.proofs.Common.{◌≡◌, sym, ◌∙◌, refl}
+use Rattle.std.proofs.Common.{sym, ◌∙◌, refl}
 use Rattle.migration_core.proofs.Turns.{passes, ended_over}
 use Rattle.migration_core.proofs.run.Run.pass.Goals as goal
 

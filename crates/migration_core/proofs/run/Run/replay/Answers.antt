@@ -1,4 +1,4 @@
-use Rattle.std.proofs.Common.{◌≡◌, ◌≤◌, length, arith}
+use Rattle.std.proofs.Common.{◌≤◌, length, arith}
 use Rattle.migration_core.proofs.Turns.{full_over}
 use Rattle.migration_core.proofs.run.Run.replay.Goals as goal
 

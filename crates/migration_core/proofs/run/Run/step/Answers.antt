@@ -1,4 +1,4 @@
-use Rattle.std.proofs.Common.{◌≡◌, sym, ◌∙◌}
+use Rattle.std.proofs.Common.{sym, ◌∙◌}
 use Rattle.migration_core.proofs.Kept.{IsKept-after}
 use Rattle.migration_core.proofs.Turns.{has_room}
 use Rattle.migration_core.proofs.run.Run.step.Goals as goal
