@@ -10,6 +10,8 @@ mod program;
 mod run;
 mod seat;
 mod turn;
+mod whole;
 
 pub use book::TURN_LIMIT;
 pub use run::{Replayed, Run, Stepped};
+pub use whole::{Left, replay};
