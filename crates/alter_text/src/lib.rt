@@ -10,6 +10,3 @@ mod removing;
 
 pub use alter_schema::{AlterCode, AlterFault};
 pub use reading::read_alter;
-
-#[cfg(test)]
-mod tests;
