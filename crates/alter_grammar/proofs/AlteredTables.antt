@@ -1,7 +1,7 @@
 -- The table that an ALTER leaves is one: its keys are those of the rows from before.
 use Rattle.std.proofs.Common.{◌≡◌, ℕ, zero, suc, ◌<◌, Bool, true, false, ◌&&◌, ◌||◌, List, [], ◌∷◌, ◌++◌, length, Option, Some, None, Less, refl, sym, ap, subst, ◌∙◌, arith}
 use Rattle.std.specs.Ordering.{is_eq}
-use Rattle.std.specs.List.{AllByRecursion, slice_get}
+use Rattle.std.specs.List.{AllByRecursion, list_all, slice_get, position_or_len}
 use Rattle.gho_values.specs.declared.value.Value.{Value}
 use Rattle.gho_values.specs.Comparing.{compare_keys}
 use Rattle.gho_values.specs.Laws.{StoresAgain}
@@ -9,7 +9,8 @@ use Rattle.gho_schema.specs.declared.schema.Schema.{Schema}
 use Rattle.gho_schema.specs.declared.schema.Column.{Column}
 use Rattle.gho_schema.specs.declared.schema.Index.{Index}
 use Rattle.gho_schema.specs.Reading.{◌>>=◌}
-use Rattle.gho_schema.specs.Rows.{key_of, key_places, places_of_first}
+use Rattle.gho_schema.specs.Clustering.{is_not_null, may_cluster, clustered_among, clustered_place, unique_at}
+use Rattle.gho_schema.specs.Rows.{key_of, key_places, places_of}
 use Rattle.gho_schema.specs.Tables.{IsRow, Ascends, no_null, clash, Apart, HasKeyPlaces, IsTable}
 use Rattle.gho_schema.proofs.ReadRows.{bound}
 use Rattle.alter_grammar.specs.declared.clause.Clause.{Clause}
@@ -73,9 +74,34 @@ apart_same : (uniques : List Index) (n : ℕ) (v : Value) (rows : List Row) → 
 apart_same uniques n v [] within are apart = tt
 apart_same uniques n v (row ∷ rows) within are apart = (none_same uniques n v row rows within are.0 are.1 apart.0, apart_same uniques n v rows within are.1 apart.1)
 
-first_within : (n : ℕ) (uniques : List Index) → KeysWithin n uniques → AllByRecursion (λ place. place < n) (places_of_first uniques)
-first_within n [] within = tt
-first_within n (index ∷ uniques) within = within.0
+-- the places of any of the keys
+at_within : (n : ℕ) (uniques : List Index) (place : ℕ) → KeysWithin n uniques → AllByRecursion (λ place. place < n) (places_of (slice_get uniques place))
+at_within n [] place within = tt
+at_within n (index ∷ uniques) zero within = within.0
+at_within n (index ∷ uniques) (suc place) within = at_within n uniques place within.1
+
+key_within : (n : ℕ) (uniques : List Index) (place : Option ℕ) → KeysWithin n uniques → AllByRecursion (λ place. place < n) (places_of (unique_at uniques place))
+key_within n uniques None within = tt
+key_within n uniques (Some place) within = at_within n uniques place within
+
+-- a column more leaves the clustered key
+front_column : (columns : List Column) (place : ℕ) (c : Column) → place < length columns → slice_get (columns ++ c ∷ []) place ≡ slice_get columns place
+front_column [] place c within = absurd (omega arith)
+front_column (x ∷ xs) zero c within = refl
+front_column (x ∷ xs) (suc place) c within = front_column xs place c (omega arith)
+
+not_null_same : (columns : List Column) (c : Column) (places : List ℕ) → AllByRecursion (λ place. place < length columns) places
+    → list_all (λ place. is_not_null (slice_get (columns ++ c ∷ []) place)) places ≡ list_all (λ place. is_not_null (slice_get columns place)) places
+not_null_same columns c [] within = refl
+not_null_same columns c (place ∷ places) within = rw (front_column columns place c within.0, not_null_same columns c places within.1) refl
+
+found_same : (columns : List Column) (c : Column) (uniques : List Index) → KeysWithin (length columns) uniques → position_or_len (may_cluster (columns ++ c ∷ [])) uniques ≡ position_or_len (may_cluster columns) uniques
+found_same columns c [] within = refl
+found_same columns c (index ∷ uniques) within = rw (not_null_same columns c index.places within.0, found_same columns c uniques within.1) refl
+
+clustered_same : (columns : List Column) (c : Column) (uniques : List Index) → KeysWithin (length columns) uniques → clustered_among (columns ++ c ∷ []) uniques ≡ clustered_among columns uniques
+unfolding clustered_among
+clustered_same columns c uniques within = rw (found_same columns c uniques within) refl
 
 -- places of fewer columns are places of one more
 places_more : (n m : ℕ) (places : List ℕ) → n < m → AllByRecursion (λ place. place < n) places → AllByRecursion (λ place. place < m) places
@@ -97,7 +123,7 @@ added_table schema new rows found table places =
     let lengths = row_lengths schema.columns rows table.rows_fit in (
       record {
         rows_fit = all.1;
-        ascends = ascends_same (key_places schema) (length schema.columns) found.value rows (first_within (length schema.columns) schema.uniques places) lengths table.ascends;
+        ascends = rw (clustered_same schema.columns _ schema.uniques places) (ascends_same (key_places schema) (length schema.columns) found.value rows (key_within (length schema.columns) schema.uniques (clustered_place schema) places) lengths table.ascends);
         apart = apart_same schema.uniques (length schema.columns) found.value rows places lengths table.apart;
       },
       keys_more (length schema.columns) _ schema.uniques (one_longer schema.columns _) places,

@@ -1,3 +1,4 @@
+pub mod Clustering
 pub mod Creating
 pub mod KeyedRows
 pub mod Laws

@@ -8,9 +8,10 @@ use Rattle.gho_values.specs.declared.value.Value.{Value}
 use Rattle.gho_values.specs.declared.value.Value.TheVariants.{Num}
 use Rattle.gho_values.specs.Storing.{stores}
 use Rattle.gho_values.specs.Comparing.{compare_keys}
-use Rattle.gho_schema.specs.declared.schema.Schema.{Schema}
 use Rattle.gho_schema.specs.declared.schema.Column.{Column}
+use Rattle.gho_schema.specs.declared.schema.Schema.{Schema}
 use Rattle.gho_schema.specs.declared.schema.Index.{Index}
+use Rattle.gho_schema.specs.Clustering.{clustered_key}
 use Rattle.gho_schema.specs.Reading.{◌>>=◌, number_at, sign_at, is_blank}
 
 -- a whole number, as the column stores it
@@ -36,14 +37,13 @@ row_at columns text = do
   rest ← sign_at 41 values.1
   if is_blank rest then Some values.0 else None
 
--- The places of the clustered key's columns: those of the PRIMARY KEY, which is the first unique key and which every
--- table has so far (MySQL's manual, "Clustered and Secondary Indexes").
-abbrev pub places_of_first : List Index → List ℕ
-places_of_first [] = []
-places_of_first (index ∷ others) = index.places
+abbrev pub places_of : Option Index → List ℕ
+places_of None = []
+places_of (Some index) = index.places
 
+-- the places of the clustered key's columns, in the key's order; none where there is no such key
 abbrev pub key_places : Schema → List ℕ
-key_places schema = places_of_first schema.uniques
+key_places schema = places_of (clustered_key schema)
 
 -- a row's key: its values at these places
 unfoldable pub key_of : List ℕ → List Value → List Value

@@ -1,6 +1,7 @@
 //! Schemas and rows of tables, and the texts that declare them.
 #![tactic(auto)]
 
+mod clustering;
 mod creating;
 mod distinct;
 mod fault;
@@ -11,6 +12,7 @@ mod reading;
 mod rows;
 mod schema;
 
+pub use clustering::{are_not_null, clustered_key, clustered_place, may_cluster};
 pub use creating::{COLUMN_LIMIT, INT, column_name_at, has_name, name_of, read_schema};
 pub use fault::SchemaFault;
 pub use keyed::{KeyedRows, PutFault, key_of};

@@ -2,6 +2,7 @@
 
 ghost use Rattle.std.specs.Prelude.{◌≡◌, IfOk};
 
+use crate::clustering::clustered_key;
 use gho_values::{Chars, Duplicate, Kind, Name, Sequence, Value};
 use std::alloc::AllocError;
 
@@ -54,13 +55,13 @@ pub type Places = Sequence<u32>;
 impl Schema {
     ghost use Rattle.gho_schema.specs.Rows.{key_places};
 
-    /// The places of the clustered key's columns, in the key's order.
+    /// The places of the clustered key's columns, in the key's order; none where there is no such key.
     pub fn key_places(&self) -> &[u32]
         ensures { result.now ≡ key_places self.now }
     {
-        match self.uniques.as_slice() {
-            [] => &[],
-            [first, ..] => first.places.as_slice(),
+        match clustered_key(self) {
+            Some(index) => index.places.as_slice(),
+            None => &[],
         }
     }
 }

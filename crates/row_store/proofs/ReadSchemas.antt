@@ -8,11 +8,12 @@ use Rattle.std.proofs.lemmas.Bool.Decides.{nat_tests}
 use Rattle.std.proofs.lemmas.Option.{slice_get_within}
 use Rattle.gho_schema.specs.declared.schema.Schema.{Schema}
 use Rattle.gho_schema.specs.declared.schema.Column.{Column}
+use Rattle.gho_schema.specs.Clustering.{is_not_null, clustered_among}
 use Rattle.gho_schema.specs.Names.{is_table_name}
 use Rattle.gho_schema.specs.Reading.{keyword_at, name_at, sign_at, is_blank}
 use Rattle.gho_schema.specs.Creating.{columns_at, names_differ, is_key, schema_of, schema_at}
 use Rattle.gho_schema.proofs.ReadRows.{bound, let_through}
-use Rattle.row_store.specs.ClusteredKeys.{HasClusteredKey, is_not_null}
+use Rattle.row_store.specs.ClusteredKeys.{HasClusteredKey}
 use Rattle.row_store.proofs.RowsBetween.{one_more}
 
 -- the first column that is the key
@@ -43,6 +44,7 @@ one_is_some : (n : ℕ) → (n == 1) ≡ true → 0 < n
 one_is_some n one = grind (arith, nat_tests)
 
 keyed_schema : (name : List ℕ) (columns : List Column) → (count_by is_key columns == 1) ≡ true → HasClusteredKey (schema_of name columns)
+unfolding clustered_among
 keyed_schema name columns one = record { some = omega arith; not_null = (at_place columns (one_is_some (count_by is_key columns) one), tt) }
 
 -- a test that let a value through held, and what it let through

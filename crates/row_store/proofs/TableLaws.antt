@@ -1,5 +1,5 @@
 -- Tables stay tables, and databases databases.
-use Rattle.std.proofs.Common.{◌≡◌, ℕ, zero, suc, ◌<◌, Bool, true, false, not, ◌&&◌, List, [], ◌∷◌, length, find, filter, cond, Option, Some, None, Ok, Ordering, Less, Equal, Greater, refl, ap, ◌∙◌, arith}
+use Rattle.std.proofs.Common.{◌≡◌, ℕ, zero, suc, ◌<◌, Bool, true, false, not, ◌&&◌, List, [], ◌∷◌, length, find, filter, cond, Option, Some, None, Ok, Ordering, Less, Equal, Greater, refl, ap, subst, ◌∙◌, arith}
 use Rattle.std.specs.Ordering.{is_eq, match_ordering, ordering_reverse}
 use Rattle.std.specs.List.{AllByRecursion, slice_get}
 use Rattle.std.proofs.lemmas.Bool.{or_parts}
@@ -12,10 +12,11 @@ use Rattle.gho_values.proofs.Orders.{keys_total, tied_keys}
 use Rattle.gho_schema.specs.declared.schema.Schema.{Schema}
 use Rattle.gho_schema.specs.declared.schema.Column.{Column}
 use Rattle.gho_schema.specs.declared.schema.Index.{Index}
-use Rattle.gho_schema.specs.Rows.{key_of, key_places, places_of_first, with_row}
+use Rattle.gho_schema.specs.Clustering.{is_not_null, clustered_place, unique_at}
+use Rattle.gho_schema.specs.Rows.{key_of, key_places, places_of, with_row}
 use Rattle.gho_schema.specs.Tables.{IsRow, no_null, clash, Apart, IsTable}
 use Rattle.row_store.specs.RowLists.{is_at, without_key}
-use Rattle.row_store.specs.ClusteredKeys.{HasClusteredKey, is_not_null}
+use Rattle.row_store.specs.ClusteredKeys.{HasClusteredKey}
 use Rattle.row_store.specs.Databases.{TableRows, clashing, IsNewIn}
 use Rattle.row_store.proofs.Orders.{Row}
 use Rattle.row_store.proofs.Ascending.{all-with_row, all-filter, ascends-with_row, ascends-filter}
@@ -117,23 +118,35 @@ other_key index uniques row other full none =
     first_false true n full none = absurd (cc)
     first_false false n full none = refl
 
-other_keys : (index : Index) (uniques : List Index) (row : Row) (rows : List Row) → no_null (key_of index.places row) ≡ true → AllByRecursion (λ other. clash (index ∷ uniques) row other ≡ false) rows
-    → AllByRecursion (λ other. is_at index.places (key_of index.places row) other ≡ false) rows
-other_keys index uniques row [] full none = tt
-other_keys index uniques row (other ∷ rows) full none = (other_key index uniques row other full none.0, other_keys index uniques row rows full none.1)
+key_at : (uniques : List Index) (place : ℕ) (index : Index) (row other : Row) → slice_get uniques place ≡ Some index → no_null (key_of index.places row) ≡ true → clash uniques row other ≡ false → is_at index.places (key_of index.places row) other ≡ false
+key_at [] place index row other at full none = absurd (cc)
+key_at (first ∷ uniques) zero index row other at full none = let same : first ≡ index = cc in other_key index uniques row other full (subst (λ (i : Index). clash (i ∷ uniques) row other ≡ false) same none)
+key_at (first ∷ uniques) (suc place) index row other at full none =
+    let parts = or_parts (is_eq (compare_keys (key_of first.places row) (key_of first.places other)) && no_null (key_of first.places row)) (clash uniques row other) none in
+    key_at uniques place index row other at full parts.1
 
-new_key : (uniques : List Index) (row : Row) (rows : List Row) → 0 < length (places_of_first uniques) → no_null (key_of (places_of_first uniques) row) ≡ true → AllByRecursion (λ other. clash uniques row other ≡ false) rows
-    → find (is_at (places_of_first uniques) (key_of (places_of_first uniques) row)) rows ≡ None
-new_key [] row rows some full none = absurd (omega arith)
-new_key (index ∷ uniques) row rows some full none =
-    none_found (is_at index.places (key_of index.places row)) (is_at index.places (key_of index.places row)) rows (λ other fails. fails) (other_keys index uniques row rows full none)
+keys_at : (uniques : List Index) (place : ℕ) (index : Index) (row : Row) (rows : List Row) → slice_get uniques place ≡ Some index → no_null (key_of index.places row) ≡ true → AllByRecursion (λ other. clash uniques row other ≡ false) rows
+    → AllByRecursion (λ other. is_at index.places (key_of index.places row) other ≡ false) rows
+keys_at uniques place index row [] at full none = tt
+keys_at uniques place index row (other ∷ rows) at full none = (key_at uniques place index row other at full none.0, keys_at uniques place index row rows at full none.1)
+
+new_at : (uniques : List Index) (place : ℕ) (found : Option Index) (row : Row) (rows : List Row) → slice_get uniques place ≡ found → 0 < length (places_of found) → no_null (key_of (places_of found) row) ≡ true
+    → AllByRecursion (λ other. clash uniques row other ≡ false) rows → find (is_at (places_of found) (key_of (places_of found) row)) rows ≡ None
+new_at uniques place None row rows at some full none = absurd (omega arith)
+new_at uniques place (Some index) row rows at some full none =
+    none_found (is_at index.places (key_of index.places row)) (is_at index.places (key_of index.places row)) rows (λ other fails. fails) (keys_at uniques place index row rows at full none)
+
+new_key : (uniques : List Index) (o : Option ℕ) (row : Row) (rows : List Row) → 0 < length (places_of (unique_at uniques o)) → no_null (key_of (places_of (unique_at uniques o)) row) ≡ true
+    → AllByRecursion (λ other. clash uniques row other ≡ false) rows → find (is_at (places_of (unique_at uniques o)) (key_of (places_of (unique_at uniques o)) row)) rows ≡ None
+new_key uniques None row rows some full none = absurd (omega arith)
+new_key uniques (Some place) row rows some full none = new_at uniques place (slice_get uniques place) row rows refl some full none
 
 pub put_keeps : StoresNullWhereNullable → (table : TableRows) (row : Row) → HasClusteredKey table.schema → IsTable table.schema table.rows → IsRow table.schema.columns row → clashing table row None ≡ None
     → IsNewIn row table × IsTable table.schema (with_row (key_places table.schema) row table.rows)
 put_keeps where_nullable table row keyed is_table fits none =
     let apart = none_clash table.schema.uniques row table.rows none in
     let full = key_no_null where_nullable table.schema.columns row (key_places table.schema) fits keyed.not_null in
-    let new : IsNewIn row table = new_key table.schema.uniques row table.rows keyed.some full apart in (
+    let new : IsNewIn row table = new_key table.schema.uniques (clustered_place table.schema) row table.rows keyed.some full apart in (
       new,
       record {
         rows_fit = all-with_row (IsRow table.schema.columns) (key_places table.schema) row table.rows fits is_table.rows_fit;

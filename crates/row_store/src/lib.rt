@@ -11,6 +11,7 @@ mod span_rows;
 mod table;
 mod tables;
 
+pub use comparing::has_no_null;
 pub use renaming::{NotRenamed, Pair, Pairs, RenameFault};
 pub use span_rows::SpanRows;
 pub use table::Table;

@@ -1,15 +1,16 @@
 //! A table: a schema, and rows in order of the clustered key.
 
-ghost use Rattle.std.specs.Prelude.{◌≡◌, ◌≤◌, ◌<◌, ◌+◌, ◌==◌, [], None, length, option_copied, IfOk, OnOk};
+ghost use Rattle.std.specs.Prelude.{◌≡◌, ◌≤◌, ◌<◌, ◌+◌, ◌==◌, true, [], None, length, option_copied, IfOk, OnOk};
 ghost use Rattle.gho_schema.specs.Rows.{key_of, key_places, with_row};
 ghost use Rattle.gho_schema.specs.Tables.{Ascends};
 ghost use Rattle.row_store.specs.RowLists.{without_key};
+ghost use Rattle.row_store.specs.ClusteredKeys.{IsOnlyKey};
 ghost use Rattle.row_store.specs.Databases.{row_at_key, clashing, rows_in, name_table};
 
 use crate::finding::{clash_by_key, first_clash, key_place, row_of_key};
 use crate::places::{place_of_row, rows_between};
 use crate::span_rows::SpanRows;
-use gho_schema::Schema;
+use gho_schema::{Schema, may_cluster};
 use gho_values::{Duplicate, Key, Name, Row, Rows, Span};
 use std::alloc::{AllocError, Global};
 use std::marker::Model;
@@ -43,6 +44,17 @@ fn copy_of(alloc: Global, rows: &[Row]) -> Result<Vec<Row>, AllocError>
         copy.push(row.copy()?)?;
     }
     Ok(copy)
+}
+
+/// Whether the clustered key is the only unique key.
+#[tactic(auto, unfolding(gho_schema::specs::Clustering::clustered_among))]
+fn is_only_key(schema: &Schema) -> bool
+    ensures { result ≡ true → IsOnlyKey schema.now }
+{
+    match schema.uniques.as_slice() {
+        [only] => may_cluster(schema.columns.as_slice(), only),
+        _ => false,
+    }
 }
 
 impl Table {
@@ -114,17 +126,12 @@ impl Table {
         ensures { option_copied result ≡ clashing self.now.table row.now (option_copied besides.entry) }
     {
         let places = self.schema.key_places();
-        let uniques = self.schema.uniques.as_slice();
-        if uniques.len() == 1 {
-            clash_by_key(places, row.as_slice(), besides, self.rows.as_slice())
+        let rows = self.rows.as_slice();
+        if is_only_key(&self.schema) {
+            clash_by_key(places, row.as_slice(), besides, rows)
         } else {
-            first_clash(
-                uniques,
-                places,
-                row.as_slice(),
-                besides,
-                self.rows.as_slice(),
-            )
+            let uniques = self.schema.uniques.as_slice();
+            first_clash(uniques, places, row.as_slice(), besides, rows)
         }
     }
 

@@ -9,7 +9,7 @@ use Rattle.gho_schema.specs.declared.schema.Column.{Column}
 use Rattle.gho_schema.specs.declared.schema.Index.{Index}
 use Rattle.gho_schema.specs.Names.{same_name}
 use Rattle.schema_text.specs.declared.written.WrittenColumn.{WrittenColumn}
-use Rattle.schema_text.specs.Clustering.{is_not_null}
+use Rattle.gho_schema.specs.Clustering.{is_not_null}
 use Rattle.schema_text.specs.Declaring.{are_known, nullable_of}
 use Rattle.schema_text.specs.Keys.{is_among, place_of, places_of}
 use Rattle.schema_text.specs.Lawful.{IsKey}

@@ -16,7 +16,7 @@ use Rattle.schema_text.specs.declared.parts.Parts.{Parts}
 use Rattle.schema_text.specs.declared.written.WrittenColumn.{WrittenColumn}
 use Rattle.schema_text.specs.declared.written.WrittenKey.{WrittenKey}
 use Rattle.schema_text.specs.declared.written.WrittenTable.{WrittenTable}
-use Rattle.schema_text.specs.Clustering.{is_not_null, may_cluster, clustered_place, unique_at, clustered_key}
+use Rattle.gho_schema.specs.Clustering.{is_not_null, may_cluster, clustered_among, clustered_place, unique_at, clustered_key}
 use Rattle.schema_text.specs.Declaring.{Reasons, first_reason, column_names, size_reasons, are_known, name_reasons, declared_columns, primary_index, key_index, schema_of, clustered, built, declared_parts, declared}
 use Rattle.schema_text.specs.Defaults.{defaults_fit}
 use Rattle.schema_text.specs.Keys.{is_among, names_differ, named_keys}
@@ -50,7 +50,7 @@ pub record Clusters (schema : Schema) : Type 0 where
   pub place : ℕ
   pub stands : slice_get schema.uniques place ≡ Some index
 
-clusters-at : (schema : Schema) (o : Option ℕ) → position (may_cluster schema.columns) schema.uniques ≡ o → is_none o ≡ false → AllByRecursion (IsGood schema.columns) schema.uniques → clustered_key schema ≡ unique_at schema o → Clusters schema
+clusters-at : (schema : Schema) (o : Option ℕ) → position (may_cluster schema.columns) schema.uniques ≡ o → is_none o ≡ false → AllByRecursion (IsGood schema.columns) schema.uniques → clustered_key schema ≡ unique_at schema.uniques o → Clusters schema
 clusters-at schema None e some good is = absurd cc
 clusters-at schema (Some place) e some good is =
     let found = position-found (may_cluster schema.columns) schema.uniques place e in
@@ -63,7 +63,7 @@ clusters-at schema (Some place) e some good is =
     }
 
 clusters : (schema : Schema) → is_none (clustered_place schema) ≡ false → AllByRecursion (IsGood schema.columns) schema.uniques → Clusters schema
-unfolding clustered_place clustered_key
+unfolding clustered_among
 clusters schema some good = clusters-at schema (position (may_cluster schema.columns) schema.uniques) refl some good refl
 
 not_null-is : (schema : Schema) (c : Clusters schema) → IsNotNull schema.columns (clustered_key schema)

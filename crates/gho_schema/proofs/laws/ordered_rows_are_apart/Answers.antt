@@ -1,6 +1,7 @@
 use Rattle.std.proofs.Common.{List, [], ◌∷◌, None, position, unwrap_or, subst}
 use Rattle.gho_values.specs.declared.value.Value.{Value}
 use Rattle.gho_schema.specs.declared.schema.Schema.{Schema}
+use Rattle.gho_schema.specs.Clustering.{clustered_among}
 use Rattle.gho_schema.specs.Creating.{is_key}
 use Rattle.gho_schema.specs.Rows.{key_places}
 use Rattle.gho_schema.specs.Tables.{Ascends, Apart}
@@ -9,6 +10,7 @@ use Rattle.gho_schema.proofs.ReadRows.{OneKey, one_key}
 use Rattle.gho_schema.proofs.laws.ordered_rows_are_apart.Goals as goal
 
 pub returns : goal.returns
+unfolding clustered_among
 returns c =
     λ migrated text schema rows read.
     let found : OneKey schema = one_key migrated text schema read in
