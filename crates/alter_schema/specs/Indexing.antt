@@ -5,7 +5,7 @@ use Rattle.gho_schema.specs.declared.schema.Column.{Column}
 use Rattle.gho_schema.specs.declared.schema.Index.{Index}
 use Rattle.gho_schema.specs.declared.schema.Schema.{Schema}
 use Rattle.gho_schema.specs.Names.{same_name}
-use Rattle.schema_text.specs.Clustering.{clustered_place}
+use Rattle.gho_schema.specs.Clustering.{clustered_place}
 use Rattle.schema_text.specs.Declaring.{Reasons, first_reason, unless}
 use Rattle.schema_text.specs.Keys.{is_among, free_name}
 use Rattle.alter_schema.specs.declared.code.AlterCode.{AlterCode}

@@ -17,8 +17,7 @@ use crate::mapping::map_of;
 use crate::renaming::renamed;
 use crate::standing::Standing;
 use alter_grammar::{Clause, Clauses, ColumnMap};
-use gho_schema::{Index, Schema};
-use schema_text::{are_not_null, clustered_key};
+use gho_schema::{Index, Schema, are_not_null, clustered_key};
 use std::alloc::Global;
 
 #[tactic(auto, unfolding(crate::specs::Altering::step))]

@@ -11,9 +11,9 @@ ghost use Rattle.alter_schema.specs.Standing.{Stands};
 use crate::code::{AlterCode, AlterFault};
 use crate::columns::{column_named, column_place, has_column};
 use crate::standing::{Standing, copied, removed};
-use gho_schema::{Column, Index, Indexes, Places, Schema, same_name};
+use gho_schema::{Column, Index, Indexes, Places, Schema, clustered_place, same_name};
 use gho_values::{Duplicate, Name, Names, Sequence};
-use schema_text::{clustered_place, free_name, is_among};
+use schema_text::{free_name, is_among};
 use std::alloc::{AllocError, Global};
 
 const INDEX_LIMIT: usize = 8;

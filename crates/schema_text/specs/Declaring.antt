@@ -14,7 +14,7 @@ use Rattle.schema_text.specs.declared.parts.Parts.{Parts}
 use Rattle.schema_text.specs.declared.written.WrittenColumn.{WrittenColumn}
 use Rattle.schema_text.specs.declared.written.WrittenKey.{WrittenKey}
 use Rattle.schema_text.specs.declared.written.WrittenTable.{WrittenTable}
-use Rattle.schema_text.specs.Clustering.{clustered_place}
+use Rattle.gho_schema.specs.Clustering.{clustered_place}
 use Rattle.schema_text.specs.Defaults.{stored_default, defaults_fit}
 use Rattle.schema_text.specs.Keys.{is_among, names_differ, places_of, named_keys}
 use Rattle.schema_text.specs.Limits.{is_column_name, is_tool_name, is_table_name, is_reserved}

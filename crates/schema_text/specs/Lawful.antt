@@ -8,7 +8,7 @@ use Rattle.gho_values.specs.Storing.{stores}
 use Rattle.gho_schema.specs.declared.schema.Column.{Column}
 use Rattle.gho_schema.specs.declared.schema.Index.{Index}
 use Rattle.gho_schema.specs.declared.schema.Schema.{Schema}
-use Rattle.schema_text.specs.Clustering.{is_not_null, clustered_key}
+use Rattle.gho_schema.specs.Clustering.{is_not_null, clustered_key}
 use Rattle.schema_text.specs.Keys.{names_differ}
 
 -- integers of 1, 2, 3, 4 or 8 bytes, and texts and bytes of a length from 1 to 1,000 ("Data Types"; the greatest length is this project's rule)

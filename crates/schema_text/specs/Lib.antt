@@ -1,4 +1,3 @@
-pub mod Clustering
 pub mod Columns
 pub mod Declaring
 pub mod Defaults

@@ -7,13 +7,12 @@ ghost use Rattle.schema_text.specs.Declaring.{first_reason, column_names, size_r
 ghost use Rattle.schema_text.specs.Keys.{is_among};
 ghost use Rattle.schema_text.specs.Limits.{is_column_name};
 
-use crate::clustering::clustered_place;
 use crate::defaults::{defaults_fit, stored_default};
 use crate::keys::{NamedKeys, is_among, named_keys, names_differ, places_of};
 use crate::limits::{is_column_name, is_reserved, is_table_name, is_tool_name};
 use crate::parts::{Parts, parts_of};
 use crate::written::{WrittenColumn, WrittenKey, WrittenTable};
-use gho_schema::{Column, Columns, Index, Indexes, Schema};
+use gho_schema::{Column, Columns, Index, Indexes, Schema, clustered_place};
 use gho_values::{Chars, Duplicate, Name, Names, Sequence, StoreFault};
 use std::alloc::{AllocError, Global};
 use table_words::{SchemaCode, SchemaFault};

@@ -1,7 +1,6 @@
 //! The text of CREATE TABLE: the schema that it declares, or why it is refused, and the text of a schema.
 #![tactic(auto)]
 
-mod clustering;
 mod columns;
 mod declaring;
 mod defaults;
@@ -14,7 +13,6 @@ mod reading;
 mod table;
 mod written;
 
-pub use clustering::{are_not_null, clustered_key, clustered_place};
 pub use defaults::{defaults_fit, stored_default};
 pub use keys::{free_name, is_among, place_of};
 pub use limits::is_column_name;
