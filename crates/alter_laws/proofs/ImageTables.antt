@@ -9,18 +9,18 @@ use Rattle.gho_values.specs.declared.value.Value.{Value}
 use Rattle.gho_schema.specs.declared.schema.Index.{Index}
 use Rattle.gho_schema.specs.declared.schema.Schema.{Schema}
 use Rattle.gho_schema.specs.Reading.{◌>>=◌}
-use Rattle.gho_schema.specs.Rows.{key_of}
+use Rattle.gho_schema.specs.Rows.{key_of, places_of}
 use Rattle.gho_schema.specs.Tables.{IsRow, Ascends, Apart, clash}
 use Rattle.alter_grammar.specs.declared.image_fault.UnfitAt.{UnfitAt}
 use Rattle.alter_grammar.specs.declared.map.MapColumn.{MapColumn}
 use Rattle.alter_grammar.specs.Images.{image, images}
-use Rattle.schema_text.specs.Clustering.{clustered_key}
+use Rattle.gho_schema.specs.Clustering.{clustered_key}
 use Rattle.schema_text.specs.Declaring.{first_reason}
 use Rattle.alter_schema.specs.declared.code.AlterCode.TheVariants as codes
 use Rattle.alter_schema.specs.declared.standing.Standing.{Standing}
 use Rattle.alter_schema.specs.Altering.{keeps_key, result_reasons}
 use Rattle.alter_schema.proofs.Steps.{none_first}
-use Rattle.alter_laws.specs.Laws.{Altered, KeepsKeys, places_of, AlteredTablesAreTables}
+use Rattle.alter_laws.specs.Laws.{Altered, KeepsKeys, ImagesKeepClusteredKeys, AlteredTablesAreTables}
 use Rattle.alter_laws.proofs.ImageRows.{images_are_rows}
 use Rattle.alter_laws.proofs.KeepingKeys.{ends, stay_apart, clustered_stay}
 
@@ -124,6 +124,13 @@ both-clustered schema standing none =
     let first = none_first (eqb (length standing.schema.columns) 0) codes.AllColumnsDropped ((changed, codes.ClusteredKeyChange) ∷ []) none in
     let second = none_first changed codes.ClusteredKeyChange [] first.1 in
     both-there standing (clustered_key schema) (clustered_key standing.schema) (not_false _ second.0)
+
+pub clustered_keys_kept : ImagesKeepClusteredKeys
+clustered_keys_kept approve schema clauses new row made lawful e is_row is =
+    let end = ends approve schema clauses new lawful e in
+    let both = subst (λ (n : Altered). Both (clustered_key schema) (clustered_key n.0)) end.is (both-clustered schema end.standing end.reasons) in
+    let keeps = clustered_stay approve schema clauses new both.old both.index lawful e both.there both.here row made is_row is in
+    subst (λ (o : Option Index). key_of (places_of (clustered_key new.0)) made ≡ key_of (places_of o) row) (sym both.there) (subst (λ (o : Option Index). key_of (places_of o) made ≡ key_of both.old.places row) (sym both.here) keeps)
 
 pub altered_tables_are : StoresAgain → AlteredTablesAreTables
 altered_tables_are again approve schema clauses new rows made lawful e table is =

@@ -10,7 +10,7 @@ use Rattle.gho_schema.specs.declared.schema.Schema.{Schema}
 use Rattle.gho_schema.specs.Rows.{key_of}
 use Rattle.gho_schema.specs.Tables.{no_null}
 use Rattle.alter_grammar.specs.declared.clause.Clause.{Clause}
-use Rattle.schema_text.specs.Clustering.{is_not_null, clustered_place, unique_at, clustered_key}
+use Rattle.gho_schema.specs.Clustering.{is_not_null, clustered_place, unique_at, clustered_key}
 use Rattle.schema_text.specs.Declaring.{first_reason}
 use Rattle.schema_text.specs.Lawful.{IsLawful}
 use Rattle.alter_schema.specs.declared.code.AlterCode.{AlterCode}
@@ -126,12 +126,11 @@ same_columns-are old standing (p ∷ places) (s ∷ sources) (b ∷ before) same
     let h = and_parts (is_origin (slice_get standing.origins p) b) (same_columns standing.origins places before) e in
     rw (origin-is (slice_get standing.origins p) b s same.0.origin h.0, same_columns-are old standing places sources before same.1 h.1) refl
 
-clustered-place : (schema : Schema) (o : Option ℕ) (index : Index) → unique_at schema o ≡ Some index → (place : ℕ) × (slice_get schema.uniques place ≡ Some index)
+clustered-place : (schema : Schema) (o : Option ℕ) (index : Index) → unique_at schema.uniques o ≡ Some index → (place : ℕ) × (slice_get schema.uniques place ≡ Some index)
 clustered-place schema (Some place) index e = (place, e)
 clustered-place schema None index e = absurd cc
 
 clustered-stands : (schema : Schema) (index : Index) → clustered_key schema ≡ Some index → (place : ℕ) × (slice_get schema.uniques place ≡ Some index)
-unfolding clustered_key
 clustered-stands schema index e = clustered-place schema (clustered_place schema) index e
 
 keeps-parts : (standing : Standing) (old index : Index) (a b : Option Index) → a ≡ Some old → b ≡ Some index → keeps_key standing a b ≡ true → same_columns standing.origins index.places old.places ≡ true

@@ -5,7 +5,7 @@ use Rattle.gho_values.specs.Laws.{StoresAgain}
 use Rattle.gho_schema.specs.declared.schema.Index.{Index}
 use Rattle.gho_schema.specs.declared.schema.Schema.{Schema}
 use Rattle.alter_grammar.specs.declared.clause.Clause.{Clause}
-use Rattle.schema_text.specs.Clustering.{is_not_null, clustered_key}
+use Rattle.gho_schema.specs.Clustering.{is_not_null, clustered_key}
 use Rattle.schema_text.specs.Declaring.{first_reason}
 use Rattle.schema_text.specs.Lawful.{IsKey, IsNotNull, IsLawful}
 use Rattle.schema_laws.proofs.Lists.{All-at}

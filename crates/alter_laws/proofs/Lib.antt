@@ -8,4 +8,5 @@ pub mod KeepingKeys
 pub mod KeepingLaws
 pub mod Places
 pub mod Steps
+pub mod TableNames
 pub mod Traces

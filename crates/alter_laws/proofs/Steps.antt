@@ -11,7 +11,7 @@ use Rattle.alter_grammar.specs.declared.clause.Clause.TheVariants.{Add, Drop, Re
 use Rattle.alter_grammar.specs.declared.clause.NewColumn.{NewColumn}
 use Rattle.alter_grammar.specs.declared.clause.Spot.{Spot}
 use Rattle.table_words.specs.Reads.{◌>>=◌}
-use Rattle.schema_text.specs.Clustering.{clustered_place}
+use Rattle.gho_schema.specs.Clustering.{clustered_place}
 use Rattle.schema_text.specs.Declaring.{first_reason}
 use Rattle.schema_text.specs.Lawful.{IsKey, IsLawful}
 use Rattle.schema_text.specs.Limits.{is_column_name}

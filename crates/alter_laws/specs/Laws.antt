@@ -1,16 +1,16 @@
 -- What holds of all ALTERs that are taken. The functions of the module `laws` prove each.
-use Rattle.std.specs.Prelude.{◌≡◌, ℕ, Bool, true, List, [], length, Option, Some, None, Ok}
+use Rattle.std.specs.Prelude.{◌≡◌, ℕ, Bool, true, List, length, Some, Ok}
 use Rattle.std.specs.List.{slice_get, AllByRecursion}
 use Rattle.gho_values.specs.declared.value.Value.{Value}
 use Rattle.gho_schema.specs.declared.schema.Index.{Index}
 use Rattle.gho_schema.specs.declared.schema.Schema.{Schema}
-use Rattle.gho_schema.specs.Rows.{key_of}
-use Rattle.gho_schema.specs.Tables.{IsRow, Ascends, Apart, clash}
+use Rattle.gho_schema.specs.Rows.{key_of, key_places}
+use Rattle.gho_schema.specs.Tables.{IsRow, IsTable, clash}
 use Rattle.alter_grammar.specs.declared.clause.Clause.{Clause}
 use Rattle.alter_grammar.specs.declared.clause.Clause.TheVariants.{Add, Drop, Rename, Change, AddIndex, DropIndex}
 use Rattle.alter_grammar.specs.declared.map.MapColumn.{MapColumn}
 use Rattle.alter_grammar.specs.Images.{image, images}
-use Rattle.schema_text.specs.Clustering.{clustered_key}
+use Rattle.gho_schema.specs.Clustering.{clustered_key}
 use Rattle.schema_text.specs.Lawful.{is_kind, IsLawful}
 use Rattle.alter_schema.specs.Altering.{altered}
 use Rattle.alter_text.specs.Reading.{alter_at}
@@ -48,6 +48,16 @@ ClusteredKeysStay =
     (approve : Bool) (schema : Schema) (clauses : List Clause) (new : Altered) (old index : Index) → IsLawful schema → altered approve schema clauses ≡ Ok new → clustered_key schema ≡ Some old → clustered_key new.0 ≡ Some index
     → KeepsKeys schema new old index
 
+-- The clustered key of a row's image is the row's.
+abbrev pub ImagesKeepClusteredKeys : Type 0
+ImagesKeepClusteredKeys =
+    (approve : Bool) (schema : Schema) (clauses : List Clause) (new : Altered) (row made : List Value) → IsLawful schema → altered approve schema clauses ≡ Ok new → IsRow schema.columns row → image new.1 row ≡ Ok made
+    → key_of (key_places new.0) made ≡ key_of (key_places schema) row
+
+-- An altered table has its old name.
+abbrev pub AlteredTablesKeepNames : Type 0
+AlteredTablesKeepNames = (approve : Bool) (schema : Schema) (clauses : List Clause) (new : Altered) → altered approve schema clauses ≡ Ok new → new.0.name ≡ schema.name
+
 -- the kinds that a clause writes are kinds of this program
 abbrev pub IsClause : Clause → Type 0
 IsClause (Add column spot) = is_kind column.kind ≡ true
@@ -73,19 +83,8 @@ ImagesAreRows = (approve : Bool) (schema : Schema) (clauses : List Clause) (new 
 abbrev pub MapsFit : Type 0
 MapsFit = (approve : Bool) (schema : Schema) (clauses : List Clause) (new : Altered) → IsLawful schema → altered approve schema clauses ≡ Ok new → length new.1 ≡ length new.0.columns
 
--- the places of a key's columns, where there is a key
-abbrev pub places_of : Option Index → List ℕ
-places_of (Some index) = index.places
-places_of None = []
-
--- *Table* by its clustered key, which need not be the first of its unique keys: each row is one of the schema's columns, the rows stand in order of the clustered key, no two with one key, and no two clash.
-pub record IsClusteredTable (schema : Schema) (rows : List (List Value)) : Type 0 where
-  pub rows_fit : AllByRecursion (IsRow schema.columns) rows
-  pub ascends : Ascends (places_of (clustered_key schema)) rows
-  pub apart : Apart schema.uniques rows
-
 -- An altered table is a table.
 abbrev pub AlteredTablesAreTables : Type 0
 AlteredTablesAreTables =
-    (approve : Bool) (schema : Schema) (clauses : List Clause) (new : Altered) (rows made : List (List Value)) → IsLawful schema → altered approve schema clauses ≡ Ok new → IsClusteredTable schema rows → images new.1 rows ≡ Some made
-    → IsClusteredTable new.0 made
+    (approve : Bool) (schema : Schema) (clauses : List Clause) (new : Altered) (rows made : List (List Value)) → IsLawful schema → altered approve schema clauses ≡ Ok new → IsTable schema rows → images new.1 rows ≡ Some made
+    → IsTable new.0 made

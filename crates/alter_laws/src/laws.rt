@@ -1,6 +1,6 @@
 //! The laws.
 
-ghost use Rattle.alter_laws.specs.Laws.{ImagesKeepKeys, ImagesStayApart, ClusteredKeysStay, AlteredSchemasAreLawful, ReadClausesWriteKinds, ImagesAreRows, MapsFit, AlteredTablesAreTables};
+ghost use Rattle.alter_laws.specs.Laws.{ImagesKeepKeys, ImagesStayApart, ClusteredKeysStay, ImagesKeepClusteredKeys, AlteredTablesKeepNames, AlteredSchemasAreLawful, ReadClausesWriteKinds, ImagesAreRows, MapsFit, AlteredTablesAreTables};
 
 use gho_values::laws::stored_values_store_again;
 
@@ -9,6 +9,12 @@ pub fn images_keep_keys()
     ensures keys { ImagesKeepKeys }
     ensures apart { ImagesStayApart }
     ensures clustered { ClusteredKeysStay }
+    ensures clustered_keys { ImagesKeepClusteredKeys }
+{}
+
+/// An altered table has its old name.
+pub fn altered_tables_keep_names()
+    ensures { AlteredTablesKeepNames }
 {}
 
 /// Every altered schema is lawful.

@@ -1,3 +1,4 @@
+use Rattle.alter_laws.proofs.ImageTables.{clustered_keys_kept}
 use Rattle.alter_laws.proofs.KeepingKeys.{keeps_keys, stay_apart, clustered_stay}
 use Rattle.alter_laws.proofs.laws.images_keep_keys.Goals as goal
 
@@ -9,3 +10,6 @@ returns-clause-apart c = stay_apart
 
 pub returns-clause-clustered : goal.returns-clause-clustered
 returns-clause-clustered c = clustered_stay
+
+pub returns-clause-clustered_keys : goal.returns-clause-clustered_keys
+returns-clause-clustered_keys c = clustered_keys_kept
