@@ -277,7 +277,10 @@ impl Serve for Server {
             number,
             is_tool,
             in_transaction: false,
+            locks_tables: false,
             writes: Sequence::new(alloc),
+            row_locks: Sequence::new(alloc),
+            names: Sequence::new(alloc),
             polls: 0,
         })?;
         self.made = number;

@@ -72,7 +72,7 @@ view number state = after_events state.tables (writes_of (session_of number stat
 
 -- a session that has just connected
 abbrev pub new_session : ℕ → Bool → Session
-new_session number is_tool = record { number = number; is_tool = is_tool; in_transaction = false; writes = []; polls = 0 }
+new_session number is_tool = record { number = number; is_tool = is_tool; in_transaction = false; locks_tables = false; writes = []; row_locks = []; names = []; polls = 0 }
 
 -- one session more, with the next number
 abbrev pub connected : Bool → State → State

@@ -18,4 +18,4 @@ pub use entry::{Asked, Entry, Journal};
 pub use request::Request;
 pub use said::{Said, Sought};
 pub use serve::Serve;
-pub use session::{Limits, Session, Sessions, Waiting, Waits};
+pub use session::{HeldName, HeldNames, Limits, Session, Sessions, Waiting, Waits};

@@ -2,7 +2,8 @@
 
 use crate::request::Request;
 use event_codec::Events;
-use gho_values::Sequence;
+use gho_values::{Name, Sequence};
+use row_locks::LockSet;
 
 /// How often a waiting session is polled before its wait times out.
 #[derive(Clone, Copy, Debug, PartialEq, Eq)]
@@ -13,6 +14,18 @@ pub struct Limits {
     pub tool_wait: u32,
 }
 
+/// A name of a table that a session holds (MySQL's manual, "Metadata Locking").
+#[derive(Debug, Drop)]
+pub struct HeldName {
+    /// The name, whether or not a table has it.
+    pub name: Name,
+    /// Whether it is held exclusively, or else shared.
+    pub exclusive: bool,
+}
+
+/// Names that are held, in the order in which they were granted.
+pub type HeldNames = Sequence<HeldName>;
+
 /// A live session.
 #[derive(Debug, Drop)]
 pub struct Session {
@@ -22,8 +35,14 @@ pub struct Session {
     pub is_tool: bool,
     /// Whether it is in a transaction.
     pub in_transaction: bool,
+    /// Whether it holds tables by LOCK TABLES.
+    pub locks_tables: bool,
     /// What its transaction wrote so far.
     pub writes: Events,
+    /// The row locks that it holds.
+    pub row_locks: LockSet,
+    /// The names of tables that it holds.
+    pub names: HeldNames,
     /// How often its waiting request was polled.
     pub polls: u32,
 }
