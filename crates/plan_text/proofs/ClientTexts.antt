@@ -9,7 +9,7 @@ use Rattle.toml.proofs.Views.{items_view-drop}
 use Rattle.gho_schema.specs.declared.schema.Schema.{Schema}
 use Rattle.gho_schema.specs.Reading.{◌>>=◌}
 use Rattle.script_text.specs.declared.script.ScriptLine.{ScriptLine}
-use Rattle.plan_text.specs.declared.fault.Refusal.TheVariants.{TooLong, NotToml, NotBuilt}
+use Rattle.plan_text.specs.declared.fault.Refusal.TheVariants.{TooLong, NotToml, Schema as SchemaRefused, Alter, NotBuilt}
 use Rattle.plan_text.specs.declared.fault.PlanFault.{PlanFault}
 use Rattle.plan_text.specs.declared.fault.PlanFault.TheVariants as faults
 use Rattle.plan_text.specs.Documents.{Finds}
@@ -45,6 +45,8 @@ unfolding clients_of
 fails faults.Memory schema front items i x total lt is h so_far = tt
 fails (faults.Refused TooLong) schema front items i x total lt is h so_far = h
 fails (faults.Refused NotToml) schema front items i x total lt is h so_far = h
+fails (faults.Refused (SchemaRefused code table)) schema front items i x total lt is h so_far = h
+fails (faults.Refused (Alter code)) schema front items i x total lt is h so_far = h
 fails (faults.Refused NotBuilt) schema front items i x total lt is h so_far =
     let one : with_front front (clients_of schema (items_view (drop i items))) ≡ None = rw (from_here items i x lt is, h) refl in
     sym so_far ∙ one

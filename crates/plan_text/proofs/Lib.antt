@@ -1,4 +1,7 @@
+mod Clashes
 mod ClientTexts
 mod Members
-mod RowOrder
+mod PlanTexts
+pub mod RowOrder
 mod RowTexts
+mod RowValues

@@ -1,9 +1,10 @@
 -- The map of a TOML table beside its members.
-use Rattle.std.proofs.Common.{◌≡◌, ℕ, ◌+◌, List, [], ◌∷◌, length, refl, ap, add-one, sym, ◌∙◌, suc}
+use Rattle.std.proofs.Common.{◌≡◌, ℕ, ◌+◌, ◌≤◌, List, [], ◌∷◌, length, Option, None, refl, ap, add-one, sym, ◌∙◌, suc, arith}
 use Rattle.toml.proofs.Views.{Entry}
 use Rattle.toml.specs.declared.value.Value.{Value}
 use Rattle.toml.specs.View.{items_view, members_view}
 use Rattle.plan_text.specs.Documents.{item_count, member_count}
+use Rattle.plan_text.specs.PlanKeys.{one_table}
 
 pub member_count-view : (entries : List Entry) → member_count (members_view entries) ≡ length entries
 member_count-view [] = refl
@@ -12,3 +13,10 @@ member_count-view (entry ∷ entries) = rw (member_count-view entries, add-one) 
 pub item_count-view : (values : List Value) → item_count (items_view values) ≡ length values
 item_count-view [] = refl
 item_count-view (value ∷ values) = rw (item_count-view values, add-one) refl
+
+-- an array of more than one item has no one table
+pub many_items : (items : List Value) → 2 ≤ length items → one_table (items_view items) ≡ None
+unfolding one_table
+many_items [] le = absurd (omega arith)
+many_items (x ∷ []) le = absurd (omega arith)
+many_items (x ∷ y ∷ items) le = refl

@@ -8,10 +8,10 @@ use Rattle.toml.proofs.Views.{items_view-drop}
 use Rattle.gho_values.specs.declared.value.Value.{Value}
 use Rattle.gho_schema.specs.declared.schema.Schema.{Schema}
 use Rattle.gho_schema.specs.Reading.{◌>>=◌}
-use Rattle.plan_text.specs.declared.fault.Refusal.TheVariants.{TooLong, NotToml, NotBuilt}
+use Rattle.plan_text.specs.declared.fault.Refusal.TheVariants.{TooLong, NotToml, Schema as SchemaRefused, Alter, NotBuilt}
 use Rattle.plan_text.specs.declared.fault.PlanFault.{PlanFault}
 use Rattle.plan_text.specs.declared.fault.PlanFault.TheVariants as faults
-use Rattle.plan_text.specs.Plans.{put_text, rows_of, one_table}
+use Rattle.plan_text.specs.PlanRows.{put_text, rows_of}
 use Rattle.plan_text.specs.Documents.{Finds}
 
 abbrev pub Row : Type 0
@@ -36,6 +36,8 @@ unfolding rows_of
 fails faults.Memory seen schema rows items i x total lt is h so_far = tt
 fails (faults.Refused TooLong) seen schema rows items i x total lt is h so_far = h
 fails (faults.Refused NotToml) seen schema rows items i x total lt is h so_far = h
+fails (faults.Refused (SchemaRefused code table)) seen schema rows items i x total lt is h so_far = h
+fails (faults.Refused (Alter code)) seen schema rows items i x total lt is h so_far = h
 fails (faults.Refused NotBuilt) seen schema rows items i x total lt is h so_far =
     let one : rows_of schema rows (items_view (drop i items)) ≡ None = rw (from_here items i x lt is, h) refl in
     sym so_far ∙ one
@@ -45,10 +47,3 @@ unfolding rows_of
 is_full schema rows items i total le so_far =
     let one : rows_of schema rows (items_view (drop i items)) ≡ Some rows = rw (drop_all i items le) refl in
     sym so_far ∙ one
-
--- an array of more than one item has no one table
-pub many_items : (items : List TomlValue) → 2 ≤ length items → one_table (items_view items) ≡ None
-unfolding one_table
-many_items [] le = absurd (omega arith)
-many_items (x ∷ []) le = absurd (omega arith)
-many_items (x ∷ y ∷ items) le = refl

@@ -2,7 +2,7 @@
 use Rattle.std.specs.Prelude.{ℕ, ◌+◌, Bool, false, ◌&&◌, nat_lt, if◌then◌else◌, List, [], ◌∷◌, length, Option, Some, None}
 use Rattle.std.specs.List.{list_all, slice_get, sum_by}
 use Rattle.std.specs.Str.{bytes_eq}
-use Rattle.toml.specs.Data.{Data, Items, no_items, item, as_str, as_array}
+use Rattle.toml.specs.Data.{Data, Items, no_items, item, as_str}
 use Rattle.gho_schema.specs.declared.schema.Schema.{Schema}
 use Rattle.gho_schema.specs.declared.schema.Column.{Column}
 use Rattle.gho_schema.specs.Names.{same_name}
@@ -17,8 +17,7 @@ use Rattle.script_text.specs.declared.statement.Condition.{Condition}
 use Rattle.script_text.specs.declared.statement.Condition.TheVariants.{Equal}
 use Rattle.script_text.specs.declared.statement.Shown.TheVariants as shown
 use Rattle.script_text.specs.Scripts.{script_of}
-use Rattle.plan_text.specs.declared.clients.TheConstants.{CLIENT_LIMIT, STATEMENT_LIMIT}
-use Rattle.plan_text.specs.Documents.{item_count}
+use Rattle.plan_text.specs.declared.clients.TheConstants.{STATEMENT_LIMIT}
 
 -- the column of this name stands at this place
 abbrev pub is_column : List ℕ → Option Column → Bool
@@ -73,11 +72,6 @@ line_count scripts = sum_by length scripts
 abbrev pub few_lines : List (List ScriptLine) → Option (List (List ScriptLine))
 few_lines scripts = if nat_lt STATEMENT_LIMIT (line_count scripts) then None else Some scripts
 
--- at most 64 scripts
+-- the scripts that the items are, of at most 50,000 lines together
 abbrev pub clients_in : Schema → Items → Option (List (List ScriptLine))
-clients_in schema items = if nat_lt CLIENT_LIMIT (item_count items) then None else (clients_of schema items >>= few_lines)
-
--- The scripts at the key `clients`; none where it isn't there.
-abbrev pub clients_behind : Schema → Option Data → Option (List (List ScriptLine))
-clients_behind schema None = Some []
-clients_behind schema (Some value) = as_array value >>= clients_in schema
+clients_in schema items = clients_of schema items >>= few_lines

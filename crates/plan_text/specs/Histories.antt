@@ -5,8 +5,6 @@ use Rattle.std.specs.List.{flat_map}
 use Rattle.std.specs.Str.{bytes_eq}
 use Rattle.gho_values.specs.declared.value.Value.{Value}
 use Rattle.gho_schema.specs.declared.schema.Schema.{Schema}
-use Rattle.alter_grammar.specs.declared.clause.Clause.{Clause}
-use Rattle.alter_grammar.specs.Images.{altered_table}
 use Rattle.row_store.specs.Databases.{TableRows, Database, find_table, with_change}
 use Rattle.row_store.specs.declared.renaming.Pair.{Pair}
 use Rattle.script_text.specs.declared.actor.Actor.{Actor}
@@ -26,6 +24,7 @@ use Rattle.server_words.specs.declared.request.Request.TheVariants as requests
 use Rattle.server_words.specs.Along.{gathered}
 use Rattle.server_words.specs.Alone.{Ran, alone, reply_of}
 use Rattle.plan_text.specs.PlanData.{PlanData}
+use Rattle.plan_text.specs.Altering.{altered_table}
 use Rattle.plan_text.specs.Journals.{turns_of}
 
 -- a transaction of a client that ended, and the replies that the client got
@@ -81,7 +80,7 @@ with_altered plan tables (Some new) = Some (with_change plan.table (λ table. re
 
 abbrev pub altered_in : PlanData → Database → Option TableRows → Option Database
 altered_in plan tables None = None
-altered_in plan tables (Some table) = with_altered plan tables (altered_table table.schema table.rows plan.alter)
+altered_in plan tables (Some table) = with_altered plan tables (altered_table plan table.schema table.rows)
 
 unfoldable pub altered_database : PlanData → Database → Option Database
 altered_database plan tables = altered_in plan tables (find_table plan.table tables)

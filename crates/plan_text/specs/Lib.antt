@@ -1,7 +1,13 @@
+pub mod Accepting
+pub mod Altering
 pub mod Clients
 pub mod Documents
 pub mod Histories
 pub mod Journals
 pub mod PlanData
 pub mod PlanFaults
+pub mod PlanKeys
+pub mod PlanRows
 pub mod Plans
+pub mod Refusals
+pub mod RowTexts

@@ -1,13 +1,13 @@
 //! The scripts of a plan's clients.
 
-ghost use Rattle.std.specs.Prelude.{◌≡◌, nat_lt, option_map, slice_get, option_copied};
+ghost use Rattle.std.specs.Prelude.{◌≡◌, nat_lt, slice_get, option_copied};
 ghost use Rattle.gho_schema.specs.Rows.{key_places};
 ghost use Rattle.std.specs.List.{list_all};
 ghost use Rattle.toml.specs.View.{view, items_view};
 ghost use Rattle.plan_text.specs.Documents.{Finds};
-ghost use Rattle.plan_text.specs.Clients.{is_column, is_key_column, is_on_key, is_built, is_built_word, built_script, client_of, clients_of, line_count, few_lines, clients_in, clients_behind};
+ghost use Rattle.plan_text.specs.Clients.{is_column, is_key_column, is_on_key, is_built, is_built_word, built_script, client_of, clients_of, line_count, few_lines, clients_in};
 
-use crate::fault::{PlanFault, Refusal};
+use crate::fault::{NOT_BUILT, PlanFault};
 use crate::plan::Scripts;
 use gho_schema::{Column, Schema, same_name};
 use gho_values::{Name, Sequence};
@@ -15,14 +15,8 @@ use script_text::{Condition, Script, ScriptLine, ScriptWord, Shown, Statement, r
 use std::alloc::Global;
 use toml::Value;
 
-/// The most clients that a plan has. This project's rule.
-pub const CLIENT_LIMIT: usize = 64;
-
 /// The most lines that the scripts of all clients have together. This project's rule.
 pub const STATEMENT_LIMIT: usize = 50_000;
-
-/// What isn't in the form that is built.
-const NOT_BUILT: PlanFault = PlanFault::Refused(Refusal::NotBuilt);
 
 fn column_at(columns: &[Column], place: u32) -> Option<&Column>
     ensures { option_copied result ≡ slice_get columns.now place }
@@ -160,29 +154,10 @@ fn few_lines(scripts: Scripts) -> Result<Scripts, PlanFault>
     }
 }
 
-fn clients_in(alloc: Global, schema: &Schema, items: &[Value]) -> Result<Scripts, PlanFault>
+/// The scripts that the items are, of at most 50,000 lines together.
+pub fn clients_in(alloc: Global, schema: &Schema, items: &[Value]) -> Result<Scripts, PlanFault>
     ensures { Finds (λ scripts. scripts) result (clients_in schema.now (items_view items.now)) }
 {
-    if items.len() > CLIENT_LIMIT {
-        return Err(NOT_BUILT);
-    }
     let scripts = clients_of(alloc, schema, items)?;
     few_lines(scripts)
-}
-
-/// The scripts of a plan's clients.
-pub fn clients_behind(
-    alloc: Global,
-    schema: &Schema,
-    clients: Option<&Value>,
-) -> Result<Scripts, PlanFault>
-    ensures { Finds (λ scripts. scripts) result (clients_behind schema.now (option_map (λ value. view value.now) clients.entry)) }
-{
-    let Some(value) = clients else {
-        return Ok(Sequence::new(alloc));
-    };
-    match value.as_array() {
-        Some(items) => clients_in(alloc, schema, items.as_slice()),
-        None => Err(NOT_BUILT),
-    }
 }

@@ -1,11 +1,13 @@
 //! Why bytes are no plan.
 
 ghost use Rattle.std.specs.Prelude.{◌≡◌};
+ghost use Rattle.plan_text.specs.Refusals.{schema_name, alter_name};
 
-use alter_grammar::AlterFault;
-use gho_schema::{PutFault, SchemaFault};
+use alter_schema::{AlterCode, AlterFault};
+use gho_schema::PutFault;
 use script_text::LineFault;
 use std::alloc::{AllocError, AllocFailed};
+use table_words::SchemaCode;
 use thiserror::Error;
 
 /// Why a plan is refused.
@@ -15,8 +17,95 @@ pub enum Refusal {
     TooLong,
     /// The bytes are no TOML document.
     NotToml,
+    /// The text of a table's CREATE TABLE is refused.
+    Schema {
+        /// Why it is refused.
+        code: SchemaCode,
+        /// The table's number in the plan, from 1.
+        table: u32,
+    },
+    /// The ALTER is refused.
+    Alter(AlterCode),
     /// The document is no plan, or one that isn't built yet.
     NotBuilt,
+}
+
+impl Refusal {
+    ghost use Rattle.plan_text.specs.Refusals.{refusal_number, refusal_name, refused_table};
+
+    /// The refusal's number.
+    pub fn number(self) -> u16
+        ensures { result ≡ refusal_number self }
+    {
+        match self {
+            Refusal::TooLong => 59,
+            Refusal::NotToml => 50,
+            Refusal::Schema { code, .. } => code.number(),
+            Refusal::Alter(code) => code.number(),
+            Refusal::NotBuilt => 60,
+        }
+    }
+
+    /// The refusal's name.
+    pub fn name(self) -> &'static str
+        ensures { result.now ≡ refusal_name self }
+    {
+        match self {
+            Refusal::TooLong => "too_long",
+            Refusal::NotToml => "not_toml",
+            Refusal::Schema { code, .. } => schema_name(code),
+            Refusal::Alter(code) => alter_name(code),
+            Refusal::NotBuilt => "not_built",
+        }
+    }
+
+    /// The number of the table whose text is refused, from 1.
+    pub fn table(self) -> Option<u32>
+        ensures { result ≡ refused_table self }
+    {
+        match self {
+            Refusal::Schema { table, .. } => Some(table),
+            _ => None,
+        }
+    }
+}
+
+/// The name of a refusal of CREATE TABLE.
+fn schema_name(code: SchemaCode) -> &'static str
+    ensures { result.now ≡ schema_name code }
+{
+    match code {
+        SchemaCode::Syntax => "schema_syntax",
+        SchemaCode::Scope => "schema_scope",
+        SchemaCode::RepeatedName => "repeated_name",
+        SchemaCode::UnknownKeyColumn => "unknown_key_column",
+        SchemaCode::NoClusteredKey => "no_clustered_key",
+        SchemaCode::TooManyColumns => "too_many_columns",
+        SchemaCode::TooManyKeys => "too_many_keys",
+        SchemaCode::NameTooLong => "name_too_long",
+        SchemaCode::ReservedName => "reserved_name",
+        SchemaCode::BadDefault => "bad_default",
+    }
+}
+
+/// The name of a refusal of ALTER TABLE.
+fn alter_name(code: AlterCode) -> &'static str
+    ensures { result.now ≡ alter_name code }
+{
+    match code {
+        AlterCode::Syntax => "alter_syntax",
+        AlterCode::UnknownName => "unknown_name",
+        AlterCode::RepeatedName => "repeated_column",
+        AlterCode::KeyColumnDropped => "key_column_dropped",
+        AlterCode::KeyColumnConverted => "key_column_converted",
+        AlterCode::AddUnique => "add_unique",
+        AlterCode::ClusteredKeyChange => "clustered_key_change",
+        AlterCode::Default => "default",
+        AlterCode::RenameNotApproved => "rename_not_approved",
+        AlterCode::RenameTable => "rename_table",
+        AlterCode::AllColumnsDropped => "all_columns_dropped",
+        AlterCode::Scope => "alter_scope",
+    }
 }
 
 /// Why a plan isn't read.
@@ -29,6 +118,9 @@ pub enum PlanFault {
     #[error("out of memory")]
     Memory,
 }
+
+/// What isn't in the form that is built.
+pub(crate) const NOT_BUILT: PlanFault = PlanFault::Refused(Refusal::NotBuilt);
 
 impl From<AllocError> for PlanFault {
     ghost use Rattle.plan_text.specs.declared.fault.PlanFault.TheVariants.{Memory};
@@ -50,19 +142,6 @@ impl<T: Drop> From<AllocFailed<T>> for PlanFault {
     }
 }
 
-impl From<SchemaFault> for PlanFault {
-    ghost use Rattle.plan_text.specs.PlanFaults.{of_schema};
-
-    ghost from_gives = { λ fault e. e ≡ of_schema fault };
-
-    fn from(fault: SchemaFault) -> PlanFault {
-        match fault {
-            SchemaFault::NotBuilt => PlanFault::Refused(Refusal::NotBuilt),
-            SchemaFault::Memory => PlanFault::Memory,
-        }
-    }
-}
-
 impl From<AlterFault> for PlanFault {
     ghost use Rattle.plan_text.specs.PlanFaults.{of_alter};
 
@@ -70,7 +149,7 @@ impl From<AlterFault> for PlanFault {
 
     fn from(fault: AlterFault) -> PlanFault {
         match fault {
-            AlterFault::NotBuilt => PlanFault::Refused(Refusal::NotBuilt),
+            AlterFault::Refused(code) => PlanFault::Refused(Refusal::Alter(code)),
             AlterFault::Memory => PlanFault::Memory,
         }
     }

@@ -6,6 +6,7 @@ mod document;
 mod fault;
 mod keys;
 mod plan;
+mod row_text;
 mod rows;
 
 /// How many bytes a plan has at most: 16 MiB. This project rule.
@@ -14,3 +15,6 @@ pub const PLAN_LIMIT: usize = 16_777_216;
 pub use document::read_plan;
 pub use fault::{PlanFault, Refusal};
 pub use plan::{Plan, Scripts};
+
+#[cfg(test)]
+mod tests;

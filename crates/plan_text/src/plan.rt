@@ -17,6 +17,7 @@ pub type Scripts = Sequence<Script>;
 pub struct Plan {
     table: Name,
     alter: Clauses,
+    approve_renamed_columns: bool,
     tables: Tables,
     clients: Scripts,
 }
@@ -27,17 +28,24 @@ impl Model for Plan {
 
     ghost Value = { PlanData };
 
-    ghost view = { λ p. record { table = p.table; alter = p.alter; tables = database p.tables; clients = p.clients } };
+    ghost view = { λ p. record { table = p.table; alter = p.alter; approve_renamed_columns = p.approve_renamed_columns; tables = database p.tables; clients = p.clients } };
 }
 
 impl Plan {
     /// A plan of these parts. It takes no memory.
-    pub fn new(table: Name, alter: Clauses, tables: Tables, clients: Scripts) -> Plan
-        ensures { result ≡ record { table = table; alter = alter; tables = database tables; clients = clients } }
+    pub fn new(
+        table: Name,
+        alter: Clauses,
+        approve_renamed_columns: bool,
+        tables: Tables,
+        clients: Scripts,
+    ) -> Plan
+        ensures { result ≡ record { table = table; alter = alter; approve_renamed_columns = approve_renamed_columns; tables = database tables; clients = clients } }
     {
         Plan {
             table,
             alter,
+            approve_renamed_columns,
             tables,
             clients,
         }
@@ -55,6 +63,13 @@ impl Plan {
         ensures { result.now ≡ self.now.alter }
     {
         &self.alter
+    }
+
+    /// Whether the ALTER may give columns other names.
+    pub fn approves_renamed_columns(&self) -> bool
+        ensures { result ≡ self.now.approve_renamed_columns }
+    {
+        self.approve_renamed_columns
     }
 
     /// The opening tables, in the plan's order.

@@ -1,7 +1,7 @@
 use Rattle.std.proofs.Common.{◌≡◌, [], drop}
 use Rattle.toml.specs.View.{items_view}
 use Rattle.gho_schema.specs.Rows.{key_places}
-use Rattle.plan_text.specs.Plans.{rows_of}
+use Rattle.plan_text.specs.PlanRows.{rows_of}
 use Rattle.plan_text.proofs.rows.rows_of.Given as goal
 
 -- the rows so far with those that are left are all
