@@ -1,3 +1,2 @@
-mod KeptKeys
 mod Migratable
-mod RowOrder
+mod PlanRows

@@ -1,110 +1,115 @@
 -- An accepted plan is migratable.
-use Rattle.std.proofs.Common.{◌≡◌, ℕ, codes, Bool, true, false, ◌&&◌, ◌==◌, cond, nat_lt, List, [], ◌∷◌, length, count_by, Option, Some, None, Result, Ok, Err, refl, sym, ap, subst, ◌∙◌}
-use Rattle.std.proofs.lemmas.Bool.{and_parts}
+use Rattle.std.proofs.Common.{◌≡◌, ℕ, Bool, true, false, cond, nat_lt, List, [], ◌∷◌, length, Option, Some, None, Result, Ok, Err, refl, ap, subst}
 use Rattle.std.proofs.lemmas.Slice.Eq.{bytes_eq-Decides}
+use Rattle.std.specs.Result.{result_ok}
 use Rattle.std.specs.Str.{bytes_eq}
-use Rattle.toml.specs.Data.{Data, Members, get_member}
+use Rattle.toml.specs.Data.{Members}
+use Rattle.gho_values.specs.declared.value.Value.{Value}
 use Rattle.gho_values.specs.Laws.{StoresAgain}
 use Rattle.gho_schema.specs.declared.schema.Schema.{Schema}
-use Rattle.gho_schema.specs.Reading.{◌>>=◌, keyword_at, name_at, sign_at, is_blank}
-use Rattle.gho_schema.specs.Names.{is_table_name}
-use Rattle.gho_schema.specs.Creating.{schema_at, schema_of, columns_at, names_differ, is_key}
-use Rattle.gho_schema.specs.Tables.{IsTable, HasKeyPlaces}
-use Rattle.gho_schema.specs.Laws.{ReadRowsFit, PutKeepsOrder, OrderedRowsAreApart, ReadSchemasHaveKeyPlaces}
-use Rattle.alter_grammar.specs.Altering.{Altered, altered}
-use Rattle.alter_grammar.specs.Clauses.{clauses_at}
+use Rattle.gho_schema.specs.Laws.{PutKeepsOrder}
+use Rattle.alter_grammar.specs.declared.clause.Clause.{Clause}
 use Rattle.row_store.specs.Databases.{TableRows}
+use Rattle.table_words.specs.declared.code.SchemaCode.{SchemaCode}
+use Rattle.table_words.specs.Reads.{◌>>=◌}
+use Rattle.schema_text.specs.Lawful.{IsLawful}
+use Rattle.schema_text.specs.Reading.{schema_at}
+use Rattle.schema_laws.specs.Laws.{ReadSchemasAreLawful}
+use Rattle.alter_schema.specs.declared.code.AlterCode.{AlterCode}
+use Rattle.alter_schema.specs.Altering.{altered}
+use Rattle.alter_text.specs.Reading.{alter_at}
+use Rattle.alter_laws.specs.Laws.{ImagesKeepClusteredKeys, ImagesStayApart, AlteredTablesKeepNames}
 use Rattle.plan_text.specs.declared.TheConstants.{PLAN_LIMIT}
 use Rattle.plan_text.specs.declared.fault.Refusal.{Refusal}
 use Rattle.plan_text.specs.declared.fault.Refusal.TheVariants.{TooLong}
+use Rattle.plan_text.specs.Accepting.{accepted}
+use Rattle.plan_text.specs.Altering.{Altered}
+use Rattle.plan_text.specs.Clients.{clients_in}
 use Rattle.plan_text.specs.PlanData.{PlanData}
-use Rattle.plan_text.specs.Documents.{member_count, text_at}
-use Rattle.plan_text.specs.Clients.{clients_behind}
-use Rattle.plan_text.specs.Plans.{rows_behind, table_at, tables_at, is_first_version, key_number, plan_at, document, document_in, plan_of, plan_in, reads}
-use Rattle.plan_laws.proofs.RowOrder.{Bound, bound, Fits, behind_fit}
-use Rattle.serial_laws.specs.SerialLaws.{IsMigratable}
-use Rattle.plan_laws.proofs.KeptKeys.{keeps_rows}
+use Rattle.plan_text.specs.PlanKeys.{PlanKeys, keys_at}
+use Rattle.plan_text.specs.PlanRows.{rows_in}
+use Rattle.plan_text.specs.Plans.{built, of_table, of_alter, plan_at, document, document_in, reads}
+use Rattle.plan_text.proofs.RowOrder.{bound}
+use Rattle.serial_laws.specs.SerialLaws.{KeepsRows, IsMigratable}
+use Rattle.plan_laws.proofs.PlanRows.{rows_are}
 
-some_is : {A : Type 0} (x y : A) → Some x ≡ Some y → x ≡ y
-some_is x y is = cc
+-- a value that was read, and what goes on with it
+record Went {A B C : Type 0} (read : Result A C) (goes : A → Result B C) (made : B) : Type 0 where
+  x : A
+  read_is : read ≡ Ok x
+  goes_on : goes x ≡ Ok made
+
+went : {A B C : Type 0} (read : Result A C) (goes : A → Result B C) (made : B) → (read >>= goes) ≡ Ok made → Went read goes made
+went (Ok x) goes made is = record { x = x; read_is = refl; goes_on = is }
+went (Err code) goes made is = absurd (cc)
+
+was_built : {A : Type 0} (found : Option A) (x : A) → built found ≡ Ok x → found ≡ Some x
+was_built (Some y) x is = cc
+was_built None x is = absurd (cc)
+
+schema_was : (read : Result Schema SchemaCode) (x : Schema) → of_table 1 read ≡ Ok x → read ≡ Ok x
+schema_was (Ok y) x is = cc
+schema_was (Err code) x is = absurd (cc)
+
+alter_was : {A : Type 0} (read : Result A AlterCode) (x : A) → of_alter read ≡ Ok x → read ≡ Ok x
+alter_was (Ok y) x is = cc
+alter_was (Err code) x is = absurd (cc)
 
 tested : {A : Type 0} (b : Bool) (x y : A) → cond b (Some x) None ≡ Some y → (b ≡ true) × (x ≡ y)
 tested true x y is = (refl, cc)
 tested false x y is = absurd (cc)
 
--- a schema that is read has the name that it was read for
-named_schema : (migrated text : List ℕ) (schema : Schema) → schema_at migrated text ≡ Some schema → schema.name ≡ migrated
-unfolding schema_at
-named_schema migrated text schema is =
-    let create = bound (keyword_at (codes "CREATE") text) _ schema is in
-    let table = bound (keyword_at (codes "TABLE") create.x) _ schema create.goes_on in
-    let name = bound (name_at table.x) _ schema table.goes_on in
-    let columns = bound (columns_at 64 40 name.x.1) _ schema name.goes_on in
-    let rest = bound (sign_at 41 columns.x.1) _ schema columns.goes_on in
-    let named = bytes_eq name.x.0 migrated && is_table_name name.x.0 in
-    let fit = names_differ columns.x.0 && count_by is_key columns.x.0 == 1 in
-    let all = tested (is_blank rest.x && (named && fit)) (schema_of name.x.0 columns.x.0) schema rest.goes_on in
-    let behind = and_parts (is_blank rest.x) (named && fit) all.0 in
-    let both = and_parts named fit behind.1 in
-    let same = and_parts (bytes_eq name.x.0 migrated) (is_table_name name.x.0) both.0 in
-    ap (λ (s : Schema). s.name) (sym all.1) ∙ (bytes_eq-Decides name.x.0 migrated).0 same.0
+-- what the laws say of ALTERs that are taken
+pub record Laws : Type 0 where
+  pub lawful : ReadSchemasAreLawful
+  pub keys : ImagesKeepClusteredKeys
+  pub apart : ImagesStayApart
+  pub names : AlteredTablesKeepNames
+  pub again : StoresAgain
+  pub order : PutKeepsOrder
 
--- the table of a plan
-record IsPlanTable (name : List ℕ) (table : TableRows) : Type 0 where
-  named : table.schema.name ≡ name
-  is_table : IsTable table.schema table.rows
-  places : HasKeyPlaces table.schema
+keeps_rows : Laws → (approve : Bool) (schema : Schema) (clauses : List Clause) (new : Altered) → IsLawful schema → altered approve schema clauses ≡ Ok new → KeepsRows schema new
+keeps_rows laws approve schema clauses new lawful is = record {
+  name = laws.names approve schema clauses new is;
+  key = λ row made fits image_is. laws.keys approve schema clauses new row made lawful is fits image_is;
+  apart = λ row other made others fits too image_is other_is clashes. laws.apart approve schema clauses new row other made others lawful is fits too image_is other_is clashes;
+}
 
-table_is : ReadRowsFit → PutKeepsOrder → OrderedRowsAreApart → ReadSchemasHaveKeyPlaces → (name : List ℕ) (members : Members) (table : TableRows) → table_at name members ≡ Some table → IsPlanTable name table
-unfolding table_at
-table_is read keeps apart keyed name members table is =
-    let create = bound (text_at (codes "create") members) _ table is in
-    let schema = bound (schema_at name create.x) _ table create.goes_on in
-    let rows = bound (rows_behind schema.x (member_count members) (get_member (codes "rows") members)) (λ rows. Some (record { schema = schema.x; rows = rows })) table schema.goes_on in
-    let fits : Fits schema.x rows.x = behind_fit read keeps schema.x (member_count members) (get_member (codes "rows") members) rows.x rows.read_is in
-    let made : TableRows = record { schema = schema.x; rows = rows.x } in
-    subst (IsPlanTable name) (some_is made table rows.goes_on) (record {
-      named = named_schema name create.x schema.x schema.read_is;
-      is_table = record { rows_fit = fits.fit; ascends = fits.ascends; apart = apart name create.x schema.x rows.x schema.read_is fits.ascends };
-      places = keyed name create.x schema.x schema.read_is;
-    })
-
-plan_is : ReadRowsFit → PutKeepsOrder → OrderedRowsAreApart → ReadSchemasHaveKeyPlaces → StoresAgain → (members : Members) (plan : PlanData) → plan_at members ≡ Some plan → IsMigratable plan
-unfolding plan_at
-plan_is read keeps apart keyed again members plan is =
-    let name = bound (text_at (codes "table") members) _ plan is in
-    let alter = bound (text_at (codes "alter") members) _ plan name.goes_on in
-    let tables = bound (tables_at members) _ plan alter.goes_on in
-    let table = bound (table_at name.x tables.x) _ plan tables.goes_on in
-    let clauses = bound (clauses_at alter.x) _ plan table.goes_on in
-    let new = bound (altered table.x.schema clauses.x) _ plan clauses.goes_on in
-    let clients = bound (clients_behind table.x.schema (get_member (codes "clients") members)) _ plan new.goes_on in
-    let made : PlanData = record { table = name.x; alter = clauses.x; tables = table.x ∷ []; clients = clients.x } in
-    let all = tested (is_first_version members && member_count members == key_number (get_member (codes "clients") members)) made plan clients.goes_on in
-    let found : IsPlanTable name.x table.x = table_is read keeps apart keyed name.x tables.x table.x table.read_is in
+accepted_is : Laws → (keys : PlanKeys) (schema : Schema) (clauses : List Clause) (new : Altered) (plan : PlanData) → IsLawful schema → altered keys.approve_renamed_columns schema clauses ≡ Ok new → accepted keys schema clauses ≡ Some plan → IsMigratable plan
+unfolding accepted
+accepted_is laws keys schema clauses new plan lawful alters is =
+    let rows = bound (rows_in schema keys.rows) _ plan is in
+    let clients = bound (clients_in schema keys.clients) _ plan rows.goes_on in
+    let table : TableRows = record { schema = schema; rows = rows.x } in
+    let made : PlanData = record { table = keys.table; alter = clauses; approve_renamed_columns = keys.approve_renamed_columns; tables = table ∷ []; clients = clients.x } in
+    let all = tested (bytes_eq schema.name keys.table) made plan clients.goes_on in
     subst IsMigratable all.1 (record {
-      table = table.x;
+      table = table;
       only = refl;
-      named = found.named;
-      is_table = found.is_table;
-      new = new.x;
-      alters = new.read_is;
-      keeps = keeps_rows again table.x.schema clauses.x new.x found.places new.read_is;
+      named = (bytes_eq-Decides schema.name keys.table).0 all.0;
+      is_table = rows_are laws.again laws.order schema keys.rows rows.x rows.read_is;
+      lawful = lawful;
+      new = new;
+      alters = ap result_ok alters;
+      keeps = keeps_rows laws keys.approve_renamed_columns schema clauses new lawful alters;
     })
+
+plan_is : Laws → (members : Members) (plan : PlanData) → plan_at members ≡ Ok plan → IsMigratable plan
+unfolding plan_at
+plan_is laws members plan is =
+    let keys = went (built (keys_at members)) _ plan is in
+    let schema = went (of_table 1 (schema_at keys.x.table keys.x.create)) _ plan keys.goes_on in
+    let clauses = went (of_alter (alter_at keys.x.table keys.x.alter)) _ plan schema.goes_on in
+    let new = went (of_alter (altered keys.x.approve_renamed_columns schema.x clauses.x)) (λ new. built (accepted keys.x schema.x clauses.x)) plan clauses.goes_on in
+    let lawful = laws.lawful keys.x.table keys.x.create schema.x (schema_was (schema_at keys.x.table keys.x.create) schema.x schema.read_is) in
+    accepted_is laws keys.x schema.x clauses.x new.x plan lawful (alter_was (altered keys.x.approve_renamed_columns schema.x clauses.x) new.x new.read_is) (was_built (accepted keys.x schema.x clauses.x) plan new.goes_on)
 
 short_enough : (b : Bool) (r : Result PlanData Refusal) (plan : PlanData) → cond b (Err TooLong) r ≡ Ok plan → r ≡ Ok plan
 short_enough true r plan is = absurd (cc)
 short_enough false r plan is = is
 
-is_built : (o : Option PlanData) (plan : PlanData) → plan_in o ≡ Ok plan → o ≡ Some plan
-is_built None plan is = absurd (cc)
-is_built (Some other) plan is = cc
-
-document_is : ReadRowsFit → PutKeepsOrder → OrderedRowsAreApart → ReadSchemasHaveKeyPlaces → StoresAgain → (found : Option Members) (plan : PlanData) → plan_of (document_in found) ≡ Ok plan → IsMigratable plan
-document_is read keeps apart keyed again None plan is = absurd (cc)
-document_is read keeps apart keyed again (Some members) plan is = plan_is read keeps apart keyed again members plan (is_built (plan_at members) plan is)
-
-pub plans_are : ReadRowsFit → PutKeepsOrder → OrderedRowsAreApart → ReadSchemasHaveKeyPlaces → StoresAgain → (bytes : List ℕ) (plan : PlanData) → reads bytes ≡ Ok plan → IsMigratable plan
+pub plans_are : Laws → (bytes : List ℕ) (plan : PlanData) → reads bytes ≡ Ok plan → IsMigratable plan
 unfolding reads
-plans_are read keeps apart keyed again bytes plan is =
-    document_is read keeps apart keyed again (document bytes) plan (short_enough (nat_lt PLAN_LIMIT (length bytes)) (plan_of (document_in (document bytes))) plan is)
+plans_are laws bytes plan is =
+    let read = went (document_in (document bytes)) plan_at plan (short_enough (nat_lt PLAN_LIMIT (length bytes)) (document_in (document bytes) >>= plan_at) plan is) in
+    plan_is laws read.x plan read.goes_on

@@ -4,8 +4,7 @@ use Rattle.std.proofs.lemmas.List.{append-nil}
 use Rattle.std.specs.Option.{option_to_list}
 use Rattle.gho_schema.specs.declared.schema.Schema.{Schema}
 use Rattle.gho_schema.specs.Tables.{IsTable}
-use Rattle.alter_grammar.specs.Altering.{Altered, altered}
-use Rattle.alter_grammar.specs.Images.{altered_table, images}
+use Rattle.alter_grammar.specs.Images.{images}
 use Rattle.row_store.specs.declared.renaming.Pair.{Pair}
 use Rattle.row_store.specs.Databases.{TableRows, Database, find_table, has_table, rename_tables}
 use Rattle.server_words.specs.declared.entry.Asked.TheVariants.{Call}
@@ -13,6 +12,7 @@ use Rattle.server_words.specs.declared.request.Request.TheVariants as requests
 use Rattle.server_words.specs.States.{State}
 use Rattle.server_words.specs.Serving.{answered}
 use Rattle.plan_text.specs.PlanData.{PlanData}
+use Rattle.plan_text.specs.Altering.{Altered, altered_table}
 use Rattle.plan_text.specs.Histories.{Happening, Alter, Leads, Serial, tables_left, altered_database, alters}
 use Rattle.tool_program.specs.ToolNames.{ghost_name, old_name}
 use Rattle.tool_program.specs.Programs.{after_answer}

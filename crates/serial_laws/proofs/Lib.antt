@@ -13,3 +13,4 @@ mod Late
 mod Journals
 mod Living
 mod Steps
+mod Verdicts

@@ -1,1 +1,2 @@
 pub mod SerialLaws
+pub mod VerdictLaws

@@ -4,11 +4,12 @@ use Rattle.gho_values.specs.declared.value.Value.{Value}
 use Rattle.gho_schema.specs.declared.schema.Schema.{Schema}
 use Rattle.gho_schema.specs.Rows.{key_of, key_places}
 use Rattle.gho_schema.specs.Tables.{IsRow, IsTable, clash}
-use Rattle.alter_grammar.specs.Altering.{Altered, altered}
 use Rattle.alter_grammar.specs.Images.{image}
 use Rattle.row_store.specs.Databases.{TableRows, IsDatabase}
+use Rattle.schema_text.specs.Lawful.{IsLawful}
 use Rattle.server_words.specs.declared.entry.Entry.{Entry}
 use Rattle.plan_text.specs.PlanData.{PlanData}
+use Rattle.plan_text.specs.Altering.{Altered, altered_by}
 use Rattle.plan_text.specs.Journals.{IsFaithful, state_at}
 use Rattle.plan_text.specs.Histories.{history, Serial, tables_left}
 use Rattle.tool_program.specs.Programs.{Follows}
@@ -21,14 +22,15 @@ pub record KeepsRows (schema : Schema) (new : Altered) : Type 0 where
   pub apart : (row other made others : List Value) → IsRow schema.columns row → IsRow schema.columns other → image new.1 row ≡ Ok made → image new.1 other ≡ Ok others → clash new.0.uniques made others ≡ true
       → clash schema.uniques row other ≡ true
 
--- A plan whose one table is a table, and whose ALTER keeps its rows: what every accepted plan is.
+-- A plan whose one table is a table of a lawful schema, and whose ALTER keeps its rows: what every accepted plan is.
 pub record IsMigratable (plan : PlanData) : Type 0 where
   pub table : TableRows
   pub only : plan.tables ≡ table ∷ []
   pub named : table.schema.name ≡ plan.table
   pub is_table : IsTable table.schema table.rows
+  pub lawful : IsLawful table.schema
   pub new : Altered
-  pub alters : altered table.schema plan.alter ≡ Some new
+  pub alters : altered_by plan table.schema ≡ Some new
   pub keeps : KeepsRows table.schema new
 
 -- *Journals are serial*: where a plan is migratable, and a journal is faithful and follows the program, its history leads
