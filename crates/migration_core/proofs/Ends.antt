@@ -8,8 +8,8 @@ use Rattle.script_text.specs.declared.actor.Actor.TheVariants.{Op, Insp, Copy, A
 use Rattle.script_text.specs.declared.script.ScriptLine.{ScriptLine}
 use Rattle.server_words.specs.declared.entry.Asked.{Asked}
 use Rattle.server_words.specs.declared.entry.Entry.{Entry}
-use Rattle.alter_grammar.specs.Altering.{Altered}
 use Rattle.plan_text.specs.PlanData.{PlanData}
+use Rattle.plan_text.specs.Altering.{Altered}
 use Rattle.plan_text.specs.Journals.{same_actor, is_client}
 use Rattle.tool_program.specs.declared.tool.Tool.{Tool}
 use Rattle.tool_program.specs.declared.tool.Tool.TheVariants.{Creating, Reaching, Choosing, Spanning, Copying, Renaming, Done, Reverting, Reverted}

@@ -7,7 +7,7 @@ ghost use Rattle.server_words.specs.declared.request.Request.TheVariants.{Do};
 ghost use Rattle.plan_text.specs.Journals.{script_of, client_asks, line_asks, word_asks};
 ghost use Rattle.tool_program.specs.Programs.{plan_altered, clients_over, session_named, progress, after_turn};
 ghost use Rattle.tool_program.specs.Orders.{actors, last_actor};
-ghost use Rattle.migration_core.specs.Calls.{applied};
+ghost use Rattle.migration_core.specs.Calls.{HasLawfulSchema, applied};
 ghost use Rattle.migration_core.specs.Books.{seat_at, place_of};
 ghost use Rattle.migration_core.specs.Runs.{turn_limit};
 
@@ -125,6 +125,7 @@ impl<'a> Book<'a> {
     /// The book of the plan without turns.
     pub fn open(alloc: Global, plan: &'a Plan) -> Result<Book<'a>, AllocError>
         requires altered { IsSome (plan_altered plan.now) }
+        requires lawful { HasLawfulSchema plan.now }
         requires few { length plan.now.clients < 4294967295 }
         ensures plan { IfOk result (λ book. book.plan ≡ plan.now) }
         ensures journal { IfOk result (λ book. book.journal ≡ []) }

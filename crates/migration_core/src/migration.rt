@@ -3,9 +3,10 @@
 ghost use Rattle.std.specs.Prelude.{◌≡◌, IfOk, IsSome};
 ghost use Rattle.tool_program.specs.Programs.{plan_altered, altered_in};
 ghost use Rattle.tool_program.specs.ToolNames.{ghost_name, old_name};
-ghost use Rattle.alter_grammar.specs.Clauses.{Reads};
+ghost use Rattle.migration_core.specs.Calls.{HasLawfulSchema};
 
-use alter_grammar::{AlterFault, ColumnMap, altered};
+use alter_grammar::ColumnMap;
+use alter_schema::{AlterFault, altered};
 use gho_schema::Schema;
 use gho_values::Name;
 use plan_text::Plan;
@@ -35,17 +36,19 @@ impl<'a> Model for Migration<'a> {
 
 /// The new schema of the plan's table, and where its columns' values come from.
 #[tactic(auto, unfolding(tool_program::specs::Programs::plan_altered))]
-fn plan_altered(alloc: Global, plan: &Plan) -> Result<(Schema, ColumnMap), AllocError>
-    requires { IsSome (plan_altered plan.now) }
+pub fn plan_altered(alloc: Global, plan: &Plan) -> Result<(Schema, ColumnMap), AllocError>
+    requires altered { IsSome (plan_altered plan.now) }
+    requires lawful { HasLawfulSchema plan.now }
     ensures { IfOk result (λ new. plan_altered plan.now ≡ Some new) }
 {
     let Some(table) = plan.tables().find(plan.table()) else {
         unreachable!();
     };
-    match altered(alloc, table.schema(), plan.alter()) {
+    let approve = plan.approves_renamed_columns();
+    match altered(alloc, table.schema(), plan.alter(), approve) {
         Ok(new) => Ok(new),
         Err(AlterFault::Memory) => Err(AllocError),
-        Err(AlterFault::NotBuilt) => unreachable!(),
+        Err(AlterFault::Refused(_)) => unreachable!(),
     }
 }
 
@@ -74,7 +77,8 @@ fn old_table_name(alloc: Global, table: &Name) -> Result<Name, AllocError>
 impl<'a> Migration<'a> {
     /// What is to be done by the plan.
     pub fn open(alloc: Global, plan: &'a Plan) -> Result<Migration<'a>, AllocError>
-        requires { IsSome (plan_altered plan.now) }
+        requires altered { IsSome (plan_altered plan.now) }
+        requires lawful { HasLawfulSchema plan.now }
         ensures { IfOk result (λ migration. migration ≡ plan.now) }
     {
         let (schema, map) = plan_altered(alloc, plan)?;

@@ -6,6 +6,7 @@ ghost use Rattle.plan_text.specs.Histories.{history, Serial, tables_left};
 ghost use Rattle.serial_laws.specs.SerialLaws.{IsMigratable};
 ghost use Rattle.tool_program.specs.Programs.{plan_altered, has_ended, verdict_of, Follows};
 ghost use Rattle.tool_program.specs.Orders.{is_ready, next_actor, ReplayOrder};
+ghost use Rattle.migration_core.specs.Calls.{HasLawfulSchema};
 ghost use Rattle.migration_core.specs.Runs.{Steps, Passes, is_over};
 ghost use Rattle.migration_core.specs.declared.run.Replayed.TheVariants as Replayed;
 
@@ -64,6 +65,7 @@ impl<'a, V: Serve> Run<'a, V> {
     /// A run of the plan without turns, on a server at the plan's opening.
     pub fn open(alloc: Global, plan: &'a Plan, server: V) -> Result<Run<'a, V>, AllocError>
         requires altered { IsSome (plan_altered plan.now) }
+        requires lawful { HasLawfulSchema plan.now }
         requires few { length plan.now.clients < u32.MAX }
         requires opening { V.state server ≡ opening plan.now }
         ensures { IfOk result (λ run. run ≡ record { plan = plan.now; journal = []; is_halted = false }) }

@@ -1,11 +1,12 @@
 //! The replay of a whole plan.
 
-ghost use Rattle.std.specs.Prelude.{◌≡◌, ◌<◌, length, true, IsSome, IfOk};
+ghost use Rattle.std.specs.Prelude.{◌≡◌, ◌<◌, length, true, IsSome, IfSome, IfOk};
 ghost use Rattle.plan_text.specs.Journals.{opening, state_at, IsFaithful, KeepsPlan};
 ghost use Rattle.plan_text.specs.Histories.{history, Serial, tables_left};
 ghost use Rattle.serial_laws.specs.SerialLaws.{IsMigratable};
 ghost use Rattle.tool_program.specs.Programs.{plan_altered, verdict_of, Follows};
 ghost use Rattle.tool_program.specs.Orders.{ReplayOrder};
+ghost use Rattle.migration_core.specs.Calls.{HasLawfulSchema};
 ghost use Rattle.migration_core.specs.Runs.{is_over};
 
 use crate::run::{Replayed, Run};
@@ -13,27 +14,36 @@ use plan_text::Plan;
 use server_words::{Journal, Serve, Verdict};
 use std::alloc::{AllocError, Global};
 
-/// What is left when all turns of a plan were taken.
+/// How a replay ended.
 #[derive(Drop)]
-pub struct Left<V: Serve> {
-    /// The server.
+pub struct End<V: Serve> {
+    /// The server, at the end of the journal.
     pub server: V,
-    /// The turns.
-    pub journal: Journal,
-    /// How the migration ended.
+    /// How the migration ended, and why.
     pub verdict: Verdict,
 }
 
-/// Takes all turns of the plan, in the order of a replay, on a server at the plan's opening.
+/// What a replay leaves.
+#[derive(Drop)]
+pub struct Left<V: Serve> {
+    /// The turns that were taken.
+    pub journal: Journal,
+    /// How it ended; none where memory was wanting before all turns were taken.
+    pub end: Option<End<V>>,
+}
+
+/// Takes all turns of the plan, in the order of a replay, on a server at the plan's opening. Where there is no memory for
+/// a turn, those before it are left.
 #[tactic(auto, unfolding(tool_program::specs::Orders::ReplayOrder))]
 pub fn replay<V: Serve>(alloc: Global, plan: &Plan, server: V) -> Result<Left<V>, AllocError>
     requires altered { IsSome (plan_altered plan.now) }
+    requires lawful { HasLawfulSchema plan.now }
     requires few { length plan.now.clients < u32.MAX }
     requires opening { V.state server ≡ opening plan.now }
     ensures order { IfOk result (λ left. ReplayOrder plan.now left.journal) }
-    ensures over { IfOk result (λ left. is_over plan.now left.journal ≡ true) }
-    ensures verdict { IfOk result (λ left. left.verdict ≡ verdict_of plan.now left.journal) }
-    ensures state { IfOk result (λ left. V.state left.server ≡ state_at plan.now left.journal) }
+    ensures over { IfOk result (λ left. IfSome left.end (λ end. is_over plan.now left.journal ≡ true)) }
+    ensures verdict { IfOk result (λ left. IfSome left.end (λ end. end.verdict ≡ verdict_of plan.now left.journal)) }
+    ensures state { IfOk result (λ left. IfSome left.end (λ end. V.state end.server ≡ state_at plan.now left.journal)) }
     ensures faithful { IfOk result (λ left. IsFaithful plan.now left.journal) }
     ensures kept { IfOk result (λ left. KeepsPlan plan.now left.journal) }
     ensures follows { IfOk result (λ left. Follows plan.now left.journal) }
@@ -41,15 +51,18 @@ pub fn replay<V: Serve>(alloc: Global, plan: &Plan, server: V) -> Result<Left<V>
 {
     let mut run = Run::open(alloc, plan, server)?;
     match run.replay(alloc) {
-        Replayed::NoMemory => Err(AllocError),
+        Replayed::NoMemory => {
+            let (_server, journal) = run.stop();
+            Ok(Left { journal, end: None })
+        }
         Replayed::Over => {
-            let verdict = run.verdict()?;
+            let verdict = run.verdict();
             let (server, journal) = run.stop();
-            Ok(Left {
-                server,
-                journal,
-                verdict,
-            })
+            let end = match verdict {
+                Ok(verdict) => Some(End { server, verdict }),
+                Err(_) => None,
+            };
+            Ok(Left { journal, end })
         }
     }
 }
