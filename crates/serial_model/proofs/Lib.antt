@@ -1,0 +1,3 @@
+mod CopiedTables
+mod Lists
+mod StoredRows
