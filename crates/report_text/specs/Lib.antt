@@ -1,0 +1,5 @@
+pub mod Names
+pub mod Replies
+pub mod Reports
+pub mod Tables
+pub mod Walks
