@@ -1,7 +1,7 @@
 //! The program `ghost`: its words, standard input and standard output, handed to the top call.
 #![tactic(auto)]
 
-use migration_host::edges::{OpenGate, StdSink, StdSource};
+use gho_edges::{OpenGate, StdSink, StdSource};
 use migration_host::{Line, ghost_};
 use std::alloc::{AllocError, Global};
 use std::process::ExitCode;

@@ -1,185 +1,316 @@
--- What the ending of a call says under each status.
-use Rattle.std.proofs.Common.{◌≡◌, ℕ, Bool, true, false, List, [], Option, Some, None, Result, Ok, Err, ◌⊎◌, inl, inr, refl, sym, ap, subst, ◌∙◌, arith}
-use Rattle.std.specs.Io.KnownBytes.{Appends, Consumes}
-use Rattle.gho_values.specs.declared.value.Value.{Value}
-use Rattle.gho_schema.specs.declared.schema.Schema.{Schema}
-use Rattle.alter_grammar.specs.Images.{altered_table}
-use Rattle.migration_host.specs.declared.plan.Plan.{Plan}
-use Rattle.migration_host.specs.declared.plan.fault.Refusal.{Refusal}
-use Rattle.migration_host.specs.declared.plan.fault.Refusal.TheVariants.{NotBuilt}
+-- How a call ends, case by case.
+use Rattle.std.proofs.Common.{◌≡◌, ℕ, ◌==◌, ◌≤◌, nat_le, Bool, true, false, ◌&&◌, ◌||◌, if◌then◌else◌, List, [], ◌∷◌, length, Option, Some, None, IsSome, Result, Ok, Err, ◌⊎◌, inl, inr, refl, sym, ap, subst, ◌∙◌, arith}
+use Rattle.std.proofs.lemmas.Bool.Decides.{nat_tests}
+use Rattle.std.specs.Io.KnownBytes.{Appends}
+use Rattle.gho_edges.specs.Whole.{ReadsWhole}
+use Rattle.schema_text.specs.Printing.{printed_schema}
+use Rattle.server_words.specs.declared.cause.Cause.{Cause}
+use Rattle.server_words.specs.declared.cause.Verdict.{Verdict}
+use Rattle.server_words.specs.declared.cause.Verdict.TheVariants as verdicts
+use Rattle.server_words.specs.declared.entry.Entry.{Entry}
+use Rattle.plan_text.specs.PlanData.{PlanData}
+use Rattle.plan_text.specs.declared.TheConstants.{PLAN_LIMIT}
+use Rattle.plan_text.specs.declared.fault.Refusal.{Refusal}
+use Rattle.plan_text.specs.Journals.{state_at}
+use Rattle.plan_text.specs.Plans.{reads}
+use Rattle.tool_program.specs.declared.tool.Tool.{Tool}
+use Rattle.tool_program.specs.declared.tool.Tool.TheVariants.{Creating, Reaching, Choosing, Spanning, Copying, Renaming, Done, Reverting, Reverted}
+use Rattle.tool_program.specs.Programs.{progress, clients_over, has_ended, verdict_of, tool_verdict, is_over as tool_is_over}
+use Rattle.serial_laws.specs.VerdictLaws.{TellsAlter, VerdictsTellTheAlter, RevertsNameTurns}
+use Rattle.migration_core.specs.Runs.{is_over, turn_limit}
+use Rattle.report_text.specs.Reports.{report}
+use Rattle.migration_host.specs.declared.command.Command.{Command}
+use Rattle.migration_host.specs.declared.command.Command.TheVariants.{Check, Replay}
+use Rattle.migration_host.specs.declared.outcome.Printed.{Printed}
 use Rattle.migration_host.specs.declared.status.Status.{Status}
-use Rattle.migration_host.specs.declared.status.Status.TheVariants.{Done, Usage, Refused, ReadFault, WriteFault, NoMemory}
-use Rattle.migration_host.specs.Edges.{Rose}
-use Rattle.migration_host.specs.Whole.{ReadsWhole}
-use Rattle.migration_host.specs.Plans.{reads, replays, altered_of, table_in}
-use Rattle.migration_host.specs.Reports.{report_of, refused_text, usage_text, read_fault_text}
-use Rattle.migration_host.specs.Endings.{Taking, Giving, Replays, ReadAndReplayed, TellsUsage, TellsReadFault, ComesTo, GivesAll, GivesFront, Ends, status_number, is_replay}
-use Rattle.migration_host.specs.Laws.{AlteredPlansAreTables}
-use Rattle.migration_host.specs.Promises.{PrintsReport, PrintsRefusal, PrintsUsage, IsUsageOrLost}
+use Rattle.migration_host.specs.declared.turns.Turn.{Turn}
+use Rattle.migration_host.specs.Outcomes.{IsUntaken, IsRun, IsReport, IsSchema, IsRefusal, Refuses, PlanChecks, Comes, PlanComes, status_of}
+use Rattle.migration_host.specs.Endings.{Taking, Giving, ReadsAndComes, TellsUsage, TellsReadFault, TellsFaulty, TellsCommand, ComesTo, GivesAll, GivesFront, GivesNone, Gives, status_number, command}
+use Rattle.migration_host.specs.Promises.{IsSerial, PrintsReport, PrintsSchema, PrintsRevert, PrintsUnfinished, PrintsRefusal, PrintsUsage, PrintsReadFault, PrintsFront, PrintsNone, IsUsageOrLost, Ends, done, checked, usage, refused, reverted, read_fault, write_fault, no_memory, turns_spent}
 
--- the status that the bytes come to is one of two
-done_from_bytes : (source : Taking) (text : List ℕ) (b : Bool) → ComesTo b source Done text → ReadAndReplayed source Done text
-done_from_bytes source text false comes = absurd (cc (comes.status_is))
-done_from_bytes source text true (inl read) = read
-done_from_bytes source text true (inr fault) = absurd (cc (fault.status_is))
+-- ---- journals of runs that are over
 
-refused_from_bytes : (source : Taking) (text : List ℕ) (b : Bool) → ComesTo b source Refused text → ReadAndReplayed source Refused text
-refused_from_bytes source text false comes = absurd (cc (comes.status_is))
-refused_from_bytes source text true (inl read) = read
-refused_from_bytes source text true (inr fault) = absurd (cc (fault.status_is))
+full_or_ended : (tool : Tool) (clients full : Bool) → (tool_is_over tool && clients || full) ≡ true → (if tool_is_over tool && clients then tool_verdict tool else verdicts.Unfinished) ≡ verdicts.Unfinished → full ≡ true
+full_or_ended Creating clients full over is = over
+full_or_ended Reaching clients full over is = over
+full_or_ended (Choosing low top) clients full over is = over
+full_or_ended (Spanning low top high) clients full over is = over
+full_or_ended (Copying keys copied end top) clients full over is = over
+full_or_ended Renaming clients full over is = over
+full_or_ended Done true full over is = absurd (cc)
+full_or_ended Done false full over is = over
+full_or_ended (Reverting cause) clients full over is = over
+full_or_ended (Reverted cause) true full over is = absurd (cc)
+full_or_ended (Reverted cause) false full over is = over
 
--- bytes never come to the usage
-no_usage : (r : Result (Schema × List (List Value)) Refusal) (text : List ℕ) → Replays r Usage text → ⊥
-no_usage (Ok table) text comes = cc (comes.0)
-no_usage (Err refusal) text comes = cc (comes.0)
+at_most : (a b : ℕ) → nat_le a b ≡ true → a ≤ b
+at_most a b is = grind (arith, nat_tests)
 
-is_usage : (source : Taking) (text : List ℕ) (b : Bool) → ComesTo b source Usage text → (b ≡ false) × TellsUsage source Usage text
-is_usage source text false comes = (refl, comes)
-is_usage source text true (inl read) = absurd (no_usage (replays read.bytes) text read.comes)
-is_usage source text true (inr fault) = absurd (cc (fault.status_is))
+-- an unfinished run that is over has a full journal
+is_full : (plan : PlanData) (journal : List Entry) → is_over plan journal ≡ true → verdict_of plan journal ≡ verdicts.Unfinished → turn_limit ≤ length journal
+unfolding is_over verdict_of has_ended
+is_full plan journal over is = at_most turn_limit (length journal) (full_or_ended (progress plan journal).tool (clients_over plan journal) (nat_le turn_limit (length journal)) over is)
 
-no_read_fault : (r : Result (Schema × List (List Value)) Refusal) (text : List ℕ) → Replays r ReadFault text → ⊥
-no_read_fault (Ok table) text comes = cc (comes.0)
-no_read_fault (Err refusal) text comes = cc (comes.0)
+-- a run that is over took turns
+is_taken : (plan : PlanData) (journal : List Entry) → is_over plan journal ≡ true → (length journal == 0) ≡ false
+unfolding is_over has_ended progress
+is_taken plan [] over = absurd (cc)
+is_taken plan (entry ∷ journal) over = grind (arith, nat_tests)
 
-is_read_fault : (source : Taking) (text : List ℕ) (b : Bool) → ComesTo b source ReadFault text → TellsReadFault source ReadFault text
-is_read_fault source text false comes = absurd (cc (comes.status_is))
-is_read_fault source text true (inl read) = absurd (no_read_fault (replays read.bytes) text read.comes)
-is_read_fault source text true (inr fault) = fault
+-- ---- the cases
 
--- which plan and table bytes that are done have
-record Accepted (r : Result Plan Refusal) (text : List ℕ) : Type 0 where
-  plan : Plan
-  accepted : r ≡ Ok plan
-  table : Schema × List (List Value)
-  altered : altered_table plan.schema plan.rows plan.alter ≡ Some table
-  text_is : text ≡ report_of table.0 table.1
+abbrev serial_of : (told : Command) (source : Taking) (turns : List Turn) (journal : List Entry) (printed : Option Printed) (read : ReadsAndComes told source printed turns journal) (plan : PlanData) → reads read.bytes ≡ Ok plan → IsRun plan turns journal → IsSerial source turns journal
+serial_of told source turns journal printed read plan accepted run = record {
+  bytes = read.bytes;
+  whole = read.whole;
+  plan = plan;
+  accepted = accepted;
+  replay = run.replay;
+  turns_are = run.turns_are;
+}
 
-accepted_table : (plan : Plan) (o : Option (Schema × List (List Value))) (text : List ℕ) → altered_table plan.schema plan.rows plan.alter ≡ o → Replays (table_in o) Done text → Accepted (Ok plan) text
-accepted_table plan None text is comes = absurd (cc (comes.0))
-accepted_table plan (Some table) text is comes = record { plan = plan; accepted = refl; table = table; altered = is; text_is = comes.1 }
+abbrev report_of : VerdictsTellTheAlter → (source : Taking) (sink : Giving) (printed : Printed) (turns : List Turn) (journal : List Entry) (read : ReadsAndComes Replay source (Some printed) turns journal) (plan : PlanData) (verdict : Verdict) → reads read.bytes ≡ Ok plan → IsRun plan turns journal → IsReport plan journal printed → verdict_of plan journal ≡ verdict
+    → Appends sink.before sink.after printed.text → PrintsReport source sink turns journal verdict
+report_of tell source sink printed turns journal read plan verdict accepted run told is given = record {
+  serial = serial_of Replay source turns journal (Some printed) read plan accepted run;
+  taken = is_taken plan journal told.over;
+  over = told.over;
+  verdict_is = is;
+  tells = tell plan journal run.replay.follows;
+  given = subst (λ (text : List ℕ). Appends sink.before sink.after text) (told.text_is ∙ ap (λ (v : Verdict). report plan journal v (state_at plan journal).tables) is) given;
+}
 
-accepted_plan : (r : Result Plan Refusal) (text : List ℕ) → Replays (altered_of r) Done text → Accepted r text
-accepted_plan (Err refusal) text comes = absurd (cc (comes.0))
-accepted_plan (Ok plan) text comes = accepted_table plan (altered_table plan.schema plan.rows plan.alter) text refl comes
-
--- which refusal bytes that are refused have
-record Refuses (r : Result (Schema × List (List Value)) Refusal) (text : List ℕ) : Type 0 where
-  refusal : Refusal
-  refused : r ≡ Err refusal
-  text_is : text ≡ refused_text refusal
-
-refuses : (r : Result (Schema × List (List Value)) Refusal) (text : List ℕ) → Replays r Refused text → Refuses r text
-refuses (Ok table) text comes = absurd (cc (comes.0))
-refuses (Err refusal) text comes = record { refusal = refusal; refused = refl; text_is = comes.1 }
-
-report_given : AlteredPlansAreTables → (words : List (List ℕ)) (source : Taking) (sink : Giving) → GivesAll words source sink Done → PrintsReport source.before source.after sink.before sink.after
-report_given tables words source sink ends =
-    let read : ReadAndReplayed source Done ends.text = done_from_bytes source ends.text (is_replay words) ends.comes in
-    let found : Accepted (reads read.bytes) ends.text = accepted_plan (reads read.bytes) ends.text read.comes in
-    record {
-      bytes = read.bytes;
-      whole = read.whole;
-      plan = found.plan;
-      accepted = found.accepted;
-      table = found.table;
-      altered = found.altered;
-      is_table = tables read.bytes found.plan found.table found.accepted found.altered;
-      given = subst (λ text. Appends sink.before sink.after text) found.text_is ends.given;
-    }
-
-refusal_given : (words : List (List ℕ)) (source : Taking) (sink : Giving) → GivesAll words source sink Refused → PrintsRefusal source.before source.after sink.before sink.after
-refusal_given words source sink ends =
-    let read : ReadAndReplayed source Refused ends.text = refused_from_bytes source ends.text (is_replay words) ends.comes in
-    let found : Refuses (replays read.bytes) ends.text = refuses (replays read.bytes) ends.text read.comes in
-    record {
-      bytes = read.bytes;
-      whole = read.whole;
-      refusal = found.refusal;
-      refused = found.refused;
-      given = subst (λ text. Appends sink.before sink.after text) found.text_is ends.given;
-    }
-
-usage_given : (words : List (List ℕ)) (source : Taking) (sink : Giving) → GivesAll words source sink Usage → (is_replay words ≡ false) × PrintsUsage source.before source.after sink.before sink.after
-usage_given words source sink ends =
-    let told = is_usage source ends.text (is_replay words) ends.comes in (
-      told.0,
-      record {
-        takes_none = told.1.takes_none;
-        given = subst (λ text. Appends sink.before sink.after text) told.1.text_is ends.given;
-      },
+of_verdict : VerdictsTellTheAlter → RevertsNameTurns → (words : List (List ℕ)) (source : Taking) (sink : Giving) (printed : Printed) (turns : List Turn) (journal : List Entry) (number : ℕ) (read : ReadsAndComes Replay source (Some printed) turns journal) (plan : PlanData) (verdict : Verdict)
+    → command words ≡ Some Replay → number ≡ status_number printed.status → Appends sink.before sink.after printed.text → reads read.bytes ≡ Ok plan → IsRun plan turns journal → IsReport plan journal printed → verdict_of plan journal ≡ verdict → Ends words source sink turns journal number
+of_verdict tell name words source sink printed turns journal number read plan verdicts.Done is number_is given accepted run told verdict_is =
+    done (number_is ∙ ap status_number (told.status_is ∙ ap status_of verdict_is)) is (report_of tell source sink printed turns journal read plan verdicts.Done accepted run told verdict_is given)
+of_verdict tell name words source sink printed turns journal number read plan (verdicts.Reverted cause) is number_is given accepted run told verdict_is =
+    reverted (number_is ∙ ap status_number (told.status_is ∙ ap status_of verdict_is)) is (record {
+      cause = cause;
+      prints = report_of tell source sink printed turns journal read plan (verdicts.Reverted cause) accepted run told verdict_is given;
+      names = name plan journal cause run.replay.follows verdict_is;
+    })
+of_verdict tell name words source sink printed turns journal number read plan verdicts.Unfinished is number_is given accepted run told verdict_is =
+    turns_spent (number_is ∙ ap status_number (told.status_is ∙ ap status_of verdict_is)) is (
+      report_of tell source sink printed turns journal read plan verdicts.Unfinished accepted run told verdict_is given,
+      is_full plan journal told.over verdict_is,
     )
 
-fault_given : (words : List (List ℕ)) (source : Taking) (sink : Giving) → GivesAll words source sink ReadFault → Rose source.faults_before source.faults_after × Appends sink.before sink.after read_fault_text
-fault_given words source sink ends =
-    let told = is_read_fault source ends.text (is_replay words) ends.comes in
-    (told.rose, subst (λ text. Appends sink.before sink.after text) told.text_is ends.given)
+some_told : (words : List (List ℕ)) (told : Command) → command words ≡ Some told → IsSome (command words)
+some_told words told is = rw is refl
+
+refusal_of : (words : List (List ℕ)) (told : Command) (source : Taking) (sink : Giving) (printed : Printed) (turns : List Turn) (journal : List Entry) (number : ℕ) (read : ReadsAndComes told source (Some printed) turns journal) (refusal : Refusal)
+    → command words ≡ Some told → number ≡ status_number printed.status → Appends sink.before sink.after printed.text → reads read.bytes ≡ Err refusal → IsUntaken turns journal × IsRefusal refusal printed → Ends words source sink turns journal number
+refusal_of words told source sink printed turns journal number read refusal is number_is given said comes =
+    refused (number_is ∙ ap status_number comes.1.status_is) (some_told words told is) (record {
+      bytes = read.bytes;
+      whole = read.whole;
+      refusal = refusal;
+      refused = said;
+      given = subst (λ (text : List ℕ). Appends sink.before sink.after text) comes.1.text_is given;
+      untaken = comes.0;
+    })
+
+of_bytes : VerdictsTellTheAlter → RevertsNameTurns → (words : List (List ℕ)) (told : Command) (source : Taking) (sink : Giving) (printed : Printed) (turns : List Turn) (journal : List Entry) (number : ℕ) (read : ReadsAndComes told source (Some printed) turns journal) (said : Result PlanData Refusal)
+    → command words ≡ Some told → number ≡ status_number printed.status → Appends sink.before sink.after printed.text → reads read.bytes ≡ said → Comes told said (Some printed) turns journal → Ends words source sink turns journal number
+of_bytes tell name words Replay source sink printed turns journal number read (Ok plan) is number_is given said comes =
+    of_verdict tell name words source sink printed turns journal number read plan (verdict_of plan journal) is number_is given said comes.0 comes.1 refl
+of_bytes tell name words Check source sink printed turns journal number read (Ok plan) is number_is given said comes =
+    checked (number_is ∙ ap status_number comes.1.status_is) is (record {
+      bytes = read.bytes;
+      whole = read.whole;
+      plan = plan;
+      accepted = said;
+      schema = comes.1.shows.schema;
+      alters = comes.1.shows.alters;
+      given = subst (λ (text : List ℕ). Appends sink.before sink.after text) comes.1.shows.text_is given;
+      untaken = comes.0;
+    })
+of_bytes tell name words Replay source sink printed turns journal number read (Err refusal) is number_is given said comes = refusal_of words Replay source sink printed turns journal number read refusal is number_is given said comes
+of_bytes tell name words Check source sink printed turns journal number read (Err refusal) is number_is given said comes = refusal_of words Check source sink printed turns journal number read refusal is number_is given said comes
+
+given_whole : VerdictsTellTheAlter → RevertsNameTurns → (words : List (List ℕ)) (source : Taking) (sink : Giving) (printed : Printed) (turns : List Turn) (journal : List Entry) (number : ℕ) (told : Option Command)
+    → command words ≡ told → number ≡ status_number printed.status → Appends sink.before sink.after printed.text → ComesTo told source (Some printed) turns journal → Ends words source sink turns journal number
+given_whole tell name words source sink printed turns journal number None is number_is given comes =
+    usage (number_is ∙ ap status_number comes.status_is) is (record {
+      takes_none = comes.takes_none;
+      given = subst (λ (text : List ℕ). Appends sink.before sink.after text) comes.text_is given;
+      untaken = comes.untaken;
+    })
+given_whole tell name words source sink printed turns journal number (Some told) is number_is given (inl read) =
+    of_bytes tell name words told source sink printed turns journal number read (reads read.bytes) is number_is given refl read.comes
+given_whole tell name words source sink printed turns journal number (Some told) is number_is given (inr fault) =
+    read_fault (number_is ∙ ap status_number fault.status_is) (some_told words told is) (record {
+      rose = fault.rose;
+      given = subst (λ (text : List ℕ). Appends sink.before sink.after text) fault.text_is given;
+      untaken = fault.untaken;
+    })
+
+-- What the words and the source come to, and what was given of it, is one of the endings.
+pub ends_by : VerdictsTellTheAlter → RevertsNameTurns → (words : List (List ℕ)) (source : Taking) (sink : Giving) (printed : Option Printed) (turns : List Turn) (journal : List Entry) (status : Status)
+    → ComesTo (command words) source printed turns journal → Gives printed sink status → Ends words source sink turns journal (status_number status)
+ends_by tell name words source sink None turns journal status comes gives = no_memory (ap status_number gives.status_is) (record { comes = comes; given = gives.given })
+ends_by tell name words source sink (Some printed) turns journal status comes (inl all) = given_whole tell name words source sink printed turns journal (status_number status) (command words) refl (ap status_number all.status_is) all.given comes
+ends_by tell name words source sink (Some printed) turns journal status comes (inr front) =
+    write_fault (ap status_number front.status_is) (record { printed = printed; comes = comes; given = front.given; rose = front.rose })
+
+-- ---- what stands under each number
+
+none_taken : {A : Type 0} (turns : List Turn) (journal : List Entry) → IsUntaken turns journal → (length journal == 0) ≡ false → A
+none_taken turns journal none some = absurd (cc (sym (ap (λ (entries : List Entry). length entries == 0) none.no_journal) ∙ some))
+
+plan_ran : (told : Command) (source : Taking) (printed : Option Printed) (turns : List Turn) (journal : List Entry) (read : ReadsAndComes told source printed turns journal) (said : Result PlanData Refusal) (shown : Option Printed) → reads read.bytes ≡ said → Comes told said shown turns journal → (length journal == 0) ≡ false
+    → IsSerial source turns journal
+plan_ran Replay source printed turns journal read (Ok plan) None said (inl none) some = none_taken turns journal none some
+plan_ran Replay source printed turns journal read (Ok plan) None said (inr run) some = serial_of Replay source turns journal printed read plan said run
+plan_ran Replay source printed turns journal read (Ok plan) (Some shown) said comes some = serial_of Replay source turns journal printed read plan said comes.0
+plan_ran Check source printed turns journal read (Ok plan) shown said comes some = none_taken turns journal comes.0 some
+plan_ran Replay source printed turns journal read (Err refusal) shown said comes some = none_taken turns journal comes.0 some
+plan_ran Check source printed turns journal read (Err refusal) shown said comes some = none_taken turns journal comes.0 some
+
+ran : (told : Command) (source : Taking) (printed : Option Printed) (turns : List Turn) (journal : List Entry) → ReadsAndComes told source printed turns journal → (length journal == 0) ≡ false → IsSerial source turns journal
+ran told source printed turns journal read some = plan_ran told source printed turns journal read (reads read.bytes) printed refl read.comes some
+
+came : (source : Taking) (printed : Option Printed) (turns : List Turn) (journal : List Entry) (told : Option Command) → ComesTo told source printed turns journal → (length journal == 0) ≡ false → IsSerial source turns journal
+came source None turns journal None none some = none_taken turns journal none some
+came source (Some printed) turns journal None faulty some = none_taken turns journal faulty.untaken some
+came source None turns journal (Some told) (inl none) some = none_taken turns journal none some
+came source None turns journal (Some told) (inr read) some = ran told source None turns journal read some
+came source (Some printed) turns journal (Some told) (inl read) some = ran told source (Some printed) turns journal read some
+came source (Some printed) turns journal (Some told) (inr fault) some = none_taken turns journal fault.untaken some
+
+-- where turns were taken, their journal is that of a replay of the plan
+pub serial : (words : List (List ℕ)) (source : Taking) (sink : Giving) (turns : List Turn) (journal : List Entry) (number : ℕ) → Ends words source sink turns journal number → (length journal == 0) ≡ false → IsSerial source turns journal
+serial words source sink turns journal number (done n is prints) some = prints.serial
+serial words source sink turns journal number (checked n is prints) some = none_taken turns journal prints.untaken some
+serial words source sink turns journal number (usage n is prints) some = none_taken turns journal prints.untaken some
+serial words source sink turns journal number (refused n is prints) some = none_taken turns journal prints.untaken some
+serial words source sink turns journal number (reverted n is prints) some = prints.prints.serial
+serial words source sink turns journal number (read_fault n is prints) some = none_taken turns journal prints.untaken some
+serial words source sink turns journal number (write_fault n prints) some = came source (Some prints.printed) turns journal (command words) prints.comes some
+serial words source sink turns journal number (no_memory n prints) some = came source None turns journal (command words) prints.comes some
+serial words source sink turns journal number (turns_spent n is prints) some = prints.0.serial
 
 -- status 0
-pub done : AlteredPlansAreTables → (words : List (List ℕ)) (source : Taking) (sink : Giving) (status : Status) → Ends words source sink status → status_number status ≡ 0 → PrintsReport source.before source.after sink.before sink.after
-done tables words source sink Done ends is = report_given tables words source sink ends
-done tables words source sink Usage ends is = absurd (omega arith)
-done tables words source sink Refused ends is = absurd (omega arith)
-done tables words source sink ReadFault ends is = absurd (omega arith)
-done tables words source sink WriteFault ends is = absurd (omega arith)
-done tables words source sink NoMemory ends is = absurd (omega arith)
+pub under_0 : (words : List (List ℕ)) (source : Taking) (sink : Giving) (turns : List Turn) (journal : List Entry) (number : ℕ) → Ends words source sink turns journal number → number ≡ 0 → command words ≡ Some Replay → PrintsReport source sink turns journal verdicts.Done
+under_0 words source sink turns journal number (done n is prints) is_number told = prints
+under_0 words source sink turns journal number (checked n is prints) is_number told = absurd (cc)
+under_0 words source sink turns journal number (usage n is prints) is_number told = absurd (omega arith)
+under_0 words source sink turns journal number (refused n is prints) is_number told = absurd (omega arith)
+under_0 words source sink turns journal number (reverted n is prints) is_number told = absurd (omega arith)
+under_0 words source sink turns journal number (read_fault n is prints) is_number told = absurd (omega arith)
+under_0 words source sink turns journal number (write_fault n prints) is_number told = absurd (omega arith)
+under_0 words source sink turns journal number (no_memory n prints) is_number told = absurd (omega arith)
+under_0 words source sink turns journal number (turns_spent n is prints) is_number told = absurd (omega arith)
+
+-- status 0
+pub checked_under_0 : (words : List (List ℕ)) (source : Taking) (sink : Giving) (turns : List Turn) (journal : List Entry) (number : ℕ) → Ends words source sink turns journal number → number ≡ 0 → command words ≡ Some Check → PrintsSchema source sink turns journal
+checked_under_0 words source sink turns journal number (done n is prints) is_number told = absurd (cc)
+checked_under_0 words source sink turns journal number (checked n is prints) is_number told = prints
+checked_under_0 words source sink turns journal number (usage n is prints) is_number told = absurd (omega arith)
+checked_under_0 words source sink turns journal number (refused n is prints) is_number told = absurd (omega arith)
+checked_under_0 words source sink turns journal number (reverted n is prints) is_number told = absurd (omega arith)
+checked_under_0 words source sink turns journal number (read_fault n is prints) is_number told = absurd (omega arith)
+checked_under_0 words source sink turns journal number (write_fault n prints) is_number told = absurd (omega arith)
+checked_under_0 words source sink turns journal number (no_memory n prints) is_number told = absurd (omega arith)
+checked_under_0 words source sink turns journal number (turns_spent n is prints) is_number told = absurd (omega arith)
 
 -- status 1
-pub usage : (words : List (List ℕ)) (source : Taking) (sink : Giving) (status : Status) → Ends words source sink status → status_number status ≡ 1
-    → (is_replay words ≡ false) × PrintsUsage source.before source.after sink.before sink.after
-usage words source sink Done ends is = absurd (omega arith)
-usage words source sink Usage ends is = usage_given words source sink ends
-usage words source sink Refused ends is = absurd (omega arith)
-usage words source sink ReadFault ends is = absurd (omega arith)
-usage words source sink WriteFault ends is = absurd (omega arith)
-usage words source sink NoMemory ends is = absurd (omega arith)
+pub under_1 : (words : List (List ℕ)) (source : Taking) (sink : Giving) (turns : List Turn) (journal : List Entry) (number : ℕ) → Ends words source sink turns journal number → number ≡ 1 → (command words ≡ None) × PrintsUsage source sink turns journal
+under_1 words source sink turns journal number (done n is prints) is_number = absurd (omega arith)
+under_1 words source sink turns journal number (checked n is prints) is_number = absurd (omega arith)
+under_1 words source sink turns journal number (usage n is prints) is_number = (is, prints)
+under_1 words source sink turns journal number (refused n is prints) is_number = absurd (omega arith)
+under_1 words source sink turns journal number (reverted n is prints) is_number = absurd (omega arith)
+under_1 words source sink turns journal number (read_fault n is prints) is_number = absurd (omega arith)
+under_1 words source sink turns journal number (write_fault n prints) is_number = absurd (omega arith)
+under_1 words source sink turns journal number (no_memory n prints) is_number = absurd (omega arith)
+under_1 words source sink turns journal number (turns_spent n is prints) is_number = absurd (omega arith)
 
 -- status 2
-pub refused : (words : List (List ℕ)) (source : Taking) (sink : Giving) (status : Status) → Ends words source sink status → status_number status ≡ 2 → PrintsRefusal source.before source.after sink.before sink.after
-refused words source sink Done ends is = absurd (omega arith)
-refused words source sink Usage ends is = absurd (omega arith)
-refused words source sink Refused ends is = refusal_given words source sink ends
-refused words source sink ReadFault ends is = absurd (omega arith)
-refused words source sink WriteFault ends is = absurd (omega arith)
-refused words source sink NoMemory ends is = absurd (omega arith)
+pub under_2 : (words : List (List ℕ)) (source : Taking) (sink : Giving) (turns : List Turn) (journal : List Entry) (number : ℕ) → Ends words source sink turns journal number → number ≡ 2 → PrintsRefusal source sink turns journal
+under_2 words source sink turns journal number (done n is prints) is_number = absurd (omega arith)
+under_2 words source sink turns journal number (checked n is prints) is_number = absurd (omega arith)
+under_2 words source sink turns journal number (usage n is prints) is_number = absurd (omega arith)
+under_2 words source sink turns journal number (refused n is prints) is_number = prints
+under_2 words source sink turns journal number (reverted n is prints) is_number = absurd (omega arith)
+under_2 words source sink turns journal number (read_fault n is prints) is_number = absurd (omega arith)
+under_2 words source sink turns journal number (write_fault n prints) is_number = absurd (omega arith)
+under_2 words source sink turns journal number (no_memory n prints) is_number = absurd (omega arith)
+under_2 words source sink turns journal number (turns_spent n is prints) is_number = absurd (omega arith)
+
+-- status 3
+pub under_3 : (words : List (List ℕ)) (source : Taking) (sink : Giving) (turns : List Turn) (journal : List Entry) (number : ℕ) → Ends words source sink turns journal number → number ≡ 3 → PrintsRevert source sink turns journal
+under_3 words source sink turns journal number (done n is prints) is_number = absurd (omega arith)
+under_3 words source sink turns journal number (checked n is prints) is_number = absurd (omega arith)
+under_3 words source sink turns journal number (usage n is prints) is_number = absurd (omega arith)
+under_3 words source sink turns journal number (refused n is prints) is_number = absurd (omega arith)
+under_3 words source sink turns journal number (reverted n is prints) is_number = prints
+under_3 words source sink turns journal number (read_fault n is prints) is_number = absurd (omega arith)
+under_3 words source sink turns journal number (write_fault n prints) is_number = absurd (omega arith)
+under_3 words source sink turns journal number (no_memory n prints) is_number = absurd (omega arith)
+under_3 words source sink turns journal number (turns_spent n is prints) is_number = absurd (omega arith)
 
 -- status 4
-pub read_fault : (words : List (List ℕ)) (source : Taking) (sink : Giving) (status : Status) → Ends words source sink status → status_number status ≡ 4
-    → Rose source.faults_before source.faults_after × Appends sink.before sink.after read_fault_text
-read_fault words source sink Done ends is = absurd (omega arith)
-read_fault words source sink Usage ends is = absurd (omega arith)
-read_fault words source sink Refused ends is = absurd (omega arith)
-read_fault words source sink ReadFault ends is = fault_given words source sink ends
-read_fault words source sink WriteFault ends is = absurd (omega arith)
-read_fault words source sink NoMemory ends is = absurd (omega arith)
+pub under_4 : (words : List (List ℕ)) (source : Taking) (sink : Giving) (turns : List Turn) (journal : List Entry) (number : ℕ) → Ends words source sink turns journal number → number ≡ 4 → PrintsReadFault source sink turns journal
+under_4 words source sink turns journal number (done n is prints) is_number = absurd (omega arith)
+under_4 words source sink turns journal number (checked n is prints) is_number = absurd (omega arith)
+under_4 words source sink turns journal number (usage n is prints) is_number = absurd (omega arith)
+under_4 words source sink turns journal number (refused n is prints) is_number = absurd (omega arith)
+under_4 words source sink turns journal number (reverted n is prints) is_number = absurd (omega arith)
+under_4 words source sink turns journal number (read_fault n is prints) is_number = prints
+under_4 words source sink turns journal number (write_fault n prints) is_number = absurd (omega arith)
+under_4 words source sink turns journal number (no_memory n prints) is_number = absurd (omega arith)
+under_4 words source sink turns journal number (turns_spent n is prints) is_number = absurd (omega arith)
 
 -- status 5
-pub write_fault : (words : List (List ℕ)) (source : Taking) (sink : Giving) (status : Status) → Ends words source sink status → status_number status ≡ 5 → GivesFront words source sink
-write_fault words source sink Done ends is = absurd (omega arith)
-write_fault words source sink Usage ends is = absurd (omega arith)
-write_fault words source sink Refused ends is = absurd (omega arith)
-write_fault words source sink ReadFault ends is = absurd (omega arith)
-write_fault words source sink WriteFault ends is = ends
-write_fault words source sink NoMemory ends is = absurd (omega arith)
+pub under_5 : (words : List (List ℕ)) (source : Taking) (sink : Giving) (turns : List Turn) (journal : List Entry) (number : ℕ) → Ends words source sink turns journal number → number ≡ 5 → PrintsFront words source sink turns journal
+under_5 words source sink turns journal number (done n is prints) is_number = absurd (omega arith)
+under_5 words source sink turns journal number (checked n is prints) is_number = absurd (omega arith)
+under_5 words source sink turns journal number (usage n is prints) is_number = absurd (omega arith)
+under_5 words source sink turns journal number (refused n is prints) is_number = absurd (omega arith)
+under_5 words source sink turns journal number (reverted n is prints) is_number = absurd (omega arith)
+under_5 words source sink turns journal number (read_fault n is prints) is_number = absurd (omega arith)
+under_5 words source sink turns journal number (write_fault n prints) is_number = prints
+under_5 words source sink turns journal number (no_memory n prints) is_number = absurd (omega arith)
+under_5 words source sink turns journal number (turns_spent n is prints) is_number = absurd (omega arith)
 
 -- status 6
-pub no_memory : (words : List (List ℕ)) (source : Taking) (sink : Giving) (status : Status) → Ends words source sink status → status_number status ≡ 6 → Appends sink.before sink.after []
-no_memory words source sink Done ends is = absurd (omega arith)
-no_memory words source sink Usage ends is = absurd (omega arith)
-no_memory words source sink Refused ends is = absurd (omega arith)
-no_memory words source sink ReadFault ends is = absurd (omega arith)
-no_memory words source sink WriteFault ends is = absurd (omega arith)
-no_memory words source sink NoMemory ends is = ends
+pub under_6 : (words : List (List ℕ)) (source : Taking) (sink : Giving) (turns : List Turn) (journal : List Entry) (number : ℕ) → Ends words source sink turns journal number → number ≡ 6 → PrintsNone words source sink turns journal
+under_6 words source sink turns journal number (done n is prints) is_number = absurd (omega arith)
+under_6 words source sink turns journal number (checked n is prints) is_number = absurd (omega arith)
+under_6 words source sink turns journal number (usage n is prints) is_number = absurd (omega arith)
+under_6 words source sink turns journal number (refused n is prints) is_number = absurd (omega arith)
+under_6 words source sink turns journal number (reverted n is prints) is_number = absurd (omega arith)
+under_6 words source sink turns journal number (read_fault n is prints) is_number = absurd (omega arith)
+under_6 words source sink turns journal number (write_fault n prints) is_number = absurd (omega arith)
+under_6 words source sink turns journal number (no_memory n prints) is_number = prints
+under_6 words source sink turns journal number (turns_spent n is prints) is_number = absurd (omega arith)
 
-told_usage : (source : Taking) (status : Status) (text : List ℕ) (b : Bool) → ComesTo b source status text → b ≡ false → status ≡ Usage
-told_usage source status text false comes faulty = comes.status_is
-told_usage source status text true comes faulty = absurd (cc)
+-- status 7
+pub under_7 : (words : List (List ℕ)) (source : Taking) (sink : Giving) (turns : List Turn) (journal : List Entry) (number : ℕ) → Ends words source sink turns journal number → number ≡ 7 → PrintsUnfinished source sink turns journal
+under_7 words source sink turns journal number (done n is prints) is_number = absurd (omega arith)
+under_7 words source sink turns journal number (checked n is prints) is_number = absurd (omega arith)
+under_7 words source sink turns journal number (usage n is prints) is_number = absurd (omega arith)
+under_7 words source sink turns journal number (refused n is prints) is_number = absurd (omega arith)
+under_7 words source sink turns journal number (reverted n is prints) is_number = absurd (omega arith)
+under_7 words source sink turns journal number (read_fault n is prints) is_number = absurd (omega arith)
+under_7 words source sink turns journal number (write_fault n prints) is_number = absurd (omega arith)
+under_7 words source sink turns journal number (no_memory n prints) is_number = absurd (omega arith)
+under_7 words source sink turns journal number (turns_spent n is prints) is_number = prints
+
+none_is_some : (told : Option Command) → IsSome told → told ≡ None → ⊥
+none_is_some None some is = absurd (cc)
+none_is_some (Some told) some is = cc
 
 -- faulty words never come to another status than the usage's
-pub only_usage : (words : List (List ℕ)) (source : Taking) (sink : Giving) (status : Status) → Ends words source sink status → is_replay words ≡ false → IsUsageOrLost (status_number status)
-only_usage words source sink Done ends faulty = absurd (cc (told_usage source Done ends.text (is_replay words) ends.comes faulty))
-only_usage words source sink Usage ends faulty = inl refl
-only_usage words source sink Refused ends faulty = absurd (cc (told_usage source Refused ends.text (is_replay words) ends.comes faulty))
-only_usage words source sink ReadFault ends faulty = absurd (cc (told_usage source ReadFault ends.text (is_replay words) ends.comes faulty))
-only_usage words source sink WriteFault ends faulty = inr (inl refl)
-only_usage words source sink NoMemory ends faulty = inr (inr refl)
+pub only_usage : (words : List (List ℕ)) (source : Taking) (sink : Giving) (turns : List Turn) (journal : List Entry) (number : ℕ) → Ends words source sink turns journal number → command words ≡ None → IsUsageOrLost number
+only_usage words source sink turns journal number (done n is prints) faulty = absurd (cc)
+only_usage words source sink turns journal number (checked n is prints) faulty = absurd (cc)
+only_usage words source sink turns journal number (usage n is prints) faulty = inl n
+only_usage words source sink turns journal number (refused n is prints) faulty = absurd (none_is_some (command words) is faulty)
+only_usage words source sink turns journal number (reverted n is prints) faulty = absurd (cc)
+only_usage words source sink turns journal number (read_fault n is prints) faulty = absurd (none_is_some (command words) is faulty)
+only_usage words source sink turns journal number (write_fault n prints) faulty = inr (inl n)
+only_usage words source sink turns journal number (no_memory n prints) faulty = inr (inr n)
+only_usage words source sink turns journal number (turns_spent n is prints) faulty = absurd (cc)

@@ -1,31 +1,41 @@
 -- How a call of the program ends: its status, what it took from the source and what it gave to the sink.
-use Rattle.std.specs.Prelude.{◌≡◌, codes, ℕ, Bool, true, false, List, [], ◌∷◌, Option, Result, Ok, Err, ◌⊎◌}
+use Rattle.std.specs.Prelude.{◌≡◌, codes, ℕ, if◌then◌else◌, List, [], ◌∷◌, Option, Some, None, ◌⊎◌}
 use Rattle.std.specs.Str.{bytes_eq}
 use Rattle.std.specs.Io.KnownBytes.{Appends, Consumes}
-use Rattle.gho_values.specs.declared.value.Value.{Value}
-use Rattle.gho_schema.specs.declared.schema.Schema.{Schema}
-use Rattle.migration_host.specs.declared.plan.fault.Refusal.{Refusal}
+use Rattle.gho_edges.specs.Edges.{Rose}
+use Rattle.gho_edges.specs.Whole.{ReadsWhole, GivesPart}
+use Rattle.server_words.specs.declared.entry.Entry.{Entry}
+use Rattle.plan_text.specs.declared.TheConstants.{PLAN_LIMIT}
+use Rattle.plan_text.specs.Plans.{reads}
+use Rattle.migration_host.specs.declared.command.Command.{Command}
+use Rattle.migration_host.specs.declared.command.Command.TheVariants.{Check, Replay}
+use Rattle.migration_host.specs.declared.outcome.Printed.{Printed}
 use Rattle.migration_host.specs.declared.status.Status.{Status}
-use Rattle.migration_host.specs.declared.status.Status.TheVariants.{Done, Usage, Refused, ReadFault, WriteFault, NoMemory}
-use Rattle.migration_host.specs.Edges.{Rose}
-use Rattle.migration_host.specs.Whole.{ReadsWhole, GivesPart}
-use Rattle.migration_host.specs.Plans.{replays}
-use Rattle.migration_host.specs.Reports.{report_of, refused_text, usage_text, read_fault_text}
+use Rattle.migration_host.specs.declared.status.Status.TheVariants.{Done, Usage, Refused, Reverted, ReadFault, WriteFault, NoMemory, TurnsSpent}
+use Rattle.migration_host.specs.declared.turns.Turn.{Turn}
+use Rattle.migration_host.specs.Outcomes.{IsUntaken, Comes}
+use Rattle.migration_host.specs.Texts.{usage_text, read_fault_text}
 
 -- the number of each status. This project's rule.
 abbrev pub status_number : Status → ℕ
 status_number Done = 0
 status_number Usage = 1
 status_number Refused = 2
+status_number Reverted = 3
 status_number ReadFault = 4
 status_number WriteFault = 5
 status_number NoMemory = 6
+status_number TurnsSpent = 7
 
--- whether the words are the one command that is built: `replay`
-abbrev pub is_replay : List (List ℕ) → Bool
-is_replay [] = false
-is_replay (word ∷ []) = bytes_eq word (codes "replay")
-is_replay (word ∷ next ∷ words) = false
+-- the command that a word is, if it is one
+abbrev pub command_of : List ℕ → Option Command
+command_of word = if bytes_eq word (codes "check") then Some Check else (if bytes_eq word (codes "replay") then Some Replay else None)
+
+-- *The command* of a line: one word alone. This project's rule.
+abbrev pub command : List (List ℕ) → Option Command
+command [] = None
+command (word ∷ []) = command_of word
+command (word ∷ next ∷ words) = None
 
 -- what a call did to the source: the bytes that it had left, where it tells them, and its count of faults
 pub record Taking : Type 0 where
@@ -41,50 +51,57 @@ pub record Giving : Type 0 where
   pub faults_before : ℕ
   pub faults_after : ℕ
 
--- The plan's bytes come to this status and text: the report of the altered table, or the refusal.
-abbrev pub Replays : Result (Schema × List (List Value)) Refusal → Status → List ℕ → Type 0
-Replays (Ok table) status text = (status ≡ Done) × (text ≡ report_of table.0 table.1)
-Replays (Err refusal) status text = (status ≡ Refused) × (text ≡ refused_text refusal)
-
--- the source was read to its end or one byte past the limit, and its bytes come to this status and text
-pub record ReadAndReplayed (source : Taking) (status : Status) (text : List ℕ) : Type 0 where
+-- the source was read to its end or one byte past the limit, and this comes of its bytes under the command
+pub record ReadsAndComes (told : Command) (source : Taking) (printed : Option Printed) (turns : List Turn) (journal : List Entry) : Type 0 where
   pub bytes : List ℕ
-  pub whole : ReadsWhole source.before source.after bytes
-  pub comes : Replays (replays bytes) status text
+  pub whole : ReadsWhole PLAN_LIMIT source.before source.after bytes
+  pub comes : Comes told (reads bytes) printed turns journal
 
 -- faulty words: nothing is taken, and the usage is printed
-pub record TellsUsage (source : Taking) (status : Status) (text : List ℕ) : Type 0 where
-  pub status_is : status ≡ Usage
-  pub text_is : text ≡ usage_text
+pub record TellsUsage (source : Taking) (printed : Printed) (turns : List Turn) (journal : List Entry) : Type 0 where
+  pub untaken : IsUntaken turns journal
+  pub status_is : printed.status ≡ Usage
+  pub text_is : printed.text ≡ usage_text
   pub takes_none : Consumes source.before source.after []
 
 -- the source failed
-pub record TellsReadFault (source : Taking) (status : Status) (text : List ℕ) : Type 0 where
-  pub status_is : status ≡ ReadFault
-  pub text_is : text ≡ read_fault_text
+pub record TellsReadFault (source : Taking) (printed : Printed) (turns : List Turn) (journal : List Entry) : Type 0 where
+  pub untaken : IsUntaken turns journal
+  pub status_is : printed.status ≡ ReadFault
+  pub text_is : printed.text ≡ read_fault_text
   pub rose : Rose source.faults_before source.faults_after
 
--- *Comes to*: which status and text the words and the source come to.
-abbrev pub ComesTo : Bool → Taking → Status → List ℕ → Type 0
-ComesTo false source status text = TellsUsage source status text
-ComesTo true source status text = ReadAndReplayed source status text ⊎ TellsReadFault source status text
+-- what faulty words come to, where memory is wanting and where it isn't
+abbrev pub TellsFaulty : Taking → Option Printed → List Turn → List Entry → Type 0
+TellsFaulty source None turns journal = IsUntaken turns journal
+TellsFaulty source (Some printed) turns journal = TellsUsage source printed turns journal
 
--- the whole text was given
-pub record GivesAll (words : List (List ℕ)) (source : Taking) (sink : Giving) (status : Status) : Type 0 where
-  pub text : List ℕ
-  pub comes : ComesTo (is_replay words) source status text
-  pub given : Appends sink.before sink.after text
+-- what a source comes to under a command: where memory is wanting nothing is printed, and the turns that were taken are
+-- those of the plan that was read
+abbrev pub TellsCommand : Command → Taking → Option Printed → List Turn → List Entry → Type 0
+TellsCommand told source None turns journal = IsUntaken turns journal ⊎ ReadsAndComes told source None turns journal
+TellsCommand told source (Some printed) turns journal = ReadsAndComes told source (Some printed) turns journal ⊎ TellsReadFault source printed turns journal
 
--- the sink failed: a front of the text was given that the words and the source come to
-pub record GivesFront (words : List (List ℕ)) (source : Taking) (sink : Giving) : Type 0 where
-  pub instead_of : Status
-  pub text : List ℕ
-  pub comes : ComesTo (is_replay words) source instead_of text
-  pub given : GivesPart sink.before sink.after text
+-- *Comes to*: what the words and the source come to.
+abbrev pub ComesTo : Option Command → Taking → Option Printed → List Turn → List Entry → Type 0
+ComesTo None source printed turns journal = TellsFaulty source printed turns journal
+ComesTo (Some told) source printed turns journal = TellsCommand told source printed turns journal
+
+-- What was given of what is printed, and how the call ended: the whole text, or a front of it where the sink failed; nothing
+-- where memory was wanting.
+pub record GivesAll (printed : Printed) (sink : Giving) (status : Status) : Type 0 where
+  pub status_is : status ≡ printed.status
+  pub given : Appends sink.before sink.after printed.text
+
+pub record GivesFront (printed : Printed) (sink : Giving) (status : Status) : Type 0 where
+  pub status_is : status ≡ WriteFault
+  pub given : GivesPart sink.before sink.after printed.text
   pub rose : Rose sink.faults_before sink.faults_after
 
--- *Ends*: what stands after a call that ended with this status. Where memory ran out, nothing was given.
-abbrev pub Ends : List (List ℕ) → Taking → Giving → Status → Type 0
-Ends words source sink WriteFault = GivesFront words source sink
-Ends words source sink NoMemory = Appends sink.before sink.after []
-Ends words source sink status = GivesAll words source sink status
+pub record GivesNone (sink : Giving) (status : Status) : Type 0 where
+  pub status_is : status ≡ NoMemory
+  pub given : Appends sink.before sink.after []
+
+abbrev pub Gives : Option Printed → Giving → Status → Type 0
+Gives None sink status = GivesNone sink status
+Gives (Some printed) sink status = GivesAll printed sink status ⊎ GivesFront printed sink status

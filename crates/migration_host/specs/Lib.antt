@@ -1,10 +1,4 @@
-pub mod Edges
 pub mod Endings
-pub mod Laws
-pub mod Memory
-pub mod PlanFaults
-pub mod Plans
+pub mod Outcomes
 pub mod Promises
-pub mod Reports
-pub mod StdEdges
-pub mod Whole
+pub mod Texts

@@ -1,48 +1,120 @@
 -- What the top call promises under each status.
-use Rattle.std.specs.Prelude.{◌≡◌, codes, ℕ, Bool, true, false, List, [], Option, Some, Result, Ok, Err, ◌⊎◌}
+use Rattle.std.specs.Prelude.{◌≡◌, ℕ, ◌==◌, ◌≤◌, true, false, List, [], length, Option, Some, None, IsSome, Ok, Err, ◌⊎◌}
 use Rattle.std.specs.Io.KnownBytes.{Appends, Consumes}
-use Rattle.gho_values.specs.declared.value.Value.{Value}
+use Rattle.gho_edges.specs.Edges.{Rose}
+use Rattle.gho_edges.specs.Whole.{ReadsWhole, GivesPart}
 use Rattle.gho_schema.specs.declared.schema.Schema.{Schema}
-use Rattle.gho_schema.specs.Tables.{IsTable}
-use Rattle.alter_grammar.specs.Images.{altered_table}
-use Rattle.migration_host.specs.declared.plan.Plan.{Plan}
-use Rattle.migration_host.specs.declared.plan.fault.Refusal.{Refusal}
-use Rattle.migration_host.specs.declared.status.Status.{Status}
-use Rattle.migration_host.specs.Whole.{ReadsWhole}
-use Rattle.migration_host.specs.Plans.{reads, replays}
-use Rattle.migration_host.specs.Reports.{report_of, refused_text, usage_text}
-use Rattle.migration_host.specs.Endings.{Taking, Giving, Ends, status_number, is_replay}
+use Rattle.schema_text.specs.Printing.{printed_schema}
+use Rattle.server_words.specs.declared.cause.Cause.{Cause}
+use Rattle.server_words.specs.declared.cause.Verdict.{Verdict}
+use Rattle.server_words.specs.declared.cause.Verdict.TheVariants.{Done, Reverted, Unfinished}
+use Rattle.server_words.specs.declared.entry.Entry.{Entry}
+use Rattle.plan_text.specs.PlanData.{PlanData}
+use Rattle.plan_text.specs.declared.TheConstants.{PLAN_LIMIT}
+use Rattle.plan_text.specs.declared.fault.Refusal.{Refusal}
+use Rattle.plan_text.specs.Journals.{state_at}
+use Rattle.plan_text.specs.Plans.{reads}
+use Rattle.tool_program.specs.Programs.{verdict_of}
+use Rattle.serial_laws.specs.VerdictLaws.{TellsAlter, NamesTurn}
+use Rattle.migration_core.specs.Runs.{is_over, turn_limit}
+use Rattle.plan_replay.specs.Checks.{Alters}
+use Rattle.plan_replay.specs.Replays.{IsReplay}
+use Rattle.report_text.specs.Reports.{report}
+use Rattle.migration_host.specs.declared.command.Command.TheVariants.{Check, Replay}
+use Rattle.migration_host.specs.declared.outcome.Printed.{Printed}
+use Rattle.migration_host.specs.declared.turns.Turn.{Turn}
+use Rattle.migration_host.specs.Endings.{Taking, Giving, ComesTo, command}
+use Rattle.migration_host.specs.Outcomes.{IsUntaken, turns_of}
+use Rattle.migration_host.specs.Texts.{refused_text, usage_text, read_fault_text}
 
--- a call's ending, under the number of its status
-pub record EndsUnder (words : List (List ℕ)) (source : Taking) (sink : Giving) (number : ℕ) : Type 0 where
-  pub status : Status
-  pub number_is : number ≡ status_number status
-  pub ends : Ends words source sink status
-
--- Status 0: the source was read whole, its bytes are an accepted plan, and what is given is the report of that plan's
--- altered table, which is a table.
-pub record PrintsReport (left_before left_after held_before held_after : Option (List ℕ)) : Type 0 where
+-- *The headline*, of the journal that a call leaves: the source was read whole, its bytes are an accepted plan, and the
+-- journal is that of a replay of the plan. So each answer is the plain server's; the clients took the lines of their
+-- scripts in order; and the replies that they got and the tables that are left are those of their ended transactions run
+-- one at a time in the order in which they ended, with the ALTER applied to the whole table at one instant or not at all.
+pub record IsSerial (source : Taking) (turns : List Turn) (journal : List Entry) : Type 0 where
   pub bytes : List ℕ
-  pub whole : ReadsWhole left_before left_after bytes
-  pub plan : Plan
+  pub whole : ReadsWhole PLAN_LIMIT source.before source.after bytes
+  pub plan : PlanData
   pub accepted : reads bytes ≡ Ok plan
-  pub table : Schema × List (List Value)
-  pub altered : altered_table plan.schema plan.rows plan.alter ≡ Some table
-  pub is_table : IsTable table.0 table.1
-  pub given : Appends held_before held_after (report_of table.0 table.1)
+  pub replay : IsReplay plan journal
+  pub turns_are : turns ≡ turns_of journal
 
--- Status 2: the source was read whole, and what is given is the code of the first refusal of its bytes.
-pub record PrintsRefusal (left_before left_after held_before held_after : Option (List ℕ)) : Type 0 where
+-- Statuses 0, 3 and 7 of `replay`: the journal is such a one; its run has ended or it is full; what is given is the report of it with
+-- this verdict and of the tables at its end; and the verdict tells whether the ALTER was done.
+pub record PrintsReport (source : Taking) (sink : Giving) (turns : List Turn) (journal : List Entry) (verdict : Verdict) : Type 0 where
+  pub serial : IsSerial source turns journal
+  pub taken : (length journal == 0) ≡ false
+  pub over : is_over serial.plan journal ≡ true
+  pub verdict_is : verdict_of serial.plan journal ≡ verdict
+  pub tells : TellsAlter serial.plan journal
+  pub given : Appends sink.before sink.after (report serial.plan journal verdict (state_at serial.plan journal).tables)
+
+-- Status 3: the report says why the migration was reverted, and names a turn of this run.
+pub record PrintsRevert (source : Taking) (sink : Giving) (turns : List Turn) (journal : List Entry) : Type 0 where
+  pub cause : Cause
+  pub prints : PrintsReport source sink turns journal (Reverted cause)
+  pub names : NamesTurn prints.serial.plan journal cause
+
+-- Status 7: the journal is full, and the run hasn't ended.
+abbrev pub PrintsUnfinished : Taking → Giving → List Turn → List Entry → Type 0
+PrintsUnfinished source sink turns journal = PrintsReport source sink turns journal Unfinished × (turn_limit ≤ length journal)
+
+-- Status 0 of `check`: the source was read whole, its bytes are an accepted plan, and what is given is the text of the
+-- schema that its ALTER leaves; no turn was taken.
+pub record PrintsSchema (source : Taking) (sink : Giving) (turns : List Turn) (journal : List Entry) : Type 0 where
   pub bytes : List ℕ
-  pub whole : ReadsWhole left_before left_after bytes
+  pub whole : ReadsWhole PLAN_LIMIT source.before source.after bytes
+  pub plan : PlanData
+  pub accepted : reads bytes ≡ Ok plan
+  pub schema : Schema
+  pub alters : Alters plan schema
+  pub given : Appends sink.before sink.after (printed_schema schema)
+  pub untaken : IsUntaken turns journal
+
+-- Status 2: the source was read whole, and what is given is the first refusal of its bytes; no turn was taken.
+pub record PrintsRefusal (source : Taking) (sink : Giving) (turns : List Turn) (journal : List Entry) : Type 0 where
+  pub bytes : List ℕ
+  pub whole : ReadsWhole PLAN_LIMIT source.before source.after bytes
   pub refusal : Refusal
-  pub refused : replays bytes ≡ Err refusal
-  pub given : Appends held_before held_after (refused_text refusal)
+  pub refused : reads bytes ≡ Err refusal
+  pub given : Appends sink.before sink.after (refused_text refusal)
+  pub untaken : IsUntaken turns journal
 
 -- Status 1: nothing is taken, and the usage is given.
-pub record PrintsUsage (left_before left_after held_before held_after : Option (List ℕ)) : Type 0 where
-  pub takes_none : Consumes left_before left_after []
-  pub given : Appends held_before held_after usage_text
+pub record PrintsUsage (source : Taking) (sink : Giving) (turns : List Turn) (journal : List Entry) : Type 0 where
+  pub takes_none : Consumes source.before source.after []
+  pub given : Appends sink.before sink.after usage_text
+  pub untaken : IsUntaken turns journal
+
+-- Status 4: the source's count of faults rose, and that is said.
+pub record PrintsReadFault (source : Taking) (sink : Giving) (turns : List Turn) (journal : List Entry) : Type 0 where
+  pub rose : Rose source.faults_before source.faults_after
+  pub given : Appends sink.before sink.after read_fault_text
+  pub untaken : IsUntaken turns journal
+
+-- Status 5: the sink's count of faults rose, and what is given is a front of what the words and the source come to.
+pub record PrintsFront (words : List (List ℕ)) (source : Taking) (sink : Giving) (turns : List Turn) (journal : List Entry) : Type 0 where
+  pub printed : Printed
+  pub comes : ComesTo (command words) source (Some printed) turns journal
+  pub given : GivesPart sink.before sink.after printed.text
+  pub rose : Rose sink.faults_before sink.faults_after
+
+-- Status 6: memory was wanting, and nothing is given.
+pub record PrintsNone (words : List (List ℕ)) (source : Taking) (sink : Giving) (turns : List Turn) (journal : List Entry) : Type 0 where
+  pub comes : ComesTo (command words) source None turns journal
+  pub given : Appends sink.before sink.after []
+
+-- *Ends*: a call ends under one of these numbers, and then this stands.
+pub data Ends (words : List (List ℕ)) (source : Taking) (sink : Giving) (turns : List Turn) (journal : List Entry) (number : ℕ) : Type 0 where
+  done : number ≡ 0 → command words ≡ Some Replay → PrintsReport source sink turns journal Done → Ends words source sink turns journal number
+  checked : number ≡ 0 → command words ≡ Some Check → PrintsSchema source sink turns journal → Ends words source sink turns journal number
+  usage : number ≡ 1 → command words ≡ None → PrintsUsage source sink turns journal → Ends words source sink turns journal number
+  refused : number ≡ 2 → IsSome (command words) → PrintsRefusal source sink turns journal → Ends words source sink turns journal number
+  reverted : number ≡ 3 → command words ≡ Some Replay → PrintsRevert source sink turns journal → Ends words source sink turns journal number
+  read_fault : number ≡ 4 → IsSome (command words) → PrintsReadFault source sink turns journal → Ends words source sink turns journal number
+  write_fault : number ≡ 5 → PrintsFront words source sink turns journal → Ends words source sink turns journal number
+  no_memory : number ≡ 6 → PrintsNone words source sink turns journal → Ends words source sink turns journal number
+  turns_spent : number ≡ 7 → command words ≡ Some Replay → PrintsUnfinished source sink turns journal → Ends words source sink turns journal number
 
 -- the number is 1, 5 or 6
 abbrev pub IsUsageOrLost : ℕ → Type 0

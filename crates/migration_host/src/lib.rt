@@ -1,21 +1,18 @@
 //! The migration from end to end: a plan's bytes in, a report's bytes out.
 #![tactic(auto)]
 
-pub mod edges;
-pub mod laws;
+mod command;
 mod line;
-pub mod plan;
-mod report;
+mod outcome;
 mod status;
 mod top;
-mod whole;
+mod turns;
 
+pub use command::Command;
 pub use line::Line;
 pub use status::Status;
 pub use top::{Ended, ghost_};
-
-/// How many bytes a plan has at most: 16 MiB. This project's rule.
-pub const PLAN_LIMIT: usize = 16_777_216;
+pub use turns::{Turn, Turns};
 
 #[cfg(test)]
 mod tests;

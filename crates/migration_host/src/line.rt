@@ -1,8 +1,9 @@
 //! The words of a command line.
 
 ghost use Rattle.std.specs.Prelude.{◌≡◌, [], ◌∷◌, ◌++◌, OnOk, OnErr};
-ghost use Rattle.migration_host.specs.Endings.{is_replay};
+ghost use Rattle.migration_host.specs.Endings.{command, command_of};
 
+use crate::command::Command;
 use gho_values::{Chars, Sequence};
 use std::alloc::{AllocError, Global};
 use std::marker::Model;
@@ -40,14 +41,27 @@ impl Line {
         self.words.push(word)
     }
 
-    /// Whether the words are the one command that is built: `replay`.
-    pub fn is_replay(&self) -> bool
-        ensures { result ≡ is_replay self.now }
+    /// The command that the words are, if they are one.
+    pub fn command(&self) -> Option<Command>
+        ensures { result ≡ command self.now }
     {
         match self.words.as_slice() {
-            [] => false,
-            [word] => word.as_str() == "replay",
-            [_, _, ..] => false,
+            [] => None,
+            [word] => command_of(word.as_str()),
+            [_, _, ..] => None,
         }
+    }
+}
+
+/// The command that a word is, if it is one.
+fn command_of(word: &str) -> Option<Command>
+    ensures { result ≡ command_of word.now }
+{
+    if word == "check" {
+        Some(Command::Check)
+    } else if word == "replay" {
+        Some(Command::Replay)
+    } else {
+        None
     }
 }

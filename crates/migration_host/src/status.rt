@@ -2,6 +2,9 @@
 
 ghost use Rattle.std.specs.Prelude.{◌≡◌};
 ghost use Rattle.migration_host.specs.Endings.{status_number};
+ghost use Rattle.migration_host.specs.Outcomes.{status_of};
+
+use server_words::Verdict;
 
 /// How a call of the program ends.
 #[derive(Clone, Copy, Debug, PartialEq, Eq)]
@@ -12,12 +15,16 @@ pub enum Status {
     Usage,
     /// The plan is refused.
     Refused,
+    /// The migration was reverted.
+    Reverted,
     /// The source failed.
     ReadFault,
     /// The sink failed.
     WriteFault,
     /// There was no memory.
     NoMemory,
+    /// The journal is full, and the run hasn't ended.
+    TurnsSpent,
 }
 
 impl Status {
@@ -29,9 +36,22 @@ impl Status {
             Status::Done => 0,
             Status::Usage => 1,
             Status::Refused => 2,
+            Status::Reverted => 3,
             Status::ReadFault => 4,
             Status::WriteFault => 5,
             Status::NoMemory => 6,
+            Status::TurnsSpent => 7,
         }
+    }
+}
+
+/// The status of a report with this verdict.
+pub(crate) fn status_of(verdict: &Verdict) -> Status
+    ensures { result ≡ status_of verdict.now }
+{
+    match verdict {
+        Verdict::Done => Status::Done,
+        Verdict::Reverted(_) => Status::Reverted,
+        Verdict::Unfinished => Status::TurnsSpent,
     }
 }

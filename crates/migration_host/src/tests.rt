@@ -1,2 +1,1 @@
-mod edges;
 mod top;

@@ -1,24 +1,20 @@
 //! The top call: all that the program does.
 
-ghost use Rattle.std.specs.Prelude.{◌≡◌, ◌≤◌, [], false, IfOk};
-ghost use Rattle.std.specs.Io.KnownBytes.{Appends};
-ghost use Rattle.migration_host.specs.Edges.{Rose};
-ghost use Rattle.migration_host.specs.Plans.{Says, replays};
-ghost use Rattle.migration_host.specs.Endings.{Replays, ComesTo, GivesFront, Ends, is_replay};
-ghost use Rattle.migration_host.specs.Promises.{EndsUnder, PrintsReport, PrintsRefusal, PrintsUsage, IsUsageOrLost};
-ghost use Rattle.migration_host.specs.Reports.{read_fault_text};
+ghost use Rattle.std.specs.Prelude.{◌≡◌, ◌≤◌, ◌==◌, false, length, Some, None};
+ghost use Rattle.migration_host.specs.declared.command.Command.TheVariants.{Check, Replay};
+ghost use Rattle.server_words.specs.declared.cause.Verdict.TheVariants as verdicts;
+ghost use Rattle.migration_host.specs.Endings.{ComesTo, Gives, command};
+ghost use Rattle.migration_host.specs.Promises.{Ends, IsSerial, PrintsReport, PrintsSchema, PrintsRevert, PrintsUnfinished, PrintsRefusal, PrintsUsage, PrintsReadFault, PrintsFront, PrintsNone, IsUsageOrLost};
 
-use crate::edges::{Gate, Sink, Source};
-use crate::laws::altered_plans_are_tables;
 use crate::line::Line;
-use crate::plan::{PlanFault, Refusal, read_plan};
-use crate::report::report;
+use crate::outcome::{Outcome, outcome_of, shown, untaken};
 use crate::status::Status;
-use crate::whole::{ReadFault, give_whole, read_whole};
-use alter_grammar::altered_table;
-use gho_schema::Schema;
-use gho_values::{Rows, Text};
-use std::alloc::{AllocError, Global};
+use crate::turns::Turns;
+use gho_edges::{Gate, ReadFault, Sink, Source, give_whole, read_whole};
+use plan_text::PLAN_LIMIT;
+use serial_laws::laws::{reverts_name_turns, verdicts_tell_the_alter};
+use server_words::Journal;
+use std::alloc::Global;
 use std::sync::Wait;
 use std::thread::Threads;
 
@@ -30,99 +26,72 @@ const USAGE: &str = "usage: check | replay | run [--workers N] | generate N\n";
 pub struct Ended {
     /// The number of its status.
     pub status: u8,
-}
-
-/// What is printed, and the status that it has where it is printed whole.
-#[derive(Debug, Drop)]
-struct Answer {
-    status: Status,
-    text: Text,
-}
-
-fn answer_of(alloc: Global, status: Status, text: &str) -> Result<Answer, AllocError>
-    ensures { IfOk result (λ answer. answer ≡ record { status = status; text = text.now }) }
-{
-    let mut answer = Text::new(alloc);
-    answer.push_str(text)?;
-    Ok(Answer {
-        status,
-        text: answer,
-    })
-}
-
-/// The altered table of a plan's bytes.
-fn altered(alloc: Global, bytes: &[u8]) -> Result<(Schema, Rows), PlanFault>
-    ensures { Says (λ table. table) result (replays bytes.now) }
-{
-    let plan = read_plan(alloc, bytes)?;
-    let table = altered_table(alloc, &plan.schema, plan.rows.as_slice(), &plan.alter)?;
-    Ok(table)
-}
-
-fn refused(alloc: Global, refusal: Refusal) -> Result<Answer, AllocError>
-    ensures { IfOk result (λ answer. Replays (Err refusal) answer.status answer.text) }
-{
-    let text = match refusal {
-        Refusal::TooLong => "refused 59 too_long\n",
-        Refusal::NotToml => "refused 50 not_toml\n",
-        Refusal::NotBuilt => "refused 60 not_built\n",
-    };
-    answer_of(alloc, Status::Refused, text)
-}
-
-/// What `replay` answers to a plan's bytes.
-fn replayed(alloc: Global, bytes: &[u8]) -> Result<Answer, AllocError>
-    ensures { IfOk result (λ answer. Replays (replays bytes.now) answer.status answer.text) }
-{
-    match altered(alloc, bytes) {
-        Ok((schema, rows)) => Ok(Answer {
-            status: Status::Done,
-            text: report(alloc, &schema, rows.as_slice())?,
-        }),
-        Err(PlanFault::Refused(refusal)) => refused(alloc, refusal),
-        Err(PlanFault::Memory) => Err(AllocError),
-    }
+    /// Whose turns its run took, in order; none where no plan was run.
+    pub turns: Turns,
+    /// The turns of its run, as the run kept them; none where no plan was run.
+    pub journal: Journal,
 }
 
 /// What the words and the source come to.
-fn come_to<S: Source>(alloc: Global, line: &Line, source: &mut S) -> Result<Answer, AllocError>
-    ensures comes { IfOk result (λ answer. ComesTo (is_replay line.now)
+fn come_to<S: Source>(alloc: Global, line: &Line, source: &mut S) -> Outcome
+    ensures comes { ComesTo (command line.now)
         record { before = S.left source.old; after = S.left source.new; faults_before = S.faults source.old; faults_after = S.faults source.new }
-        answer.status answer.text) }
+        result.printed result.turns result.journal }
     ensures never_falls { S.faults source.old ≤ S.faults source.new }
 {
-    if !line.is_replay() {
-        return answer_of(alloc, Status::Usage, USAGE);
-    }
-    match read_whole(alloc, source) {
-        Ok(bytes) => replayed(alloc, bytes.as_slice()),
-        Err(ReadFault::Source) => answer_of(alloc, Status::ReadFault, "read fault\n"),
-        Err(ReadFault::Memory) => Err(AllocError),
+    let Some(command) = line.command() else {
+        return untaken(alloc, shown(alloc, Status::Usage, USAGE));
+    };
+    match read_whole(alloc, source, PLAN_LIMIT) {
+        Ok(bytes) => outcome_of(alloc, command, bytes.as_slice()),
+        Err(ReadFault::Source) => {
+            untaken(alloc, shown(alloc, Status::ReadFault, "read fault\n"))
+        }
+        Err(ReadFault::Memory) => untaken(alloc, None),
     }
 }
 
-/// Gives what the words and the source come to, and says how it ended.
-fn ending<S: Source, K: Sink>(alloc: Global, line: &Line, source: &mut S, sink: &mut K) -> Status
+/// Gives what is printed, and says how it ended.
+fn give<K: Sink>(outcome: &Outcome, sink: &mut K) -> Status
+    ensures gives { Gives outcome.now.printed
+        record { before = K.held sink.old; after = K.held sink.new; faults_before = K.faults sink.old; faults_after = K.faults sink.new }
+        result }
+    ensures never_falls { K.faults sink.old ≤ K.faults sink.new }
+{
+    match &outcome.printed {
+        Some(printed) => match give_whole(sink, printed.text.as_str().as_bytes()) {
+            Ok(()) => printed.status,
+            Err(_) => Status::WriteFault,
+        },
+        None => Status::NoMemory,
+    }
+}
+
+/// Does what the words ask for, and says how it ended.
+fn ending<S: Source, K: Sink>(alloc: Global, line: &Line, source: &mut S, sink: &mut K) -> Ended
     ensures ends { Ends line.now
         record { before = S.left source.old; after = S.left source.new; faults_before = S.faults source.old; faults_after = S.faults source.new }
         record { before = K.held sink.old; after = K.held sink.new; faults_before = K.faults sink.old; faults_after = K.faults sink.new }
-        result }
+        result.turns result.journal result.status }
     ensures source_never_falls { S.faults source.old ≤ S.faults source.new }
     ensures sink_never_falls { K.faults sink.old ≤ K.faults sink.new }
 {
-    match come_to(alloc, line, source) {
-        Ok(answer) => match give_whole(sink, answer.text.as_str().as_bytes()) {
-            Ok(()) => answer.status,
-            Err(_) => Status::WriteFault,
-        },
-        Err(_) => Status::NoMemory,
+    verdicts_tell_the_alter();
+    reverts_name_turns();
+    let outcome = come_to(alloc, line, source);
+    let status = give(&outcome, sink);
+    Ended {
+        status: status.number(),
+        turns: outcome.turns,
+        journal: outcome.journal,
     }
 }
 
 /// All that the program does: it reads a plan from the source and gives to the sink what the words ask for.
 ///
-/// So far the one command is `replay`, which prints the altered table of a plan without clients. The runtime and the
-/// gate serve the commands that run threads, which aren't built yet.
+/// So far the commands are `check`, which prints the schema that the plan's ALTER leaves, and `replay`, which runs the plan
+/// on one thread and prints the report. The runtime and the gate serve the commands that run threads, which aren't built
+/// yet.
 pub fn ghost_<R: Threads + Wait + Sync, S: Source, K: Sink, G: Gate + Sync>(
     _rt: &R,
     alloc: Global,
@@ -131,33 +100,60 @@ pub fn ghost_<R: Threads + Wait + Sync, S: Source, K: Sink, G: Gate + Sync>(
     sink: &mut K,
     _gate: &G,
 ) -> Ended
-    // What the call took and gave under its status, in one relation: the clauses below say the same case by case.
-    ensures ends { EndsUnder line.now
+    // What the call took, did and gave under its status, in one relation: the clauses below say the same case by case.
+    ensures ends { Ends line.now
         record { before = S.left source.old; after = S.left source.new; faults_before = S.faults source.old; faults_after = S.faults source.new }
         record { before = K.held sink.old; after = K.held sink.new; faults_before = K.faults sink.old; faults_after = K.faults sink.new }
-        result.status }
+        result.turns result.journal result.status }
 
-    ensures done { result.status ≡ 0 → PrintsReport (S.left source.old) (S.left source.new) (K.held sink.old) (K.held sink.new) }
-
-    ensures usage { result.status ≡ 1 → PrintsUsage (S.left source.old) (S.left source.new) (K.held sink.old) (K.held sink.new) }
-    ensures usage_only_at_faulty_words { result.status ≡ 1 → is_replay line.now ≡ false }
-    ensures faulty_words { is_replay line.now ≡ false → IsUsageOrLost result.status }
-
-    ensures refused { result.status ≡ 2 → PrintsRefusal (S.left source.old) (S.left source.new) (K.held sink.old) (K.held sink.new) }
-
-    ensures read_fault { result.status ≡ 4 → Appends (K.held sink.old) (K.held sink.new) read_fault_text }
-    ensures read_fault_rose { result.status ≡ 4 → Rose (S.faults source.old) (S.faults source.new) }
-
-    ensures write_fault { result.status ≡ 5 → GivesFront line.now
+    // The headline: whatever the status, where turns were taken.
+    ensures serial { (length result.journal == 0) ≡ false → IsSerial
         record { before = S.left source.old; after = S.left source.new; faults_before = S.faults source.old; faults_after = S.faults source.new }
-        record { before = K.held sink.old; after = K.held sink.new; faults_before = K.faults sink.old; faults_after = K.faults sink.new } }
-    ensures write_fault_rose { result.status ≡ 5 → Rose (K.faults sink.old) (K.faults sink.new) }
+        result.turns result.journal }
 
-    ensures no_memory { result.status ≡ 6 → Appends (K.held sink.old) (K.held sink.new) [] }
+    ensures done { result.status ≡ 0 → command line.now ≡ Some Replay → PrintsReport
+        record { before = S.left source.old; after = S.left source.new; faults_before = S.faults source.old; faults_after = S.faults source.new }
+        record { before = K.held sink.old; after = K.held sink.new; faults_before = K.faults sink.old; faults_after = K.faults sink.new }
+        result.turns result.journal verdicts.Done }
+    ensures checked { result.status ≡ 0 → command line.now ≡ Some Check → PrintsSchema
+        record { before = S.left source.old; after = S.left source.new; faults_before = S.faults source.old; faults_after = S.faults source.new }
+        record { before = K.held sink.old; after = K.held sink.new; faults_before = K.faults sink.old; faults_after = K.faults sink.new }
+        result.turns result.journal }
+    ensures reverted { result.status ≡ 3 → PrintsRevert
+        record { before = S.left source.old; after = S.left source.new; faults_before = S.faults source.old; faults_after = S.faults source.new }
+        record { before = K.held sink.old; after = K.held sink.new; faults_before = K.faults sink.old; faults_after = K.faults sink.new }
+        result.turns result.journal }
+    ensures turns_spent { result.status ≡ 7 → PrintsUnfinished
+        record { before = S.left source.old; after = S.left source.new; faults_before = S.faults source.old; faults_after = S.faults source.new }
+        record { before = K.held sink.old; after = K.held sink.new; faults_before = K.faults sink.old; faults_after = K.faults sink.new }
+        result.turns result.journal }
+
+    ensures usage { result.status ≡ 1 → PrintsUsage
+        record { before = S.left source.old; after = S.left source.new; faults_before = S.faults source.old; faults_after = S.faults source.new }
+        record { before = K.held sink.old; after = K.held sink.new; faults_before = K.faults sink.old; faults_after = K.faults sink.new }
+        result.turns result.journal }
+    ensures usage_only_at_faulty_words { result.status ≡ 1 → command line.now ≡ None }
+    ensures faulty_words { command line.now ≡ None → IsUsageOrLost result.status }
+
+    ensures refused { result.status ≡ 2 → PrintsRefusal
+        record { before = S.left source.old; after = S.left source.new; faults_before = S.faults source.old; faults_after = S.faults source.new }
+        record { before = K.held sink.old; after = K.held sink.new; faults_before = K.faults sink.old; faults_after = K.faults sink.new }
+        result.turns result.journal }
+
+    ensures read_fault { result.status ≡ 4 → PrintsReadFault
+        record { before = S.left source.old; after = S.left source.new; faults_before = S.faults source.old; faults_after = S.faults source.new }
+        record { before = K.held sink.old; after = K.held sink.new; faults_before = K.faults sink.old; faults_after = K.faults sink.new }
+        result.turns result.journal }
+
+    ensures write_fault { result.status ≡ 5 → PrintsFront line.now
+        record { before = S.left source.old; after = S.left source.new; faults_before = S.faults source.old; faults_after = S.faults source.new }
+        record { before = K.held sink.old; after = K.held sink.new; faults_before = K.faults sink.old; faults_after = K.faults sink.new }
+        result.turns result.journal }
+
+    ensures no_memory { result.status ≡ 6 → PrintsNone line.now
+        record { before = S.left source.old; after = S.left source.new; faults_before = S.faults source.old; faults_after = S.faults source.new }
+        record { before = K.held sink.old; after = K.held sink.new; faults_before = K.faults sink.old; faults_after = K.faults sink.new }
+        result.turns result.journal }
 {
-    altered_plans_are_tables();
-    let status = ending(alloc, line, source, sink);
-    Ended {
-        status: status.number(),
-    }
+    ending(alloc, line, source, sink)
 }

@@ -1,7 +1,8 @@
 //! The top call over memory: what is printed, byte for byte, and what bad input and a faulty outside get.
 
-use crate::edges::{BytesSink, BytesSource, OpenGate, Source, Took};
-use crate::{Line, PLAN_LIMIT, ghost_};
+use crate::{Ended, Line, ghost_};
+use gho_edges::{BytesSink, BytesSource, OpenGate, Source, Took};
+use plan_text::PLAN_LIMIT;
 use std::alloc::{AllocError, Global};
 use std::process::Abort;
 use std::sync::Wait;
@@ -16,14 +17,24 @@ alter = "ADD COLUMN b INT NOT NULL DEFAULT 7"
 create = "CREATE TABLE t (id INT PRIMARY KEY)"
 "#;
 
+/// A plan with a client that writes and reads.
+const CLIENT_PLAN: &str = r#"version = 1
+table = "t"
+alter = "ADD COLUMN b INT NOT NULL DEFAULT 7"
+clients = ["INSERT INTO t VALUES (2)\nDELETE FROM t WHERE id = 1\nSELECT * FROM t WHERE id = 2\nINSERT INTO t VALUES (2)"]
+[[tables]]
+create = "CREATE TABLE t (id INT PRIMARY KEY)"
+rows = ["(1)"]
+"#;
+
 const NOT_BUILT: &str = "refused 60 not_built\n";
 
 const NOT_TOML: &str = "refused 50 not_toml\n";
 
-/// A call's status and what its sink then holds.
+/// How a call ended, and what its sink then holds.
 #[derive(Drop)]
 struct Printed {
-    status: u8,
+    ended: Ended,
     sink: BytesSink,
 }
 
@@ -44,10 +55,7 @@ fn call<R: Threads + Wait + Sync + AllocGlobal>(
     let line = line_of(rt.alloc(), words)?;
     let mut sink = BytesSink::new(rt.alloc(), sink_fails);
     let ended = ghost_(rt, rt.alloc(), &line, source, &mut sink, &OpenGate);
-    Ok(Printed {
-        status: ended.status,
-        sink,
-    })
+    Ok(Printed { ended, sink })
 }
 
 fn replay<R: Threads + Wait + Sync + Abort + AllocGlobal>(
@@ -70,7 +78,7 @@ fn expect<R: Threads + Wait + Sync + Abort + AllocGlobal>(
 ) -> Result<(), AllocError> {
     let printed = replay(rt, plan.as_bytes())?;
     assert_eq!(rt; printed.sink.held(), text.as_bytes(), "of {plan}");
-    assert_eq!(rt; printed.status, status, "of {plan}");
+    assert_eq!(rt; printed.ended.status, status, "of {plan}");
     Ok(())
 }
 
@@ -92,7 +100,9 @@ fn replay_prints_the_altered_table(rt: HostRuntime) -> Result<(), Fail> {
     let three = "CREATE TABLE t (a INT, id INT PRIMARY KEY, c INT)";
     let rows = "rows = [\"(5, -1, 0)\", \"(5, -2147483648, 2147483647)\"]\n";
     let plan = plan_of(rt.alloc(), "add column `b` int", three, rows)?;
-    expect(&rt, plan.as_str(), 2, NOT_BUILT)?;
+    let text =
+        "done\ntable t (a, id, c, b)\n(5, -2147483648, 2147483647, NULL)\n(5, -1, 0, NULL)\ntables _t_del t\n";
+    expect(&rt, plan.as_str(), 0, text)?;
     let plan = plan_of(
         rt.alloc(),
         "add column b int not null default -7",
@@ -102,6 +112,19 @@ fn replay_prints_the_altered_table(rt: HostRuntime) -> Result<(), Fail> {
     let text =
         "done\ntable t (a, id, c, b)\n(5, -2147483648, 2147483647, -7)\n(5, -1, 0, -7)\ntables _t_del t\n";
     expect(&rt, plan.as_str(), 0, text)?;
+    Ok(())
+}
+
+#[test]
+fn each_turn_stands_in_the_journal(rt: HostRuntime) -> Result<(), Fail> {
+    // Four lines of the client; the new table, the ends, a chunk's end, its keys, one row, the commit, and the RENAME.
+    let printed = replay(&rt, CLIENT_PLAN.as_bytes())?;
+    assert_eq!(rt; printed.ended.status, 0);
+    assert_eq!(rt; printed.ended.journal.len(), 11);
+    assert_eq!(rt; printed.ended.turns.len(), 11);
+    let printed = replay(&rt, NOT_BUILT.as_bytes())?;
+    assert_eq!(rt; printed.ended.status, 2);
+    assert!(rt; printed.ended.journal.is_empty() && printed.ended.turns.is_empty());
     Ok(())
 }
 
@@ -118,40 +141,71 @@ fn tables_are_named_in_byte_order(rt: HostRuntime) -> Result<(), Fail> {
 }
 
 #[test]
-fn what_is_not_built_is_refused(rt: HostRuntime) -> Result<(), Fail> {
+fn a_plan_gets_its_first_refusal(rt: HostRuntime) -> Result<(), Fail> {
     let add = "ADD COLUMN b INT NOT NULL DEFAULT 7";
     let one = "CREATE TABLE t (id INT PRIMARY KEY)";
     let two = "CREATE TABLE t (id INT PRIMARY KEY, a INT)";
     let cases = [
-        ("DROP COLUMN id", one, ""),
-        ("ADD COLUMN ID INT NOT NULL DEFAULT 7", one, ""),
-        ("ADD COLUMN b INT NOT NULL DEFAULT 2147483648", one, ""),
-        (add, "CREATE TABLE u (id INT PRIMARY KEY)", ""),
-        (add, "CREATE TABLE t (id INT)", ""),
-        (add, one, "colour = 1\n"),
-        (add, one, "rows = 1\n"),
-        (add, one, "rows = [1]\n"),
-        (add, one, "rows = [\"(1)\", \"(2)\", \"(1)\"]\n"),
-        (add, one, "rows = [\"(1, 2)\"]\n"),
-        (add, two, "rows = [\"(1)\"]\n"),
-        (add, two, "rows = [\"(1, 2147483648)\"]\n"),
-        (add, two, "rows = [\"(1, NULL)\"]\n"),
+        ("DROP COLUMN id", one, "", "refused 23 key_column_dropped\n"),
+        ("ADD COLUMN ID INT", one, "", "refused 22 repeated_column\n"),
+        (
+            "ADD b INT DEFAULT 2147483648",
+            one,
+            "",
+            "refused 27 default\n",
+        ),
+        (add, "CREATE TABLE u (id INT PRIMARY KEY)", "", NOT_BUILT),
+        (
+            "DROP b",
+            "CREATE TABLE t (id INT)",
+            "",
+            "refused 14 no_clustered_key table 1\n",
+        ),
+        (
+            "DROP b",
+            "CREATE TABLE t (id INT)",
+            "colour = 1\n",
+            NOT_BUILT,
+        ),
+        (
+            "DROP b",
+            one,
+            "rows = [\"(1, 2)\"]\n",
+            "refused 21 unknown_name\n",
+        ),
+        (add, one, "rows = 1\n", NOT_BUILT),
+        (add, one, "rows = [\"(1)\", \"(2)\", \"(1)\"]\n", NOT_BUILT),
+        (add, one, "rows = [\"(1, 2)\"]\n", NOT_BUILT),
+        (add, two, "rows = [\"(1, 2147483648)\"]\n", NOT_BUILT),
         (
             add,
             one,
             "[[tables]]\ncreate = \"CREATE TABLE u (id INT PRIMARY KEY)\"\n",
+            NOT_BUILT,
         ),
-        (add, one, "[options]\nchunk_size = 2\n"),
+        (add, one, "[options]\nchunk_size = 2\n", NOT_BUILT),
     ];
-    for (alter, create, rows) in cases {
+    for (alter, create, rows, text) in cases {
         let plan = plan_of(rt.alloc(), alter, create, rows)?;
-        expect(&rt, plan.as_str(), 2, NOT_BUILT)?;
+        expect(&rt, plan.as_str(), 2, text)?;
     }
     for plan in ["", "version = 1\n", "version = 2\n", "version = \"1\"\n"] {
         expect(&rt, plan, 2, NOT_BUILT)?;
     }
     let version = PLAN.replace(rt.alloc(), "version = 1", "version = 2")?;
     expect(&rt, version.as_str(), 2, NOT_BUILT)?;
+    Ok(())
+}
+
+#[test]
+fn check_prints_the_altered_schema(rt: HostRuntime) -> Result<(), Fail> {
+    let mut source = BytesSource::new(PLAN.as_bytes().to_vec(rt.alloc())?, None);
+    let printed = call(&rt, &["check"], &mut source, None)?;
+    let text =
+        "CREATE TABLE `t` (\n  `id` INT NOT NULL,\n  `b` INT NOT NULL DEFAULT 7,\n  PRIMARY KEY (`id`)\n)\n";
+    assert_eq!(rt; printed.sink.held(), text.as_bytes());
+    assert_eq!(rt; printed.ended.status, 0);
+    assert!(rt; printed.ended.journal.is_empty());
     Ok(())
 }
 
@@ -183,7 +237,7 @@ fn each_front_of_a_plan_is_refused_with_its_code(rt: HostRuntime) -> Result<(), 
             };
             assert_eq!(rt; printed.sink.held(), text.as_bytes(), "of {end} bytes");
             assert_eq!(rt;
-                printed.status,
+                printed.ended.status,
                 if code == 0 { 0 } else { 2 },
                 "of {end} bytes"
             );
@@ -199,7 +253,7 @@ fn each_front_of_a_plan_is_refused_with_its_code(rt: HostRuntime) -> Result<(), 
 fn bytes_that_are_no_text_or_too_many_are_refused(rt: HostRuntime) -> Result<(), Fail> {
     for bytes in [b"\xff".as_slice(), b"version = 1 # \xc3(", b"\xed\xa0\x80"] {
         let printed = replay(&rt, bytes)?;
-        assert_eq!(rt; printed.status, 2);
+        assert_eq!(rt; printed.ended.status, 2);
         assert_eq!(rt; printed.sink.held(), NOT_TOML.as_bytes());
     }
     let limit = vec![in rt.alloc(); b'\n'; PLAN_LIMIT]?;
@@ -207,7 +261,7 @@ fn bytes_that_are_no_text_or_too_many_are_refused(rt: HostRuntime) -> Result<(),
     assert_eq!(rt; printed.sink.held(), NOT_BUILT.as_bytes());
     let longer = vec![in rt.alloc(); b'\n'; PLAN_LIMIT + 1]?;
     let printed = replay(&rt, longer.as_slice())?;
-    assert_eq!(rt; printed.status, 2);
+    assert_eq!(rt; printed.ended.status, 2);
     assert_eq!(rt; printed.sink.held(), b"refused 59 too_long\n".as_slice());
     Ok(())
 }
@@ -220,13 +274,13 @@ fn other_words_get_the_usage(rt: HostRuntime) -> Result<(), Fail> {
         &["frob"],
         &["Replay"],
         &["replay", "replay"],
-        &["check"],
+        &["check", "replay"],
         &["--help"],
     ];
     for words in cases {
         let mut source = BytesSource::new(PLAN.as_bytes().to_vec(rt.alloc())?, None);
         let printed = call(&rt, words, &mut source, None)?;
-        assert_eq!(rt; printed.status, 1);
+        assert_eq!(rt; printed.ended.status, 1);
         assert_eq!(rt; printed.sink.held(), usage.as_bytes());
         // Nothing was taken from the source.
         let mut rest = vec![in rt.alloc(); 0; PLAN.len() + 1]?;
@@ -240,7 +294,7 @@ fn a_source_that_fails_at_any_byte_is_told(rt: HostRuntime) -> Result<(), Fail> 
     for fail_at in 0..PLAN.len() {
         let mut source = BytesSource::new(PLAN.as_bytes().to_vec(rt.alloc())?, Some(fail_at));
         let printed = call(&rt, &["replay"], &mut source, None)?;
-        assert_eq!(rt; printed.status, 4, "at {fail_at}");
+        assert_eq!(rt; printed.ended.status, 4, "at {fail_at}");
         assert_eq!(rt;
             printed.sink.held(),
             b"read fault\n".as_slice(),
@@ -257,7 +311,7 @@ fn a_sink_that_fails_at_any_byte_holds_those_before(rt: HostRuntime) -> Result<(
     for fail_at in 0..text.len() {
         let mut source = BytesSource::new(PLAN.as_bytes().to_vec(rt.alloc())?, None);
         let printed = call(&rt, &["replay"], &mut source, Some(fail_at))?;
-        assert_eq!(rt; printed.status, 5, "at {fail_at}");
+        assert_eq!(rt; printed.ended.status, 5, "at {fail_at}");
         assert_eq!(rt; printed.sink.held(), &text[..fail_at], "at {fail_at}");
         assert_eq!(rt; printed.sink.faults(), 1, "at {fail_at}");
     }

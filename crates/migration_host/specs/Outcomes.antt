@@ -1,0 +1,93 @@
+-- What comes of a plan's bytes: the turns that are taken, what is printed, and the status that it has where it is printed
+-- whole. This project's rule.
+use Rattle.std.specs.Prelude.{◌≡◌, ℕ, true, ◌⊎◌, List, [], map, Option, Some, None, Result, Ok, Err}
+use Rattle.gho_schema.specs.declared.schema.Schema.{Schema}
+use Rattle.schema_text.specs.Printing.{printed_schema}
+use Rattle.server_words.specs.declared.cause.Verdict.{Verdict}
+use Rattle.server_words.specs.declared.cause.Verdict.TheVariants as verdicts
+use Rattle.server_words.specs.declared.entry.Entry.{Entry}
+use Rattle.plan_text.specs.PlanData.{PlanData}
+use Rattle.plan_text.specs.declared.fault.Refusal.{Refusal}
+use Rattle.plan_text.specs.Journals.{state_at}
+use Rattle.tool_program.specs.Programs.{verdict_of}
+use Rattle.migration_core.specs.Runs.{is_over}
+use Rattle.plan_replay.specs.Checks.{Alters}
+use Rattle.plan_replay.specs.Replays.{IsReplay}
+use Rattle.report_text.specs.Reports.{report}
+use Rattle.migration_host.specs.declared.command.Command.{Command}
+use Rattle.migration_host.specs.declared.command.Command.TheVariants.{Check, Replay}
+use Rattle.migration_host.specs.declared.outcome.Printed.{Printed}
+use Rattle.migration_host.specs.declared.status.Status.{Status}
+use Rattle.migration_host.specs.declared.status.Status.TheVariants as statuses
+use Rattle.migration_host.specs.declared.turns.Turn.{Turn}
+use Rattle.migration_host.specs.Texts.{refused_text}
+
+-- the status of a report
+abbrev pub status_of : Verdict → Status
+status_of verdicts.Done = statuses.Done
+status_of (verdicts.Reverted cause) = statuses.Reverted
+status_of verdicts.Unfinished = statuses.TurnsSpent
+
+-- whose turns a journal has; a replay has one worker, of number 0
+abbrev pub turns_of : List Entry → List Turn
+turns_of journal = map (λ entry. record { worker = 0; actor = entry.actor }) journal
+
+-- no turn was taken
+pub record IsUntaken (turns : List Turn) (journal : List Entry) : Type 0 where
+  pub no_turns : turns ≡ []
+  pub no_journal : journal ≡ []
+
+-- these are the turns of a replay of the plan, and its journal
+pub record IsRun (plan : PlanData) (turns : List Turn) (journal : List Entry) : Type 0 where
+  pub replay : IsReplay plan journal
+  pub turns_are : turns ≡ turns_of journal
+
+-- the report of a replay whose run has ended, or whose journal is full
+pub record IsReport (plan : PlanData) (journal : List Entry) (printed : Printed) : Type 0 where
+  pub over : is_over plan journal ≡ true
+  pub status_is : printed.status ≡ status_of (verdict_of plan journal)
+  pub text_is : printed.text ≡ report plan journal (verdict_of plan journal) (state_at plan journal).tables
+
+-- what is printed of a replay: its report, or nothing where memory is wanting
+abbrev pub Reports : PlanData → List Entry → Option Printed → Type 0
+Reports plan journal None = Unit {0}
+Reports plan journal (Some printed) = IsReport plan journal printed
+
+-- What comes of a plan: its replay with the report; where memory is wanting nothing is printed, and all or some turns may
+-- not have been taken.
+abbrev pub PlanComes : PlanData → Option Printed → List Turn → List Entry → Type 0
+PlanComes plan None turns journal = IsUntaken turns journal ⊎ IsRun plan turns journal
+PlanComes plan (Some printed) turns journal = IsRun plan turns journal × IsReport plan journal printed
+
+-- the text of the schema that the plan's ALTER leaves
+pub record IsSchemaText (plan : PlanData) (text : List ℕ) : Type 0 where
+  pub schema : Schema
+  pub alters : Alters plan schema
+  pub text_is : text ≡ printed_schema schema
+
+-- the altered schema of a plan, printed
+pub record IsSchema (plan : PlanData) (printed : Printed) : Type 0 where
+  pub status_is : printed.status ≡ statuses.Done
+  pub shows : IsSchemaText plan printed.text
+
+-- what comes of the check of a plan: its altered schema, or nothing where memory is wanting; no turn is taken
+abbrev pub PlanChecks : PlanData → Option Printed → Type 0
+PlanChecks plan None = Unit {0}
+PlanChecks plan (Some printed) = IsSchema plan printed
+
+-- the refusal of bytes
+pub record IsRefusal (refusal : Refusal) (printed : Printed) : Type 0 where
+  pub status_is : printed.status ≡ statuses.Refused
+  pub text_is : printed.text ≡ refused_text refusal
+
+-- what is printed of a refusal, or nothing where memory is wanting
+abbrev pub Refuses : Refusal → Option Printed → Type 0
+Refuses refusal None = Unit {0}
+Refuses refusal (Some printed) = IsRefusal refusal printed
+
+-- What comes of bytes that say this under a command: what comes of the plan, or the refusal without a turn; or nothing is
+-- printed, for want of memory.
+abbrev pub Comes : Command → Result PlanData Refusal → Option Printed → List Turn → List Entry → Type 0
+Comes Check (Ok plan) printed turns journal = IsUntaken turns journal × PlanChecks plan printed
+Comes Replay (Ok plan) printed turns journal = PlanComes plan printed turns journal
+Comes command (Err refusal) printed turns journal = IsUntaken turns journal × Refuses refusal printed

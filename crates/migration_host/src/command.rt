@@ -1,0 +1,10 @@
+//! The commands of the program.
+
+/// What a command line asks for.
+#[derive(Clone, Copy, Debug, PartialEq, Eq)]
+pub enum Command {
+    /// `check`: the altered schema of a plan.
+    Check,
+    /// `replay`: a plan's run, on one thread.
+    Replay,
+}

@@ -1,0 +1,189 @@
+//! What comes of a plan's bytes.
+
+ghost use Rattle.std.specs.Prelude.{◌≡◌, [], ◌++◌, IfSome, IfOk, OnOk, Ok};
+ghost use Rattle.plan_text.specs.Plans.{reads};
+ghost use Rattle.serial_laws.specs.SerialLaws.{IsMigratable};
+ghost use Rattle.plan_replay.specs.Replays.{IsEnd};
+ghost use Rattle.migration_host.specs.Outcomes.{Comes, IsSchemaText, PlanChecks, PlanComes, Refuses, Reports};
+ghost use Rattle.migration_host.specs.Texts.{place_text, refused_text};
+
+use crate::command::Command;
+use crate::status::{Status, status_of};
+use crate::turns::{Turns, turns_of};
+use gho_values::{Sequence, Text};
+use plan_laws::laws::accepted_plans_are_migratable;
+use plan_replay::{End, altered_schema, replay_plan};
+use plan_text::{Plan, PlanFault, Refusal, read_plan};
+use report_text::report;
+use schema_text::print_schema;
+use server_core::Server;
+use server_words::{Journal, Serve};
+use std::alloc::{AllocError, Global};
+
+/// What is printed, and the status that it has where it is printed whole.
+#[derive(Drop)]
+pub struct Printed {
+    /// The status.
+    pub status: Status,
+    /// The text.
+    pub text: Text,
+}
+
+/// What the words and the source come to.
+#[derive(Drop)]
+pub struct Outcome {
+    /// What is printed; none where memory is wanting.
+    pub printed: Option<Printed>,
+    /// Whose turns were taken.
+    pub turns: Turns,
+    /// The turns.
+    pub journal: Journal,
+}
+
+/// What is printed in place of a report.
+pub fn shown(alloc: Global, status: Status, text: &str) -> Option<Printed>
+    ensures { IfSome result (λ printed. printed ≡ record { status = status; text = text.now }) }
+{
+    let mut copy = Text::new(alloc);
+    match copy.push_str(text) {
+        Ok(()) => Some(Printed { status, text: copy }),
+        Err(_) => None,
+    }
+}
+
+/// What comes where no turn is taken. It takes no memory.
+pub fn untaken(alloc: Global, printed: Option<Printed>) -> Outcome
+    ensures { result ≡ record { printed = printed; turns = []; journal = [] } }
+{
+    Outcome {
+        printed,
+        turns: Sequence::new(alloc),
+        journal: Journal::new(alloc),
+    }
+}
+
+fn push_place(into: &mut Text, table: Option<u32>) -> Result<(), AllocError>
+    ensures { OnOk result (into.new ≡ into.old ++ place_text table) }
+{
+    match table {
+        None => Ok(()),
+        Some(table) => {
+            into.push_str(" table ")?;
+            into.push_number(i128::from(table))
+        }
+    }
+}
+
+/// Adds a refusal's number, name and place.
+#[tactic(auto, unfolding(crate::specs::Texts::refused_text))]
+fn push_refusal(into: &mut Text, refusal: Refusal) -> Result<(), AllocError>
+    ensures { OnOk result (into.new ≡ into.old ++ refused_text refusal) }
+{
+    into.push_str("refused ")?;
+    into.push_number(i128::from(refusal.number()))?;
+    into.push_str(" ")?;
+    into.push_str(refusal.name())?;
+    push_place(into, refusal.table())?;
+    into.push_str("\n")
+}
+
+/// What is printed of a refusal.
+fn refused(alloc: Global, refusal: Refusal) -> Option<Printed>
+    ensures { Refuses refusal result }
+{
+    let mut text = Text::new(alloc);
+    match push_refusal(&mut text, refusal) {
+        Ok(()) => Some(Printed {
+            status: Status::Refused,
+            text,
+        }),
+        Err(_) => None,
+    }
+}
+
+/// The report of a replay that ended.
+fn reported(
+    alloc: Global,
+    plan: &Plan,
+    journal: &Journal,
+    end: &Option<End<Server>>,
+) -> Option<Printed>
+    requires { IfSome end.now (λ end. IsEnd plan.now journal.now end.verdict end.server) }
+    ensures { Reports plan.now journal.now result }
+{
+    let end = end.as_ref()?;
+    let tables = end.server.tables();
+    match report(alloc, plan, journal, &end.verdict, tables) {
+        Ok(text) => Some(Printed {
+            status: status_of(&end.verdict),
+            text,
+        }),
+        Err(_) => None,
+    }
+}
+
+/// What comes of a plan.
+fn plan_replayed(alloc: Global, plan: &Plan) -> Outcome
+    requires { IsMigratable plan.now }
+    ensures { PlanComes plan.now result.printed result.turns result.journal }
+{
+    let Ok(left) = replay_plan(alloc, plan) else {
+        return untaken(alloc, None);
+    };
+    let Ok(turns) = turns_of(alloc, left.journal.as_slice()) else {
+        return untaken(alloc, None);
+    };
+    Outcome {
+        printed: reported(alloc, plan, &left.journal, &left.end),
+        turns,
+        journal: left.journal,
+    }
+}
+
+/// The text of the schema that a plan's ALTER leaves.
+fn schema_text(alloc: Global, plan: &Plan) -> Result<Text, AllocError>
+    requires { IsMigratable plan.now }
+    ensures { IfOk result (λ text. IsSchemaText plan.now text) }
+{
+    let schema = altered_schema(alloc, plan)?;
+    let mut text = Text::new(alloc);
+    print_schema(&schema, &mut text)?;
+    Ok(text)
+}
+
+/// What comes of the check of a plan.
+fn plan_checked(alloc: Global, plan: &Plan) -> Option<Printed>
+    requires { IsMigratable plan.now }
+    ensures { PlanChecks plan.now result }
+{
+    match schema_text(alloc, plan) {
+        Ok(text) => Some(Printed {
+            status: Status::Done,
+            text,
+        }),
+        Err(_) => None,
+    }
+}
+
+/// What comes of a plan under a command.
+fn plan_outcome(alloc: Global, command: Command, plan: &Plan) -> Outcome
+    requires { IsMigratable plan.now }
+    ensures { Comes command (Ok plan.now) result.printed result.turns result.journal }
+{
+    match command {
+        Command::Check => untaken(alloc, plan_checked(alloc, plan)),
+        Command::Replay => plan_replayed(alloc, plan),
+    }
+}
+
+/// What comes of a plan's bytes under a command.
+pub fn outcome_of(alloc: Global, command: Command, bytes: &[u8]) -> Outcome
+    ensures { Comes command (reads bytes.now) result.printed result.turns result.journal }
+{
+    accepted_plans_are_migratable();
+    match read_plan(alloc, bytes) {
+        Ok(plan) => plan_outcome(alloc, command, &plan),
+        Err(PlanFault::Refused(refusal)) => untaken(alloc, refused(alloc, refusal)),
+        Err(PlanFault::Memory) => untaken(alloc, None),
+    }
+}
