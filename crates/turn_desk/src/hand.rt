@@ -4,6 +4,7 @@ use std::collections::LinkedList;
 
 /// Where a worker stands in the queue.
 pub enum Stage {
+    /// It has no ticket.
     Rests,
     /// It waits with this ticket.
     Waits(u64),
@@ -11,6 +12,7 @@ pub enum Stage {
     Holds(u64),
 }
 
+/// What a hand is that of.
 pub enum Role<E> {
     /// A worker's number, its own turns, and where it stands.
     Worker(u32, LinkedList<Entry<E>>, Stage),
@@ -18,9 +20,13 @@ pub enum Role<E> {
     Witness,
 }
 
+/// What one pass knows.
 pub struct Hand<O, E> {
+    /// What the book began with.
     pub opening: O,
+    /// The entries that it has seen, in order.
     pub seen: LinkedList<Entry<E>>,
+    /// Whose it is.
     pub role: Role<E>,
 }
 
