@@ -17,7 +17,7 @@ use Rattle.sql_words.specs.declared.front.Front.TheVariants.{Gap, Found}
 use Rattle.sql_words.specs.Characters.{is_white, is_line_end, is_name_start, is_name_byte, is_quote, is_angle, is_sign, begins_with}
 use Rattle.sql_words.specs.Quoted.{length_of, value_of, text_inside, bytes_inside, name_inside}
 use Rattle.sql_words.specs.Front.{size_of, line_length, begins_comment, begins_bytes, bytes_length, bytes_or_name, name_length, quoted, begins_number, digit_count, sign_width, number, sign_length, front_at}
-use Rattle.sql_words.specs.Meaning.{is_all, is_quoted_name, is_text}
+use Rattle.sql_words.specs.Meaning.{is_all, is_quoted_name, is_text, is_bytes}
 use Rattle.sql_words.proofs.Inside.{further, step, text_length-step, is_pair, bytes_length-pair, bytes_length-end, and-false}
 
 -- the first n bytes are at least one, and end between two characters
@@ -275,3 +275,36 @@ quoted_name-by bytes false t first all =
 
 pub quoted_name_is : (bytes : List ℕ) → is_quoted_name bytes ≡ true → IsQuotedName bytes
 quoted_name_is bytes e = quoted_name-by bytes _ refl (eqb-true (get_or bytes 0 0) 96 (first_part _ _ e)) (second_part _ _ e)
+
+-- ---- what stands between quotes
+
+-- the byte at this place and the last are ASCII, and the one stands before the other
+pub record IsBetween (bytes : List ℕ) (before : ℕ) : Type 0 where
+  pub long : before + 2 ≤ length bytes
+  pub first : get_or bytes before 0 < 128
+  pub last : get_or bytes (length bytes - 1) 0 < 128
+
+between : (quote before : ℕ) (bytes : List ℕ) (o : Option ℕ) → quote < 128 → get_or bytes before 0 < 128 → ClosedBy quote (drop (before + 1) bytes) o → is_all o (drop (before + 1) bytes) ≡ true → IsBetween bytes before
+between quote before bytes None ascii first closed all = absurd cc
+between quote before bytes (Some n) ascii first closed all =
+    let c : Closes quote (drop (before + 1) bytes) n = closed n refl in
+    let size : n ≡ length (drop (before + 1) bytes) = eqb-true _ _ all in
+    let here : before + 1 + c.before ≡ length bytes - 1 = omega (arith, size, c.length_is, c.within, length-drop (before + 1) bytes) in
+    let last : get_or bytes (length bytes - 1) 0 ≡ quote = ap (λ k. get_or bytes k 0) (sym here) ∙ sym (get_or-drop (before + 1) bytes c.before 0) ∙ c.at_quote in
+    record { long = omega (arith, size, c.length_is, c.within, length-drop (before + 1) bytes); first = first; last = omega (arith, last, ascii) }
+
+pub text_between : (bytes : List ℕ) → is_text bytes ≡ true → IsBetween bytes 0
+text_between bytes e =
+    let first = get_or bytes 0 0 in
+    let ascii : first < 128 = quote_ascii first (first_part _ _ e) in
+    between first 0 bytes (length_of (text_inside first (drop 1 bytes))) ascii ascii (text_closed first (drop 1 bytes)) (second_part _ _ e)
+
+quote_is_second : (bytes : List ℕ) → begins_bytes bytes ≡ true → get_or bytes 1 0 ≡ 39
+quote_is_second [] e = absurd cc
+quote_is_second (a ∷ []) e = absurd (grind (arith, nat_tests, e))
+quote_is_second (a ∷ b ∷ rest) e = grind (arith, nat_tests, e)
+
+pub bytes_between : (bytes : List ℕ) → is_bytes bytes ≡ true → IsBetween bytes 1
+bytes_between bytes e =
+    let second : get_or bytes 1 0 ≡ 39 = quote_is_second bytes (first_part _ _ e) in
+    between 39 1 bytes (length_of (bytes_inside (drop 2 bytes))) (omega arith) (omega (arith, second)) (bytes_closed (drop 2 bytes)) (second_part _ _ e)

@@ -1,5 +1,5 @@
 -- What a word stands for, by its bytes. Each is None where the bytes are no one such word.
-use Rattle.std.specs.Prelude.{◌≡◌, ℕ, ℤ, pos, neg_ℤ, ◌+◌, ◌<◌, ◌≤◌, Bool, true, false, ◌&&◌, ◌==◌, nat_le, if◌then◌else◌, List, length, drop, slice_index, Option, Some, None}
+use Rattle.std.specs.Prelude.{◌≡◌, ℕ, ℤ, pos, neg_ℤ, ◌+◌, ◌<◌, ◌≤◌, ◌-◌, Bool, true, false, ◌&&◌, ◌==◌, nat_le, if◌then◌else◌, List, length, take, drop, slice_index, Option, Some, None}
 use Rattle.std.specs.Str.{all_ascii_digits}
 use Rattle.std.specs.Str.Parse.{digits_value}
 use Rattle.sql_words.specs.declared.word.WordClass.{WordClass}
@@ -21,6 +21,10 @@ is_text bytes = is_quote (slice_index bytes 0) && is_all (length_of (text_inside
 abbrev pub text_value : List ℕ → Option (List ℕ)
 text_value bytes = if is_text bytes then value_of (text_inside (slice_index bytes 0) (drop 1 bytes)) else None
 
+-- what stands between a text's quotes, as it is written: with its escapes and doubled quotes
+abbrev pub written_text : List ℕ → Option (List ℕ)
+written_text bytes = if is_text bytes then Some (take (length bytes - 2) (drop 1 bytes)) else None
+
 -- the bytes are x'..' or X'..'
 abbrev pub is_bytes : List ℕ → Bool
 is_bytes bytes = begins_bytes bytes && is_all (length_of (bytes_inside (drop 2 bytes))) (drop 2 bytes)
@@ -28,6 +32,10 @@ is_bytes bytes = begins_bytes bytes && is_all (length_of (bytes_inside (drop 2 b
 -- what they stand for ("Hexadecimal Literals")
 abbrev pub bytes_value : List ℕ → Option (List ℕ)
 bytes_value bytes = if is_bytes bytes then value_of (bytes_inside (drop 2 bytes)) else None
+
+-- the digits between the quotes of x'..'
+abbrev pub written_bytes : List ℕ → Option (List ℕ)
+written_bytes bytes = if is_bytes bytes then Some (take (length bytes - 3) (drop 2 bytes)) else None
 
 -- the bytes are a sign and 1 to 38 digits, or these digits alone
 abbrev pub is_number : List ℕ → Bool

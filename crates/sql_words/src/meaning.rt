@@ -5,7 +5,7 @@ ghost use Rattle.std.specs.List.{prefix_len};
 ghost use Rattle.std.specs.String.{string_bytes};
 ghost use Rattle.sql_words.specs.Characters.{is_quote, is_plain};
 ghost use Rattle.sql_words.specs.Quoted.{value_of, escaped, text_inside, bytes_inside};
-ghost use Rattle.sql_words.specs.Meaning.{is_all, is_quoted_name, quoted_name, is_text, is_bytes};
+ghost use Rattle.sql_words.specs.Meaning.{is_all, is_quoted_name, quoted_name, is_text, written_text, is_bytes, written_bytes};
 
 use crate::characters::{hex_digit, is_plain, is_quote};
 use crate::front::{begins_bytes, is_number};
@@ -16,7 +16,7 @@ use std::alloc::{AllocError, Global};
 impl<'a> Word<'a> {
     ghost use Rattle.std.specs.Prelude.{◌≡◌, IfOk, option_map};
     ghost use Rattle.std.specs.String.{string_bytes};
-    ghost use Rattle.sql_words.specs.Meaning.{name_of, text_value, bytes_value, number_value};
+    ghost use Rattle.sql_words.specs.Meaning.{name_of, text_value, written_text, bytes_value, written_bytes, number_value};
 
     /// The name that the word is, without its backquotes, or None where it is no name.
     pub fn name(&self) -> Option<&'a str>
@@ -40,6 +40,13 @@ impl<'a> Word<'a> {
         unquoted(alloc, bytes[0], &self.text[1..])
     }
 
+    /// What stands between the quotes, as it is written, or None where the word is no text. It takes no memory.
+    pub fn written_text(&self) -> Option<&'a str>
+        ensures { option_map (λ text. text.now) result ≡ written_text self.now.text.now }
+    {
+        between_quotes(self.text)
+    }
+
     /// The bytes that the word stands for, or None where it is no bytes.
     pub fn bytes_value(&self, alloc: Global) -> Result<Option<Vec<u8>>, AllocError>
         ensures { IfOk result (λ found. option_map (λ v. v.items) found ≡ bytes_value self.now.text.now) }
@@ -49,6 +56,13 @@ impl<'a> Word<'a> {
             return Ok(None);
         }
         unhexed(alloc, &bytes[2..])
+    }
+
+    /// The digits between the quotes, as they are written, or None where the word is no bytes. It takes no memory.
+    pub fn written_bytes(&self) -> Option<&'a str>
+        ensures { option_map (λ digits. digits.now) result ≡ written_bytes self.now.text.now }
+    {
+        digits_between_quotes(self.text)
     }
 
     /// The number that the word stands for, or None where it is no number of 1 to 38 digits.
@@ -110,6 +124,26 @@ fn is_bytes(bytes: &[u8]) -> bool
     }
     let inside = &bytes[2..];
     is_all(bytes_length(inside), inside)
+}
+
+fn between_quotes(text: &str) -> Option<&str>
+    ensures { option_map (λ inside. inside.now) result ≡ written_text text.now }
+{
+    if is_text(text.as_bytes()) {
+        Some(&text[1..text.len() - 1])
+    } else {
+        None
+    }
+}
+
+fn digits_between_quotes(text: &str) -> Option<&str>
+    ensures { option_map (λ inside. inside.now) result ≡ written_bytes text.now }
+{
+    if is_bytes(text.as_bytes()) {
+        Some(&text[2..text.len() - 1])
+    } else {
+        None
+    }
 }
 
 /// Appends the character that a backslash and this one stand for.

@@ -186,6 +186,20 @@ fn values_of_bytes_and_numbers(rt: HostRuntime) -> Result<(), Fail> {
 }
 
 #[test]
+fn words_as_they_are_written(rt: HostRuntime) {
+    for (text, wanted) in [("''", ""), ("'it''s'", "it''s"), ("\"a\\n'é\"", "a\\n'é")] {
+        let written = only(&rt, text).written_text().expect(&rt, "a text");
+        assert_eq!(rt; written.as_bytes(), wanted.as_bytes(), "of {text:?}");
+        assert!(rt; only(&rt, text).written_bytes().is_none(), "of {text:?}");
+    }
+    for (text, wanted) in [("x''", ""), ("X'00aFf9'", "00aFf9")] {
+        let digits = only(&rt, text).written_bytes().expect(&rt, "bytes");
+        assert_eq!(rt; digits.as_bytes(), wanted.as_bytes(), "of {text:?}");
+        assert!(rt; only(&rt, text).written_text().is_none(), "of {text:?}");
+    }
+}
+
+#[test]
 fn names_of_words(rt: HostRuntime) {
     for (text, wanted) in [
         ("a", "a"),

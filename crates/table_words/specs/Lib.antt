@@ -3,6 +3,7 @@ pub mod Codes
 pub mod Keys
 pub mod Kinds
 pub mod Listed
+pub mod Literals
 pub mod Pieces
 pub mod Reads
 pub mod Scope

@@ -5,6 +5,7 @@ mod attributes;
 mod code;
 mod keys;
 mod kinds;
+mod literals;
 mod pieces;
 mod scope;
 mod token;
@@ -14,6 +15,7 @@ pub use attributes::{Attribute, Attributes, attribute_at};
 pub use code::{SchemaCode, SchemaFault};
 pub use keys::{KeyText, key_at, key_columns_at};
 pub use kinds::kind_at;
+pub use literals::{LiteralRef, read_literal};
 pub use pieces::{
     any_word_at, behind_keyword, behind_sign, keyword_at, literal_at, name_at, sign_at, text_at,
 };

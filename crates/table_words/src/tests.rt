@@ -1,5 +1,7 @@
 //! What no clause says: pieces of tables' texts by the rules of MySQL's manual, and that each call succeeds.
 
+mod literals;
+
 use super::*;
 use gho_values::{Kind, Text, Value, print_value};
 use std::alloc::{AllocError, Global};
