@@ -1,5 +1,2 @@
-pub mod AddedColumns
-pub mod AlteredTables
-pub mod ImagesSoFar
 pub mod Rest
 pub mod RowImages

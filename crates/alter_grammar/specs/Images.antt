@@ -1,5 +1,5 @@
--- What an ALTER makes of rows: *image of a row* and *altered table* (MySQL's manual, "ALTER TABLE Statement", as one
--- mapping of the whole table).
+-- What an ALTER makes of rows: *image of a row* (MySQL's manual, "ALTER TABLE Statement", as one mapping of the whole
+-- table).
 use Rattle.std.specs.Prelude.{◌≡◌, ℕ, ◌+◌, List, [], ◌∷◌, unwrap_or, Option, Some, Result, Ok, Err}
 use Rattle.std.specs.List.{slice_get}
 use Rattle.std.specs.Result.{result_ok}
@@ -7,16 +7,13 @@ use Rattle.gho_values.specs.declared.value.Value.{Value}
 use Rattle.gho_values.specs.declared.value.Value.TheVariants.{Null}
 use Rattle.gho_values.specs.declared.fault.Unfit.{Unfit}
 use Rattle.gho_values.specs.Storing.{stores}
-use Rattle.gho_schema.specs.declared.schema.Schema.{Schema}
-use Rattle.gho_schema.specs.Reading.{◌>>=◌}
-use Rattle.alter_grammar.specs.declared.clause.Clause.{Clause}
+use Rattle.gho_schema.specs.Options.{◌>>=◌}
 use Rattle.alter_grammar.specs.declared.map.MapColumn.{MapColumn}
 use Rattle.alter_grammar.specs.declared.map.Origin.{Origin}
 use Rattle.alter_grammar.specs.declared.map.Origin.TheVariants.{Old, Added}
 use Rattle.alter_grammar.specs.declared.image_fault.UnfitAt.{UnfitAt}
 use Rattle.alter_grammar.specs.declared.image_fault.ImageFault.{ImageFault}
 use Rattle.alter_grammar.specs.declared.image_fault.ImageFault.TheVariants as faults
-use Rattle.alter_grammar.specs.Altering.{altered}
 
 -- What a new column gets from a row before it stores it: the old value, or the added default. A row without the old
 -- place has no value there, which is null.
@@ -62,11 +59,3 @@ images map (row ∷ rows) = do
   first ← result_ok (image map row)
   others ← images map rows
   Some (first ∷ others)
-
--- *Altered table*: the new schema and the image of every row. There is none where the clauses are refused or a row has
--- no image.
-unfoldable pub altered_table : Schema → List (List Value) → List Clause → Option (Schema × List (List Value))
-altered_table schema rows clauses = do
-  new ← altered schema clauses
-  rows ← images new.1 rows
-  Some (new.0, rows)

@@ -1,4 +1,1 @@
-pub mod Altering
-pub mod Clauses
 pub mod Images
-pub mod Laws

@@ -1,15 +1,12 @@
 //! What an ALTER makes of rows.
 
 ghost use Rattle.std.specs.Prelude.{◌≡◌, ◌<◌, ◌^◌, length};
-ghost use Rattle.std.specs.Result.{result_ok};
 ghost use Rattle.gho_values.specs.Storing.{stores};
-ghost use Rattle.alter_grammar.specs.Clauses.{Reads};
-ghost use Rattle.alter_grammar.specs.Images.{source, Fits, Images, image, images};
+ghost use Rattle.alter_grammar.specs.Images.{source, Fits, Images, image};
 
-use crate::fault::AlterFault;
 use crate::image_fault::{ImageFault, UnfitAt};
 use crate::map::{MapColumn, Origin};
-use gho_values::{Row, Rows, Sequence, StoreFault, Value, store};
+use gho_values::{Row, Sequence, StoreFault, Value, store};
 use std::alloc::Global;
 
 fn source<'a>(origin: &'a Origin, row: &'a [Value], null: &'a Value) -> &'a Value
@@ -51,28 +48,4 @@ pub fn image(alloc: Global, map: &[MapColumn], row: &[Value]) -> Result<Row, Ima
         column += 1;
     }
     Ok(made)
-}
-
-/// The image of every row. `NotBuilt` where a row has none: such an ALTER is reverted, which isn't built yet.
-pub fn images(alloc: Global, map: &[MapColumn], rows: &[Row]) -> Result<Rows, AlterFault>
-    requires { length map.now < 2 ^ 32 }
-    ensures { Reads (λ images. images) result (images map.now rows.now) }
-{
-    let mut made = Sequence::new(alloc);
-    for row in rows {
-        let image = image_of(alloc, map, row)?;
-        made.push(image)?;
-    }
-    Ok(made)
-}
-
-fn image_of(alloc: Global, map: &[MapColumn], row: &Row) -> Result<Row, AlterFault>
-    requires { length map.now < 2 ^ 32 }
-    ensures { Reads (λ image. image) result (result_ok (image map.now row.now)) }
-{
-    match image(alloc, map, row.as_slice()) {
-        Ok(image) => Ok(image),
-        Err(ImageFault::Unfit(_)) => Err(AlterFault::NotBuilt),
-        Err(ImageFault::Memory) => Err(AlterFault::Memory),
-    }
 }

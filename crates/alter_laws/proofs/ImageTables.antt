@@ -8,7 +8,7 @@ use Rattle.gho_values.specs.Laws.{StoresAgain}
 use Rattle.gho_values.specs.declared.value.Value.{Value}
 use Rattle.gho_schema.specs.declared.schema.Index.{Index}
 use Rattle.gho_schema.specs.declared.schema.Schema.{Schema}
-use Rattle.gho_schema.specs.Reading.{◌>>=◌}
+use Rattle.gho_schema.specs.Options.{◌>>=◌}
 use Rattle.gho_schema.specs.Rows.{key_of, places_of}
 use Rattle.gho_schema.specs.Tables.{IsRow, Ascends, Apart, clash}
 use Rattle.alter_grammar.specs.declared.image_fault.UnfitAt.{UnfitAt}

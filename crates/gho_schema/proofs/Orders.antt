@@ -7,9 +7,8 @@ use Rattle.std.specs.List.{AllByRecursion, list_any}
 use Rattle.gho_values.specs.declared.value.Value.{Value}
 use Rattle.gho_values.specs.Comparing.{compare_keys}
 use Rattle.gho_schema.specs.declared.schema.Column.{Column}
-use Rattle.gho_schema.specs.declared.schema.Index.{Index}
 use Rattle.gho_schema.specs.Rows.{key_of, has_key, with_row, put}
-use Rattle.gho_schema.specs.Tables.{IsRow, Ascends, clash, Apart}
+use Rattle.gho_schema.specs.Tables.{IsRow, Ascends}
 
 abbrev pub Row : Type 0
 Row = List Value
@@ -59,12 +58,3 @@ pub put_keeps : IsTotalOrder compare_keys → (columns : List Column) (places : 
 put_keeps total columns places row rows new fit ascends fits is =
     let parts = some_put (has_key places rows (key_of places row)) (with_row places row rows) new is in
     rw (← parts.1) (all-with_row (IsRow columns) places row rows fits fit, ascends-with_row total places row rows parts.0 ascends)
-
--- rows in order of the one unique key don't clash
-none_clash : (index : Index) (row : Row) (rows : List Row) → AllByRecursion (λ other. compare_keys (key_of index.places row) (key_of index.places other) ≡ Less) rows → AllByRecursion (λ other. clash (index ∷ []) row other ≡ false) rows
-none_clash index row [] less = tt
-none_clash index row (other ∷ rows) less = (rw less.0 refl, none_clash index row rows less.1)
-
-pub apart : (index : Index) (rows : List Row) → Ascends index.places rows → Apart (index ∷ []) rows
-apart index [] ascends = tt
-apart index (row ∷ rows) ascends = (none_clash index row rows ascends.0, apart index rows ascends.1)

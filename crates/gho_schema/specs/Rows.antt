@@ -1,41 +1,12 @@
--- Which texts are rows of a table, and the order in which a table keeps its rows.
-use Rattle.std.specs.Prelude.{◌≡◌, ℕ, Bool, not, List, [], ◌∷◌, ◌++◌, option_to_list, Option, Some, None, Result, Ok, Err, if◌then◌else◌}
-use Rattle.std.specs.declared.cmp.Ordering.{Ordering}
+-- The order in which a table keeps its rows.
+use Rattle.std.specs.Prelude.{ℕ, Bool, List, [], ◌∷◌, ◌++◌, option_to_list, Option, Some, None, if◌then◌else◌}
 use Rattle.std.specs.Ordering.{is_eq, match_ordering}
 use Rattle.std.specs.List.{list_any, slice_get}
-use Rattle.std.specs.Result.{result_ok}
 use Rattle.gho_values.specs.declared.value.Value.{Value}
-use Rattle.gho_values.specs.declared.value.Value.TheVariants.{Num}
-use Rattle.gho_values.specs.Storing.{stores}
 use Rattle.gho_values.specs.Comparing.{compare_keys}
-use Rattle.gho_schema.specs.declared.schema.Column.{Column}
 use Rattle.gho_schema.specs.declared.schema.Schema.{Schema}
 use Rattle.gho_schema.specs.declared.schema.Index.{Index}
 use Rattle.gho_schema.specs.Clustering.{clustered_key}
-use Rattle.gho_schema.specs.Reading.{◌>>=◌, number_at, sign_at, is_blank}
-
--- a whole number, as the column stores it
-unfoldable pub value_at : Column → List ℕ → Option (Value × List ℕ)
-value_at column text = do
-  number ← number_at text
-  value ← result_ok (stores (Num number.0) column.kind column.nullable)
-  Some (value, number.1)
-
--- a value for each column, each behind its sign: the first behind `sign`, the others behind a comma
-unfoldable pub values_at : List Column → ℕ → List ℕ → Option (List Value × List ℕ)
-values_at [] sign text = Some ([], text)
-values_at (column ∷ columns) sign text = do
-  rest ← sign_at sign text
-  value ← value_at column rest
-  others ← values_at columns 44 value.1
-  Some (value.0 ∷ others.0, others.1)
-
--- A whole text that is a row: one value a column, in parentheses (as one row of MySQL's manual, "VALUES Statement").
-unfoldable pub row_at : List Column → List ℕ → Option (List Value)
-row_at columns text = do
-  values ← values_at columns 40 text
-  rest ← sign_at 41 values.1
-  if is_blank rest then Some values.0 else None
 
 abbrev pub places_of : Option Index → List ℕ
 places_of None = []

@@ -1,5 +1,5 @@
 -- *Table*: a schema and rows that go together.
-use Rattle.std.specs.Prelude.{◌≡◌, ℕ, ◌<◌, Bool, true, false, ◌&&◌, List, [], ◌∷◌, length, Ok}
+use Rattle.std.specs.Prelude.{◌≡◌, ℕ, Bool, true, false, ◌&&◌, List, [], ◌∷◌, Ok}
 use Rattle.std.specs.declared.cmp.Ordering.TheVariants.{Less}
 use Rattle.std.specs.Ordering.{is_eq}
 use Rattle.std.specs.List.{AllByRecursion, list_any}
@@ -41,10 +41,6 @@ clash uniques row other = list_any (λ index. is_eq (compare_keys (key_of index.
 abbrev pub Apart : List Index → List (List Value) → Type 0
 Apart uniques [] = Unit {0}
 Apart uniques (row ∷ rows) = AllByRecursion (λ other. clash uniques row other ≡ false) rows × Apart uniques rows
-
--- each unique key's places are places of columns
-abbrev pub HasKeyPlaces : Schema → Type 0
-HasKeyPlaces schema = AllByRecursion (λ index. AllByRecursion (λ place. place < length schema.columns) index.places) schema.uniques
 
 -- *Table*: each row is one of the schema's columns, the rows stand in order of the clustered key, no two with one key,
 -- and no two clash.

@@ -1,79 +1,35 @@
-//! What no clause says: worked texts and rows by the rules of the form that is read, and that each call succeeds.
+//! What no clause says: worked rows and keys, and that each call succeeds.
 
-mod creates;
+mod clusters;
 mod keys;
-mod reads;
-mod words;
 
-use crate::creating::{INT, read_schema};
-use crate::fault::SchemaFault;
-use crate::rows::read_row;
-use crate::schema::Schema;
-use gho_values::{Row, Text, print_row, print_value};
+use crate::names::same_name;
+use crate::schema::Places;
+use gho_values::{Row, Sequence, Value};
 use std::alloc::{AllocError, Global};
+use std::test::Fail;
 
-/// The schema's columns and keys as a text, or `not built`.
-fn told(alloc: Global, answer: Result<Schema, SchemaFault>) -> Result<Text, AllocError> {
-    let mut told = Text::new(alloc);
-    match answer {
-        Ok(schema) => tell(&schema, &mut told)?,
-        Err(SchemaFault::NotBuilt) => told.push_str("not built")?,
-        Err(SchemaFault::Memory) => return Err(AllocError),
+/// A row of these whole numbers.
+fn row_of(alloc: Global, numbers: &[i128]) -> Result<Row, AllocError> {
+    let mut row = Sequence::new(alloc);
+    for number in numbers {
+        row.push(Value::Num(*number))?;
     }
-    Ok(told)
+    Ok(row)
 }
 
-fn tell(schema: &Schema, told: &mut Text) -> Result<(), AllocError> {
-    told.push_str(schema.name.as_str())?;
-    for column in schema.columns.as_slice() {
-        told.push_str(", ")?;
-        told.push_str(column.name.as_str())?;
-        told.push_str(if column.kind == INT {
-            " INT"
-        } else {
-            " another kind"
-        })?;
-        told.push_str(if column.nullable {
-            " null"
-        } else {
-            " not null"
-        })?;
-        if let Some(default) = &column.default {
-            told.push_str(" default ")?;
-            print_value(default, told)?;
-        }
+fn places_of(alloc: Global, places: &[u32]) -> Result<Places, AllocError> {
+    let mut made = Sequence::new(alloc);
+    for place in places {
+        made.push(*place)?;
     }
-    for index in schema.uniques.as_slice() {
-        told.push_str(match index.name {
-            None => ", primary",
-            Some(_) => ", unique",
-        })?;
-        for place in index.places.as_slice() {
-            told.push_str(" ")?;
-            told.push_number(i128::from(*place))?;
-        }
-    }
+    Ok(made)
+}
+
+#[test]
+fn names_compare_without_the_case_of_ascii_letters(rt: HostRuntime) -> Result<(), Fail> {
+    assert!(rt; same_name(b"Key", b"kEY"));
+    assert!(rt; !same_name(b"key", b"keys"));
+    assert!(rt; !same_name(b"a[", b"a{"));
     Ok(())
-}
-
-/// What is read for a table called `t`.
-fn created(alloc: Global, text: &str) -> Result<Text, AllocError> {
-    told(alloc, read_schema(alloc, text, "t"))
-}
-
-/// The row as a text, or `not built`.
-fn told_row(alloc: Global, answer: Result<Row, SchemaFault>) -> Result<Text, AllocError> {
-    let mut told = Text::new(alloc);
-    match answer {
-        Ok(row) => print_row(row.as_slice(), &mut told)?,
-        Err(SchemaFault::NotBuilt) => told.push_str("not built")?,
-        Err(SchemaFault::Memory) => return Err(AllocError),
-    }
-    Ok(told)
-}
-
-/// What is read as a row of the columns that this text declares.
-fn row_of(alloc: Global, create: &str, text: &str) -> Result<Text, SchemaFault> {
-    let schema = read_schema(alloc, create, "t")?;
-    Ok(told_row(alloc, read_row(alloc, text, schema.columns.as_slice()))?)
 }

@@ -1,11 +1,12 @@
 //! The report that a plan's run should have by the plain model: its ended transactions are run one at a time, in the order
 //! in which they ended, and then the whole table is altered. Nothing here is the server's or the report's code.
 
+ghost use Rattle.std.specs.Prelude.{◌<◌, ◌^◌, length};
 ghost use Rattle.serial_laws.specs.SerialLaws.{IsMigratable};
 
-use alter_grammar::images;
+use alter_grammar::{MapColumn, image};
 use gho_schema::Schema;
-use gho_values::{Duplicate, Row, Sequence, Text, print_row};
+use gho_values::{Duplicate, Row, Rows, Sequence, Text, print_row};
 use plan_replay::altered_plan;
 use plan_text::Plan;
 use script_text::{Actor, ScriptWord, Statement};
@@ -137,6 +138,20 @@ fn push_names(alloc: Global, text: &mut Text, name: &str) -> Result<(), AllocErr
     text.push_str("\n")
 }
 
+/// The image of every row. An ALTER that was done has one of each.
+fn images_of(alloc: Global, map: &[MapColumn], rows: &[Row]) -> Result<Rows, AllocError>
+    requires { length map.now < 2 ^ 32 }
+{
+    let mut images = Sequence::new(alloc);
+    for row in rows {
+        match image(alloc, map, row.as_slice()) {
+            Ok(image) => images.push(image)?,
+            Err(_) => return Err(AllocError),
+        }
+    }
+    Ok(images)
+}
+
 /// Adds a table as the plan's ALTER leaves it.
 fn push_altered(
     alloc: Global,
@@ -151,14 +166,10 @@ fn push_altered(
     if map.len() >= u32::MAX as usize {
         return Err(AllocError);
     }
-    match images(alloc, map.as_slice(), table.rows()) {
-        Ok(rows) => {
-            push_columns(text, &schema)?;
-            push_rows(text, rows.as_slice())?;
-            push_names(alloc, text, schema.name.as_str())
-        }
-        Err(_) => Err(AllocError),
-    }
+    let rows = images_of(alloc, map.as_slice(), table.rows())?;
+    push_columns(text, &schema)?;
+    push_rows(text, rows.as_slice())?;
+    push_names(alloc, text, schema.name.as_str())
 }
 
 /// The report of a run of the plan whose ALTER was done, by the transactions that the journal has.

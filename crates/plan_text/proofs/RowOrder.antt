@@ -9,7 +9,7 @@ use Rattle.gho_values.specs.Storing.{stores}
 use Rattle.gho_values.specs.Laws.{StoresAgain}
 use Rattle.gho_schema.specs.declared.schema.Column.{Column}
 use Rattle.gho_schema.specs.declared.schema.Schema.{Schema}
-use Rattle.gho_schema.specs.Reading.{◌>>=◌}
+use Rattle.gho_schema.specs.Options.{◌>>=◌}
 use Rattle.gho_schema.specs.Rows.{key_places, put}
 use Rattle.gho_schema.specs.Tables.{IsRow, Ascends}
 use Rattle.gho_schema.specs.Laws.{PutKeepsOrder}

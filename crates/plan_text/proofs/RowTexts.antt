@@ -7,7 +7,7 @@ use Rattle.toml.specs.View.{view, items_view}
 use Rattle.toml.proofs.Views.{items_view-drop}
 use Rattle.gho_values.specs.declared.value.Value.{Value}
 use Rattle.gho_schema.specs.declared.schema.Schema.{Schema}
-use Rattle.gho_schema.specs.Reading.{◌>>=◌}
+use Rattle.gho_schema.specs.Options.{◌>>=◌}
 use Rattle.plan_text.specs.declared.fault.Refusal.TheVariants.{TooLong, NotToml, Schema as SchemaRefused, Alter, NotBuilt}
 use Rattle.plan_text.specs.declared.fault.PlanFault.{PlanFault}
 use Rattle.plan_text.specs.declared.fault.PlanFault.TheVariants as faults

@@ -3,7 +3,7 @@ use Rattle.std.proofs.Common.{◌≡◌, ℕ, ◌+◌, ◌<◌, ◌≤◌, Bool,
 use Rattle.std.proofs.lemmas.List.{drop_more, drop_all, append-nil}
 use Rattle.gho_values.specs.declared.value.Value.{Value}
 use Rattle.gho_schema.specs.declared.schema.Column.{Column}
-use Rattle.gho_schema.specs.Reading.{◌>>=◌}
+use Rattle.gho_schema.specs.Options.{◌>>=◌}
 use Rattle.table_words.specs.declared.token.Token.{Token}
 use Rattle.table_words.specs.Pieces.{behind_sign}
 use Rattle.plan_text.specs.declared.fault.Refusal.TheVariants.{TooLong, NotToml, Schema, Alter, NotBuilt}

@@ -6,7 +6,7 @@ use Rattle.toml.specs.Data.{Data, Items, no_items, item, as_str}
 use Rattle.gho_schema.specs.declared.schema.Schema.{Schema}
 use Rattle.gho_schema.specs.declared.schema.Column.{Column}
 use Rattle.gho_schema.specs.Names.{same_name}
-use Rattle.gho_schema.specs.Reading.{◌>>=◌}
+use Rattle.gho_schema.specs.Options.{◌>>=◌}
 use Rattle.gho_schema.specs.Rows.{key_places}
 use Rattle.script_text.specs.declared.script.ScriptLine.{ScriptLine}
 use Rattle.script_text.specs.declared.script.ScriptWord.{ScriptWord}

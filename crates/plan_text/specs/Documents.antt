@@ -1,7 +1,7 @@
 -- Parts of a plan's document (the TOML specification, as the library `toml` states it).
 use Rattle.std.specs.Prelude.{◌≡◌, ℕ, ◌+◌, List, Option, Some, None, Result, Ok, Err}
 use Rattle.toml.specs.Data.{Data, Items, no_items, item, Members, no_members, member, get_member, as_str}
-use Rattle.gho_schema.specs.Reading.{◌>>=◌}
+use Rattle.gho_schema.specs.Options.{◌>>=◌}
 use Rattle.plan_text.specs.declared.fault.Refusal.{Refusal}
 use Rattle.plan_text.specs.declared.fault.Refusal.TheVariants.{TooLong, NotToml, Schema, Alter, NotBuilt}
 use Rattle.plan_text.specs.declared.fault.PlanFault.{PlanFault}

@@ -5,7 +5,7 @@ use Rattle.toml.specs.Data.{Data, Items, no_items, item, as_str}
 use Rattle.gho_values.specs.declared.value.Value.{Value}
 use Rattle.gho_schema.specs.declared.schema.Index.{Index}
 use Rattle.gho_schema.specs.declared.schema.Schema.{Schema}
-use Rattle.gho_schema.specs.Reading.{◌>>=◌}
+use Rattle.gho_schema.specs.Options.{◌>>=◌}
 use Rattle.gho_schema.specs.Rows.{key_places, put}
 use Rattle.gho_schema.specs.Tables.{clash}
 use Rattle.plan_text.specs.RowTexts.{row_at}

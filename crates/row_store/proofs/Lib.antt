@@ -4,7 +4,6 @@ pub mod FoundRows
 pub mod NamedTables
 pub mod Orders
 pub mod Partitions
-pub mod ReadSchemas
 pub mod RenamedTables
 pub mod RowLaws
 pub mod RowsBetween

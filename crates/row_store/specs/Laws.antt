@@ -5,16 +5,11 @@ use Rattle.std.specs.Str.{bytes_eq}
 use Rattle.gho_values.specs.declared.value.Value.{Value}
 use Rattle.gho_values.specs.Comparing.{compare_keys}
 use Rattle.gho_schema.specs.declared.schema.Schema.{Schema}
-use Rattle.gho_schema.specs.Creating.{schema_at}
 use Rattle.gho_schema.specs.Rows.{key_of, key_places, with_row}
 use Rattle.gho_schema.specs.Tables.{IsRow, Ascends, IsTable}
 use Rattle.row_store.specs.RowLists.{is_at, without_key}
 use Rattle.row_store.specs.ClusteredKeys.{HasClusteredKey}
 use Rattle.row_store.specs.Databases.{TableRows, Database, find_table, has_table, clashing, with_change, IsNewIn, IsDatabase, StoredTable, find_stored, database, put_in_table}
-
--- In a schema that is read, the clustered key has columns, none of which may be null.
-abbrev pub ReadSchemasAreClustered : Type 0
-ReadSchemasAreClustered = (migrated text : List ℕ) (schema : Schema) → schema_at migrated text ≡ Some schema → HasClusteredKey schema
 
 -- A row that clashes with none has a new key, and a table with it put in is a table.
 abbrev pub PutKeepsTables : Type 0

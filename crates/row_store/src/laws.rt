@@ -1,13 +1,8 @@
 //! What holds of all rows, tables and databases: each function's contract is a law.
 
-ghost use Rattle.row_store.specs.Laws.{ReadSchemasAreClustered, PutKeepsTables, RemoveKeepsTables, PutIsFound, RemovedIsGone, PutAmongSome, TestsCommute, PutsCommute, PutAndRemoveUndo, NewRowsArePut, ChangesAreFound, ChangesKeepDatabases, FoundWhereItStands};
+ghost use Rattle.row_store.specs.Laws.{PutKeepsTables, RemoveKeepsTables, PutIsFound, RemovedIsGone, PutAmongSome, TestsCommute, PutsCommute, PutAndRemoveUndo, NewRowsArePut, ChangesAreFound, ChangesKeepDatabases, FoundWhereItStands};
 
 use gho_values::laws::nulls_are_stored_where_nullable;
-
-/// In a schema that is read, the clustered key has columns, none of which may be null.
-pub fn read_schemas_are_clustered()
-    ensures { ReadSchemasAreClustered }
-{}
 
 /// A row that clashes with none has a new key, and a table with it put in is a table.
 pub fn put_keeps_tables()

@@ -4,21 +4,52 @@ mod databases;
 mod rows;
 
 use crate::table::Table;
-use gho_schema::{Schema, SchemaFault, key_of, read_row, read_schema};
-use gho_values::{Key, Row, Sequence, Text, Value, print_row};
+use gho_schema::{Column, Index, Schema, key_of};
+use gho_values::{Chars, Key, Kind, Name, Row, Sequence, Text, Value, print_row};
 use std::alloc::{AllocError, Global};
 
-/// A table of this name with a key and another column.
-fn schema_of(alloc: Global, name: &str) -> Result<Schema, SchemaFault> {
-    let mut create = Text::new(alloc);
-    create.push_str("CREATE TABLE ")?;
-    create.push_str(name)?;
-    create.push_str(" (id INT PRIMARY KEY, a INT)")?;
-    read_schema(alloc, create.as_str(), name)
+fn column_of(alloc: Global, name: &str, nullable: bool) -> Result<Column, AllocError> {
+    Ok(Column {
+        name: Name::new(alloc, name)?,
+        kind: Kind::Int {
+            bytes: 4,
+            unsigned: false,
+        },
+        nullable,
+        default: None,
+    })
 }
 
-fn row_of(alloc: Global, schema: &Schema, text: &str) -> Result<Row, SchemaFault> {
-    read_row(alloc, text, schema.columns.as_slice())
+/// A key of the column at this place.
+fn index_of(alloc: Global, name: Option<Name>, place: u32) -> Result<Index, AllocError> {
+    let mut places = Sequence::new(alloc);
+    places.push(place)?;
+    Ok(Index { name, places })
+}
+
+/// A table of this name with the key `id` and another column.
+fn schema_of(alloc: Global, name: &str) -> Result<Schema, AllocError> {
+    let mut columns = Sequence::new(alloc);
+    columns.push(column_of(alloc, "id", false)?)?;
+    columns.push(column_of(alloc, "a", true)?)?;
+    let mut uniques = Sequence::new(alloc);
+    uniques.push(index_of(alloc, None, 0)?)?;
+    Ok(Schema {
+        name: Name::new(alloc, name)?,
+        columns,
+        uniques,
+        indexes: Sequence::new(alloc),
+        comment: Chars::new(alloc, "")?,
+    })
+}
+
+/// A row of these whole numbers.
+fn row_of(alloc: Global, numbers: &[i128]) -> Result<Row, AllocError> {
+    let mut row = Sequence::new(alloc);
+    for number in numbers {
+        row.push(Value::Num(*number))?;
+    }
+    Ok(row)
 }
 
 fn key_of_number(alloc: Global, number: i128) -> Result<Key, AllocError> {
@@ -38,10 +69,9 @@ fn put_new(alloc: Global, table: &mut Table, row: Row) -> Result<bool, AllocErro
     Ok(true)
 }
 
-/// Puts the row of this text, where no row has its key.
-fn put_text(alloc: Global, table: &mut Table, text: &str) -> Result<(), SchemaFault> {
-    let row = row_of(alloc, table.schema(), text)?;
-    put_new(alloc, table, row)?;
+/// Puts the row of these numbers, where no row has its key.
+fn put_numbers(alloc: Global, table: &mut Table, numbers: &[i128]) -> Result<(), AllocError> {
+    put_new(alloc, table, row_of(alloc, numbers)?)?;
     Ok(())
 }
 

@@ -2,12 +2,13 @@
 use Rattle.std.specs.Prelude.{codes, ℕ, Bool, true, false, ◌&&◌, List, [], ◌∷◌, Option, Some, None, if◌then◌else◌}
 use Rattle.std.specs.Result.{result_ok}
 use Rattle.std.specs.Str.{bytes_eq}
+use Rattle.gho_values.specs.declared.kind.Kind.{Kind}
+use Rattle.gho_values.specs.declared.kind.Kind.TheVariants.{Int}
 use Rattle.gho_values.specs.declared.value.Value.{Value}
 use Rattle.gho_values.specs.declared.value.Value.TheVariants.{Num}
 use Rattle.gho_values.specs.Storing.{stores}
-use Rattle.gho_schema.specs.Creating.{int_kind}
 use Rattle.gho_schema.specs.Names.{same_name}
-use Rattle.gho_schema.specs.Reading.{◌>>=◌}
+use Rattle.gho_schema.specs.Options.{◌>>=◌}
 use Rattle.sql_words.specs.declared.word.WordClass.{WordClass}
 use Rattle.sql_words.specs.declared.word.WordClass.TheVariants as class
 use Rattle.sql_words.specs.Reading.{Reading}
@@ -52,6 +53,10 @@ sign_at known (word ∷ words) = if is_this_sign known word then Some words else
 abbrev pub name_at : List Reading → Option (List ℕ × List Reading)
 name_at [] = None
 name_at (word ∷ words) = if is_unquoted word.class then Some (word.text, words) else None
+
+-- INT: whole numbers of four bytes with a sign
+abbrev pub int_kind : Kind
+int_kind = Int 4 false
 
 -- A value: a whole number in INT's range (MySQL's manual, "Integer Types (Exact Value)"). Other literals aren't built yet.
 abbrev pub value_of : Reading → Option Value

@@ -6,10 +6,16 @@ ghost use Rattle.script_text.specs.LineFaults.{Reads};
 ghost use Rattle.script_text.specs.Reading.{is_unquoted, is_sign, is_keyword, is_this_sign, keyword_at, sign_at, name_at, value_of, value_at, is_end};
 
 use crate::fault::LineFault;
-use gho_schema::{INT, same_name};
-use gho_values::{StoreFault, Value, store};
+use gho_schema::same_name;
+use gho_values::{Kind, StoreFault, Value, store};
 use sql_words::{Word, WordClass};
 use std::alloc::Global;
+
+/// INT: whole numbers of four bytes with a sign.
+const INT: Kind = Kind::Int {
+    bytes: 4,
+    unsigned: false,
+};
 
 fn is_unquoted(class: WordClass) -> bool
     ensures { result ≡ is_unquoted class }

@@ -5,20 +5,59 @@ mod statements;
 mod transactions;
 
 use crate::plain::{PlainTable, PlainTables};
-use gho_schema::{SchemaFault, read_row, read_schema};
-use gho_values::{Rows, Sequence, Text, print_row};
+use gho_schema::{Column, Index, Schema};
+use gho_values::{Chars, Kind, Name, Row, Rows, Sequence, Text, Value, print_row};
 use script_text::{LineFault, ScriptWord, read_script};
 use std::alloc::{AllocError, Global};
 
-/// One table, by a CREATE TABLE and its rows.
-fn table_of(alloc: Global, create: &str, rows: &[&str]) -> Result<PlainTables, SchemaFault> {
-    let schema = read_schema(alloc, create, "t")?;
-    let mut read = Sequence::new(alloc);
-    for row in rows {
-        read.push(read_row(alloc, row, schema.columns.as_slice())?)?;
+fn column_of(alloc: Global, name: &str) -> Result<Column, AllocError> {
+    Ok(Column {
+        name: Name::new(alloc, name)?,
+        kind: Kind::Int {
+            bytes: 4,
+            unsigned: false,
+        },
+        nullable: false,
+        default: None,
+    })
+}
+
+/// A table `t` with these columns of INT, the first of which is the key.
+fn schema_of(alloc: Global, names: &[&str]) -> Result<Schema, AllocError> {
+    let mut columns = Sequence::new(alloc);
+    for name in names {
+        columns.push(column_of(alloc, name)?)?;
+    }
+    let mut places = Sequence::new(alloc);
+    places.push(0)?;
+    let mut uniques = Sequence::new(alloc);
+    uniques.push(Index { name: None, places })?;
+    Ok(Schema {
+        name: Name::new(alloc, "t")?,
+        columns,
+        uniques,
+        indexes: Sequence::new(alloc),
+        comment: Chars::new(alloc, "")?,
+    })
+}
+
+/// A row of these whole numbers.
+fn row_of(alloc: Global, numbers: &[i128]) -> Result<Row, AllocError> {
+    let mut row = Sequence::new(alloc);
+    for number in numbers {
+        row.push(Value::Num(*number))?;
+    }
+    Ok(row)
+}
+
+/// One table with these columns and rows.
+fn table_of(alloc: Global, names: &[&str], rows: &[&[i128]]) -> Result<PlainTables, AllocError> {
+    let mut made = Sequence::new(alloc);
+    for numbers in rows {
+        made.push(row_of(alloc, numbers)?)?;
     }
     let mut tables = Sequence::new(alloc);
-    tables.push(PlainTable::new(schema, read))?;
+    tables.push(PlainTable::new(schema_of(alloc, names)?, made))?;
     Ok(tables)
 }
 

@@ -1,16 +1,10 @@
 //! Rows in order of their keys.
 
-use crate::creating::read_schema;
+use super::{places_of, row_of};
 use crate::keyed::{KeyedRows, PutFault, key_of};
-use crate::rows::read_row;
-use crate::schema::Schema;
-use gho_values::{Rows, Sequence, Text, print_row};
+use gho_values::{Rows, Text, print_row};
 use std::alloc::{AllocError, Global};
 use std::test::Fail;
-
-fn schema_of(alloc: Global) -> Result<Schema, Fail> {
-    Ok(read_schema(alloc, "CREATE TABLE t (a INT, id INT PRIMARY KEY)", "t")?)
-}
 
 fn told(alloc: Global, rows: &Rows) -> Result<Text, AllocError> {
     let mut told = Text::new(alloc);
@@ -23,14 +17,11 @@ fn told(alloc: Global, rows: &Rows) -> Result<Text, AllocError> {
 #[test]
 fn rows_come_back_in_order_of_their_keys(rt: HostRuntime) -> Result<(), Fail> {
     let alloc = rt.alloc();
-    let schema = schema_of(alloc)?;
-    let mut places = Sequence::new(alloc);
-    places.push(1)?;
-    let mut keyed = KeyedRows::new(alloc, places);
-    for text in ["(1, 10)", "(9, -3)", "(5, 2)", "(4, -2147483648)"] {
-        keyed.put(alloc, read_row(alloc, text, schema.columns.as_slice())?)?;
+    let mut keyed = KeyedRows::new(alloc, places_of(alloc, &[1])?);
+    for numbers in [[1, 10], [9, -3], [5, 2], [4, -2_147_483_648]] {
+        keyed.put(alloc, row_of(alloc, &numbers)?)?;
     }
-    let again = read_row(alloc, "(7, 2)", schema.columns.as_slice())?;
+    let again = row_of(alloc, &[7, 2])?;
     let is_repeated = match keyed.put(alloc, again) {
         Err(PutFault::Repeated) => true,
         _ => false,
@@ -47,8 +38,7 @@ fn rows_come_back_in_order_of_their_keys(rt: HostRuntime) -> Result<(), Fail> {
 #[test]
 fn keys_are_the_values_at_their_places(rt: HostRuntime) -> Result<(), Fail> {
     let alloc = rt.alloc();
-    let schema = schema_of(alloc)?;
-    let row = read_row(alloc, "(5, 2)", schema.columns.as_slice())?;
+    let row = row_of(alloc, &[5, 2])?;
     for (places, wanted) in [([1, 0].as_slice(), "(2, 5)"), (&[0], "(5)"), (&[2], "()")] {
         let key = key_of(alloc, places, row.as_slice())?;
         let mut told = Text::new(alloc);

@@ -4,24 +4,24 @@ use super::{key_of_number, row_of, schema_of, tell_row};
 use crate::renaming::{NotRenamed, Pair, Pairs, RenameFault};
 use crate::table::Table;
 use crate::tables::{AddFault, Tables};
-use gho_schema::{SchemaFault, key_of};
+use gho_schema::key_of;
 use gho_values::{Duplicate, Key, Name, Row, Sequence, Text};
 use std::alloc::{AllocError, Global};
 use std::test::Fail;
 
-fn add(alloc: Global, tables: &mut Tables, name: &str) -> Result<bool, SchemaFault> {
+fn add(alloc: Global, tables: &mut Tables, name: &str) -> Result<bool, AllocError> {
     match tables.add(Table::new(alloc, schema_of(alloc, name)?)) {
         Ok(()) => Ok(true),
         Err(AddFault::Stands) => Ok(false),
-        Err(AddFault::Memory) => Err(SchemaFault::Memory),
+        Err(AddFault::Memory) => Err(AllocError),
     }
 }
 
-fn two_tables(alloc: Global) -> Result<Tables, SchemaFault> {
+fn two_tables(alloc: Global) -> Result<Tables, AllocError> {
     let mut tables = Tables::new(alloc);
-    add(alloc, &mut tables, "t")?;
-    add(alloc, &mut tables, "T")?;
-    add(alloc, &mut tables, "t")?;
+    add(alloc, &mut tables, "ta")?;
+    add(alloc, &mut tables, "Ta")?;
+    add(alloc, &mut tables, "ta")?;
     Ok(tables)
 }
 
@@ -30,8 +30,9 @@ fn tell_names(tables: &Tables, told: &mut Text) -> Result<(), AllocError> {
     for n in 0..tables.len() {
         let table = tables.at(n);
         told.push_str(table.schema().name.as_str())?;
-        told.push_number(table.len() as i128)?;
         told.push_str(" ")?;
+        told.push_number(table.len() as i128)?;
+        told.push_str(", ")?;
     }
     Ok(())
 }
@@ -50,18 +51,6 @@ fn put_new(alloc: Global, tables: &mut Tables, name: &Name, row: Row) -> Result<
     Ok(true)
 }
 
-fn put_text(
-    alloc: Global,
-    tables: &mut Tables,
-    name: &Name,
-    text: &str,
-) -> Result<(), SchemaFault> {
-    let schema = schema_of(alloc, "x")?;
-    let row = row_of(alloc, &schema, text)?;
-    put_new(alloc, tables, name, row)?;
-    Ok(())
-}
-
 fn tell_taken(
     tables: &mut Tables,
     name: &Name,
@@ -76,10 +65,10 @@ fn tell_taken(
 }
 
 /// What stands before and after rows are put into a table and taken out.
-fn walk(alloc: Global, tables: &mut Tables, name: &Name) -> Result<Text, SchemaFault> {
+fn walk(alloc: Global, tables: &mut Tables, name: &Name) -> Result<Text, AllocError> {
     let mut told = Text::new(alloc);
-    put_text(alloc, tables, name, "(2, 1)")?;
-    put_text(alloc, tables, name, "(2, 2)")?;
+    put_new(alloc, tables, name, row_of(alloc, &[2, 1])?)?;
+    put_new(alloc, tables, name, row_of(alloc, &[2, 2])?)?;
     tell_names(tables, &mut told)?;
     let key = key_of_number(alloc, 2)?;
     tell_taken(tables, name, &key, &mut told)?;
@@ -90,16 +79,16 @@ fn walk(alloc: Global, tables: &mut Tables, name: &Name) -> Result<Text, SchemaF
 #[test]
 fn rows_are_put_by_the_name_of_their_table(rt: HostRuntime) -> Result<(), Fail> {
     let mut tables = two_tables(rt.alloc())?;
-    let name = Name::new(rt.alloc(), "T")?;
+    let name = Name::new(rt.alloc(), "Ta")?;
     let told = walk(rt.alloc(), &mut tables, &name)?;
-    assert_eq!(rt; told.as_str(), "t0 T1 (2, 1)t0 T0 ");
+    assert_eq!(rt; told.as_str(), "ta 0, Ta 1, (2, 1)ta 0, Ta 0, ");
     Ok(())
 }
 
 #[test]
 fn tables_are_copied_and_taken_out(rt: HostRuntime) -> Result<(), Fail> {
     let mut tables = two_tables(rt.alloc())?.copy_tables(rt.alloc())?;
-    let name = Name::new(rt.alloc(), "T")?;
+    let name = Name::new(rt.alloc(), "Ta")?;
     assert!(rt; tables.stands(&name));
     assert!(rt; tables.take(&name).is_some());
     assert!(rt; !tables.is_empty());
@@ -130,8 +119,8 @@ fn tell_renamed(tables: &mut Tables, pairs: &Pairs, told: &mut Text) -> Result<(
     tell_names(tables, told)
 }
 
-/// What comes of renaming in two tables `t` and `T`.
-fn renamed(alloc: Global, names: &[(&str, &str)]) -> Result<Text, SchemaFault> {
+/// What comes of renaming in two tables `ta` and `Ta`.
+fn renamed(alloc: Global, names: &[(&str, &str)]) -> Result<Text, AllocError> {
     let mut told = Text::new(alloc);
     let mut tables = two_tables(alloc)?;
     let pairs = pairs_of(alloc, names)?;
@@ -142,11 +131,11 @@ fn renamed(alloc: Global, names: &[(&str, &str)]) -> Result<Text, SchemaFault> {
 #[test]
 fn names_are_changed_pair_by_pair(rt: HostRuntime) -> Result<(), Fail> {
     let cases = [
-        ([("t", "u"), ("v", "t")], "missing t0 T0 "),
-        ([("t", "u"), ("T", "t")], "done u0 t0 "),
-        ([("t", "u"), ("T", "u")], "stands t0 T0 "),
-        ([("t", "t"), ("T", "u")], "stands t0 T0 "),
-        ([("t", "u"), ("u", "t")], "done t0 T0 "),
+        ([("ta", "u"), ("v", "ta")], "missing ta 0, Ta 0, "),
+        ([("ta", "u"), ("Ta", "ta")], "done u 0, ta 0, "),
+        ([("ta", "u"), ("Ta", "u")], "stands ta 0, Ta 0, "),
+        ([("ta", "ta"), ("Ta", "u")], "stands ta 0, Ta 0, "),
+        ([("ta", "u"), ("u", "ta")], "done ta 0, Ta 0, "),
     ];
     for (names, wanted) in cases {
         assert_eq!(rt; renamed(rt.alloc(), &names)?.as_str(), wanted);

@@ -1,20 +1,19 @@
 //! Rows of one table.
 
-use super::{key_of_number, put_new, put_text, row_of, schema_of, tell, tell_row};
+use super::{index_of, key_of_number, put_new, put_numbers, row_of, schema_of, tell, tell_row};
 use crate::table::Table;
-use gho_schema::{Index, Schema, SchemaFault};
 use gho_values::{Bound, Name, Row, Sequence, Span, Text, Value, print_row};
 use std::alloc::{AllocError, Global};
 use std::test::Fail;
 
-fn put_three(alloc: Global, table: &mut Table) -> Result<(), SchemaFault> {
-    put_text(alloc, table, "(5, 1)")?;
-    put_text(alloc, table, "(-3, 9)")?;
-    put_text(alloc, table, "(2, 5)")?;
-    put_text(alloc, table, "(2, 6)")
+fn put_three(alloc: Global, table: &mut Table) -> Result<(), AllocError> {
+    put_numbers(alloc, table, &[5, 1])?;
+    put_numbers(alloc, table, &[-3, 9])?;
+    put_numbers(alloc, table, &[2, 5])?;
+    put_numbers(alloc, table, &[2, 6])
 }
 
-fn three_rows(alloc: Global) -> Result<Table, SchemaFault> {
+fn three_rows(alloc: Global) -> Result<Table, AllocError> {
     let mut table = Table::new(alloc, schema_of(alloc, "t")?);
     put_three(alloc, &mut table)?;
     Ok(table)
@@ -73,14 +72,6 @@ fn tables_can_be_copied(rt: HostRuntime) -> Result<(), Fail> {
     Ok(())
 }
 
-/// Makes the second column unique too.
-fn add_key(alloc: Global, schema: &mut Schema) -> Result<(), AllocError> {
-    let mut places = Sequence::new(alloc);
-    places.push(1)?;
-    let name = Some(Name::new(alloc, "a")?);
-    schema.uniques.push(Index { name, places })
-}
-
 fn with_null(alloc: Global, number: i128) -> Result<Row, AllocError> {
     let mut row = Sequence::new(alloc);
     row.push(Value::Num(number))?;
@@ -88,15 +79,17 @@ fn with_null(alloc: Global, number: i128) -> Result<Row, AllocError> {
     Ok(row)
 }
 
-fn put_two(alloc: Global, table: &mut Table) -> Result<(), SchemaFault> {
+fn put_two(alloc: Global, table: &mut Table) -> Result<(), AllocError> {
     put_new(alloc, table, with_null(alloc, 1)?)?;
-    put_text(alloc, table, "(2, 5)")
+    put_numbers(alloc, table, &[2, 5])
 }
 
 /// A table with two keys, a row that has none in the second column and a row that has 5.
-fn two_keys(alloc: Global) -> Result<Table, SchemaFault> {
+fn two_keys(alloc: Global) -> Result<Table, AllocError> {
     let mut schema = schema_of(alloc, "t")?;
-    add_key(alloc, &mut schema)?;
+    schema
+        .uniques
+        .push(index_of(alloc, Some(Name::new(alloc, "a")?), 1)?)?;
     let mut table = Table::new(alloc, schema);
     put_two(alloc, &mut table)?;
     Ok(table)
@@ -109,22 +102,13 @@ fn tell_clash(alloc: Global, table: &Table, row: &Row, told: &mut Text) -> Resul
     tell_row(table.clash(row, Some(&key)), told)
 }
 
-fn tell_clash_of(
-    alloc: Global,
-    table: &Table,
-    text: &str,
-    told: &mut Text,
-) -> Result<(), SchemaFault> {
-    let row = row_of(alloc, table.schema(), text)?;
-    Ok(tell_clash(alloc, table, &row, told)?)
-}
-
-fn clashes(alloc: Global, table: &Table, texts: &[&str]) -> Result<Text, SchemaFault> {
+fn clashes(alloc: Global, table: &Table, rows: &[&[i128]]) -> Result<Text, AllocError> {
     let mut told = Text::new(alloc);
     let row = with_null(alloc, 3)?;
     tell_clash(alloc, table, &row, &mut told)?;
-    for text in texts {
-        tell_clash_of(alloc, table, text, &mut told)?;
+    for numbers in rows {
+        let row = row_of(alloc, numbers)?;
+        tell_clash(alloc, table, &row, &mut told)?;
     }
     Ok(told)
 }
@@ -132,7 +116,7 @@ fn clashes(alloc: Global, table: &Table, texts: &[&str]) -> Result<Text, SchemaF
 #[test]
 fn rows_clash_by_values_that_are_not_null(rt: HostRuntime) -> Result<(), Fail> {
     let table = two_keys(rt.alloc())?;
-    let told = clashes(rt.alloc(), &table, &["(3, 5)", "(1, 5)"])?;
+    let told = clashes(rt.alloc(), &table, &[&[3, 5], &[1, 5]])?;
     assert_eq!(rt; told.as_str(), "nonenone(2, 5)none(1, NULL)(1, NULL)");
     Ok(())
 }
@@ -140,7 +124,7 @@ fn rows_clash_by_values_that_are_not_null(rt: HostRuntime) -> Result<(), Fail> {
 #[test]
 fn rows_clash_by_the_clustered_key(rt: HostRuntime) -> Result<(), Fail> {
     let table = three_rows(rt.alloc())?;
-    let told = clashes(rt.alloc(), &table, &["(2, 0)", "(4, 5)"])?;
+    let told = clashes(rt.alloc(), &table, &[&[2, 0], &[4, 5]])?;
     assert_eq!(rt; told.as_str(), "nonenone(2, 5)nonenonenone");
     Ok(())
 }

@@ -1,17 +1,16 @@
 //! A server's tables as plain lists.
 
-use super::tell_tables;
+use super::{row_of, schema_of, tell_tables};
 use crate::plain::plain_tables;
-use gho_schema::{key_of, read_row, read_schema};
+use gho_schema::key_of;
 use gho_values::Text;
 use row_store::{Table, Tables};
 use std::test::Fail;
 
 #[test]
 fn tables_are_copied_with_their_rows(rt: HostRuntime) -> Result<(), Fail> {
-    let schema = read_schema(rt.alloc(), "CREATE TABLE t (id INT PRIMARY KEY)", "t")?;
-    let row = read_row(rt.alloc(), "(7)", schema.columns.as_slice())?;
-    let mut table = Table::new(rt.alloc(), schema);
+    let row = row_of(rt.alloc(), &[7])?;
+    let mut table = Table::new(rt.alloc(), schema_of(rt.alloc(), &["id"])?);
     table.reserve(1)?;
     let key = key_of(rt.alloc(), table.schema().key_places(), row.as_slice())?;
     if table.get(&key).is_none() {

@@ -1,10 +1,10 @@
 //! What single statements say.
 
-use super::{table_of, tell_rows, word_of};
+use super::{row_of, table_of, tell_rows, word_of};
 use crate::plain::PlainTables;
 use crate::statement::says;
 use event_codec::{Change, RowEvent};
-use gho_values::{Name, Sequence, Text, Value, print_row};
+use gho_values::{Name, Text, print_row};
 use script_text::{LineFault, ScriptWord, Statement};
 use server_words::{Answer, Said};
 use std::alloc::{AllocError, Global};
@@ -65,11 +65,7 @@ fn told_of(alloc: Global, tables: &PlainTables, text: &str) -> Result<Text, Line
 
 #[test]
 fn statements_say_what_they_do(rt: HostRuntime) -> Result<(), Fail> {
-    let tables = table_of(
-        rt.alloc(),
-        "CREATE TABLE t (id INT PRIMARY KEY, a INT)",
-        &["(1, 10)", "(3, 30)"],
-    )?;
+    let tables = table_of(rt.alloc(), &["id", "a"], &[&[1, 10], &[3, 30]])?;
     let cases = [
         ("INSERT INTO t VALUES (2, 20)", "ok 1 write t(2, 20)"),
         ("INSERT INTO t VALUES (3, 31)", "refused 1062"),
@@ -96,24 +92,16 @@ fn statements_say_what_they_do(rt: HostRuntime) -> Result<(), Fail> {
 
 /// An INSERT of these numbers into `t`.
 fn insert_of(alloc: Global, numbers: &[i128]) -> Result<Statement, AllocError> {
-    let mut values = Sequence::new(alloc);
-    for number in numbers {
-        values.push(Value::Num(*number))?;
-    }
     Ok(Statement::Insert {
         table: Name::new(alloc, "t")?,
         columns: None,
-        values,
+        values: row_of(alloc, numbers)?,
     })
 }
 
 #[test]
 fn the_first_column_that_does_not_fit_is_named(rt: HostRuntime) -> Result<(), Fail> {
-    let tables = table_of(
-        rt.alloc(),
-        "CREATE TABLE t (id INT PRIMARY KEY, a INT)",
-        &[],
-    )?;
+    let tables = table_of(rt.alloc(), &["id", "a"], &[])?;
     let cases = [
         ([1, 2_147_483_647], "ok 1 write t(1, 2147483647)"),
         ([1, 2_147_483_648], "refused 1264 column 1"),

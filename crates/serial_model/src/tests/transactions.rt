@@ -8,8 +8,6 @@ use server_words::{EndedTxn, Mark, Reply, TxnEnd, TxnLine};
 use std::alloc::{AllocError, Global};
 use std::test::Fail;
 
-const CREATE: &str = "CREATE TABLE t (id INT PRIMARY KEY)";
-
 /// A line that was answered.
 fn line_of(alloc: Global, text: &str) -> Result<TxnLine, LineFault> {
     Ok(TxnLine {
@@ -61,14 +59,14 @@ fn told(alloc: Global, ran: &Ran) -> Result<Text, AllocError> {
 
 /// What a transaction does alone on a table with the row 1.
 fn told_alone(alloc: Global, texts: &[&str], last: Mark, ended: TxnEnd) -> Result<Text, Fail> {
-    let tables = table_of(alloc, CREATE, &["(1)"])?;
+    let tables = table_of(alloc, &["id"], &[&[1]])?;
     let txn = txn_of(alloc, texts, last, ended)?;
     Ok(told(alloc, &alone(alloc, &tables, &txn)?)?)
 }
 
 #[test]
 fn a_key_is_inserted_once(rt: HostRuntime) -> Result<(), Fail> {
-    let tables = table_of(rt.alloc(), CREATE, &[])?;
+    let tables = table_of(rt.alloc(), &["id"], &[])?;
     let insert = "INSERT INTO t VALUES (1)";
     let txn = txn_of(
         rt.alloc(),
@@ -181,7 +179,7 @@ fn what_transactions_leave(rt: HostRuntime) -> Result<(), Fail> {
 
 #[test]
 fn transactions_follow_one_another(rt: HostRuntime) -> Result<(), Fail> {
-    let tables = table_of(rt.alloc(), CREATE, &["(1)"])?;
+    let tables = table_of(rt.alloc(), &["id"], &[&[1]])?;
     let insert = "INSERT INTO t VALUES (2)";
     let mut txns = Vec::new(rt.alloc());
     txns.push(txn_of(rt.alloc(), &[insert], Mark::Answered, TxnEnd::Single)?)?;
