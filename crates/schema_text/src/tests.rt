@@ -2,6 +2,7 @@
 
 mod accepted;
 mod limits;
+mod pairs;
 mod refused;
 
 use crate::{SchemaFault, print_schema, read_schema};
