@@ -11,3 +11,6 @@ mod statement;
 mod view;
 
 pub use server::Server;
+
+#[cfg(test)]
+mod tests;
