@@ -27,6 +27,13 @@ fn told(alloc: Global, literal: Option<LiteralRef<'_>>) -> Result<Text, AllocErr
     Ok(told)
 }
 
+/// What the first word of the text is as a literal.
+fn told_first(alloc: Global, text: &str) -> Result<Text, Fail> {
+    let read = words(alloc, text)?;
+    let word = read.get(0).ok_or("a word")?;
+    Ok(told(alloc, read_literal(word))?)
+}
+
 #[test]
 fn literals_are_told_as_they_are_written(rt: HostRuntime) -> Result<(), Fail> {
     let cases = [
@@ -51,10 +58,7 @@ fn literals_are_told_as_they_are_written(rt: HostRuntime) -> Result<(), Fail> {
         ("(", "none"),
     ];
     for (text, wanted) in cases {
-        let read = words(rt.alloc(), text)?;
-        let word = read.get(0).ok_or("a word")?;
-        let literal = read_literal(word);
-        assert_eq!(rt; told(rt.alloc(), literal)?.as_str(), wanted, "{text}");
+        assert_eq!(rt; told_first(rt.alloc(), text)?.as_str(), wanted, "{text}");
     }
     Ok(())
 }
