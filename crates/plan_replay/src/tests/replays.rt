@@ -1,10 +1,9 @@
 //! Whole replays, and the check of a plan.
 
-use super::{opened, plan_of};
+use super::plan_of;
 use crate::check::{altered_plan, altered_schema};
 use crate::replay::replay_plan;
 use gho_values::Name;
-use migration_core::Replayed;
 use server_words::{Serve, Verdict};
 use std::test::Fail;
 
@@ -18,16 +17,6 @@ fn a_replay_leaves_its_turns_and_both_tables(rt: HostRuntime) -> Result<(), Fail
     assert_eq!(rt; end.server.tables().len(), 2);
     let old = Name::new(rt.alloc(), "_t_del")?;
     assert!(rt; end.server.tables().stands(&old));
-    Ok(())
-}
-
-#[test]
-fn a_run_is_replayed(rt: HostRuntime) -> Result<(), Fail> {
-    let plan = plan_of(rt.alloc())?;
-    let mut run = opened(rt.alloc(), &plan)?;
-    assert!(rt; run.replay(rt.alloc()) == Replayed::Over);
-    assert!(rt; run.ended());
-    assert_eq!(rt; run.turns().len(), 10);
     Ok(())
 }
 
