@@ -1,9 +1,9 @@
 -- The clauses of a text write kinds of this program.
 use Rattle.std.proofs.Common.{◌≡◌, Bool, true, false, ◌||◌, cond, List, [], ◌∷◌, length, Result, Ok, Err, ap, subst, codes}
 use Rattle.std.specs.List.{AllByRecursion}
-use Rattle.alter_grammar.specs.declared.clause.Clause.{Clause}
-use Rattle.alter_grammar.specs.declared.clause.Clause.TheVariants.{Add, Drop, Rename, Change, AddIndex, DropIndex}
-use Rattle.alter_grammar.specs.declared.clause.NewColumn.{NewColumn}
+use Rattle.alter_image.specs.declared.clause.Clause.{Clause}
+use Rattle.alter_image.specs.declared.clause.Clause.TheVariants.{Add, Drop, Rename, Change, AddIndex, DropIndex}
+use Rattle.alter_image.specs.declared.clause.NewColumn.{NewColumn}
 use Rattle.table_words.specs.declared.code.SchemaCode.{SchemaCode}
 use Rattle.table_words.specs.declared.token.Token.{Token}
 use Rattle.table_words.specs.Keys.{key_at}

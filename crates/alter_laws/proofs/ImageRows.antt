@@ -5,7 +5,7 @@ use Rattle.gho_values.specs.Storing.{stores}
 use Rattle.gho_values.specs.declared.value.Value.{Value}
 use Rattle.gho_schema.specs.declared.schema.Column.{Column}
 use Rattle.gho_schema.specs.Tables.{IsRow}
-use Rattle.alter_grammar.specs.Images.{source, image_from, image}
+use Rattle.alter_image.specs.Images.{source, image_from, image}
 use Rattle.alter_schema.specs.Altering.{source_of, map_of}
 use Rattle.alter_laws.specs.Laws.{Altered, ImagesAreRows, MapsFit}
 use Rattle.alter_laws.proofs.Images.{front-of, made-is}

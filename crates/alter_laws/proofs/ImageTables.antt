@@ -11,9 +11,9 @@ use Rattle.gho_schema.specs.declared.schema.Schema.{Schema}
 use Rattle.gho_schema.specs.Options.{◌>>=◌}
 use Rattle.gho_schema.specs.Rows.{key_of, places_of}
 use Rattle.gho_schema.specs.Tables.{IsRow, Ascends, Apart, clash}
-use Rattle.alter_grammar.specs.declared.image_fault.UnfitAt.{UnfitAt}
-use Rattle.alter_grammar.specs.declared.map.MapColumn.{MapColumn}
-use Rattle.alter_grammar.specs.Images.{image, images}
+use Rattle.alter_image.specs.declared.image_fault.UnfitAt.{UnfitAt}
+use Rattle.alter_image.specs.declared.map.MapColumn.{MapColumn}
+use Rattle.alter_image.specs.Images.{image, images}
 use Rattle.gho_schema.specs.Clustering.{clustered_key}
 use Rattle.schema_text.specs.Declaring.{first_reason}
 use Rattle.alter_schema.specs.declared.code.AlterCode.TheVariants as codes

@@ -14,10 +14,10 @@ use Rattle.gho_schema.specs.declared.schema.Column.{Column}
 use Rattle.gho_schema.specs.declared.schema.Schema.{Schema}
 use Rattle.gho_schema.specs.Rows.{key_of}
 use Rattle.gho_schema.specs.Tables.{IsRow}
-use Rattle.alter_grammar.specs.declared.image_fault.UnfitAt.{UnfitAt}
-use Rattle.alter_grammar.specs.declared.map.MapColumn.{MapColumn}
-use Rattle.alter_grammar.specs.declared.map.Origin.TheVariants.{Old}
-use Rattle.alter_grammar.specs.Images.{source, before, value_first, image_from, image}
+use Rattle.alter_image.specs.declared.image_fault.UnfitAt.{UnfitAt}
+use Rattle.alter_image.specs.declared.map.MapColumn.{MapColumn}
+use Rattle.alter_image.specs.declared.map.Origin.TheVariants.{Old}
+use Rattle.alter_image.specs.Images.{source, before, value_first, image_from, image}
 use Rattle.alter_schema.specs.declared.standing.Standing.{Standing}
 use Rattle.alter_schema.specs.Altering.{map_of}
 use Rattle.alter_schema.specs.Columns.{is_key_conversion}

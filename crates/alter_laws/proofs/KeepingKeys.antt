@@ -9,7 +9,7 @@ use Rattle.gho_schema.specs.declared.schema.Index.{Index}
 use Rattle.gho_schema.specs.declared.schema.Schema.{Schema}
 use Rattle.gho_schema.specs.Rows.{key_of}
 use Rattle.gho_schema.specs.Tables.{no_null}
-use Rattle.alter_grammar.specs.declared.clause.Clause.{Clause}
+use Rattle.alter_image.specs.declared.clause.Clause.{Clause}
 use Rattle.gho_schema.specs.Clustering.{is_not_null, clustered_place, unique_at, clustered_key}
 use Rattle.schema_text.specs.Declaring.{first_reason}
 use Rattle.schema_text.specs.Lawful.{IsLawful}

@@ -4,7 +4,7 @@ use Rattle.std.specs.List.{list_all, slice_get, AllByRecursion}
 use Rattle.gho_values.specs.Laws.{StoresAgain}
 use Rattle.gho_schema.specs.declared.schema.Index.{Index}
 use Rattle.gho_schema.specs.declared.schema.Schema.{Schema}
-use Rattle.alter_grammar.specs.declared.clause.Clause.{Clause}
+use Rattle.alter_image.specs.declared.clause.Clause.{Clause}
 use Rattle.gho_schema.specs.Clustering.{is_not_null, clustered_key}
 use Rattle.schema_text.specs.Declaring.{first_reason}
 use Rattle.schema_text.specs.Lawful.{IsKey, IsNotNull, IsLawful}

@@ -6,10 +6,10 @@ use Rattle.gho_schema.specs.declared.schema.Index.{Index}
 use Rattle.gho_schema.specs.declared.schema.Schema.{Schema}
 use Rattle.gho_schema.specs.Rows.{key_of, key_places}
 use Rattle.gho_schema.specs.Tables.{IsRow, IsTable, clash}
-use Rattle.alter_grammar.specs.declared.clause.Clause.{Clause}
-use Rattle.alter_grammar.specs.declared.clause.Clause.TheVariants.{Add, Drop, Rename, Change, AddIndex, DropIndex}
-use Rattle.alter_grammar.specs.declared.map.MapColumn.{MapColumn}
-use Rattle.alter_grammar.specs.Images.{image, images}
+use Rattle.alter_image.specs.declared.clause.Clause.{Clause}
+use Rattle.alter_image.specs.declared.clause.Clause.TheVariants.{Add, Drop, Rename, Change, AddIndex, DropIndex}
+use Rattle.alter_image.specs.declared.map.MapColumn.{MapColumn}
+use Rattle.alter_image.specs.Images.{image, images}
 use Rattle.gho_schema.specs.Clustering.{clustered_key}
 use Rattle.schema_text.specs.Lawful.{is_kind, IsLawful}
 use Rattle.alter_schema.specs.Altering.{altered}

@@ -3,11 +3,11 @@ use Rattle.std.proofs.Common.{◌≡◌, ℕ, Bool, true, false, ◌||◌, cond,
 use Rattle.std.specs.List.{AllByRecursion}
 use Rattle.std.specs.Str.{bytes_eq}
 use Rattle.gho_values.specs.declared.kind.Kind.{Kind}
-use Rattle.alter_grammar.specs.declared.clause.Clause.{Clause}
-use Rattle.alter_grammar.specs.declared.clause.Clause.TheVariants.{Add, Drop, Rename, Change, AddIndex, DropIndex}
-use Rattle.alter_grammar.specs.declared.clause.NewColumn.{NewColumn}
-use Rattle.alter_grammar.specs.declared.clause.Spot.{Spot}
-use Rattle.alter_grammar.specs.declared.clause.Spot.TheVariants.{Unsaid, First, After}
+use Rattle.alter_image.specs.declared.clause.Clause.{Clause}
+use Rattle.alter_image.specs.declared.clause.Clause.TheVariants.{Add, Drop, Rename, Change, AddIndex, DropIndex}
+use Rattle.alter_image.specs.declared.clause.NewColumn.{NewColumn}
+use Rattle.alter_image.specs.declared.clause.Spot.{Spot}
+use Rattle.alter_image.specs.declared.clause.Spot.TheVariants.{Unsaid, First, After}
 use Rattle.table_words.specs.declared.attributes.Attribute.{Attribute}
 use Rattle.table_words.specs.declared.attributes.Attribute.TheVariants.{Nullable, Default, Passed}
 use Rattle.table_words.specs.declared.attributes.Attributes.{Attributes}

@@ -8,10 +8,10 @@ use Rattle.gho_values.specs.Laws.{StoresAgain}
 use Rattle.gho_schema.specs.declared.schema.Column.{Column}
 use Rattle.gho_schema.specs.declared.schema.Index.{Index}
 use Rattle.gho_schema.specs.declared.schema.Schema.{Schema}
-use Rattle.alter_grammar.specs.declared.clause.Clause.{Clause}
-use Rattle.alter_grammar.specs.declared.clause.Clause.TheVariants.{Add, Drop, Rename, Change, AddIndex, DropIndex}
-use Rattle.alter_grammar.specs.declared.clause.NewColumn.{NewColumn}
-use Rattle.alter_grammar.specs.declared.clause.Spot.{Spot}
+use Rattle.alter_image.specs.declared.clause.Clause.{Clause}
+use Rattle.alter_image.specs.declared.clause.Clause.TheVariants.{Add, Drop, Rename, Change, AddIndex, DropIndex}
+use Rattle.alter_image.specs.declared.clause.NewColumn.{NewColumn}
+use Rattle.alter_image.specs.declared.clause.Spot.{Spot}
 use Rattle.table_words.specs.Reads.{◌>>=◌}
 use Rattle.gho_schema.specs.Clustering.{clustered_place}
 use Rattle.schema_text.specs.Declaring.{first_reason}

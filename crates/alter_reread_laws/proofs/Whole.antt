@@ -3,7 +3,7 @@ use Rattle.std.proofs.Common.{◌≡◌, ℕ, Bool, List, Ok, subst}
 use Rattle.std.specs.List.{AllByRecursion}
 use Rattle.gho_values.specs.Laws.{StoresAgain}
 use Rattle.gho_schema.specs.declared.schema.Schema.{Schema}
-use Rattle.alter_grammar.specs.declared.clause.Clause.{Clause}
+use Rattle.alter_image.specs.declared.clause.Clause.{Clause}
 use Rattle.schema_text.specs.Declaring.{first_reason}
 use Rattle.alter_schema.specs.declared.code.AlterCode.{AlterCode}
 use Rattle.alter_schema.specs.Altering.{steps, result_reasons, map_of, result_of, altered}

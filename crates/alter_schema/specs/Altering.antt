@@ -6,11 +6,11 @@ use Rattle.gho_values.specs.declared.value.Value.TheVariants.{Null}
 use Rattle.gho_schema.specs.declared.schema.Column.{Column}
 use Rattle.gho_schema.specs.declared.schema.Index.{Index}
 use Rattle.gho_schema.specs.declared.schema.Schema.{Schema}
-use Rattle.alter_grammar.specs.declared.clause.Clause.{Clause}
-use Rattle.alter_grammar.specs.declared.clause.Clause.TheVariants.{Add, Drop, Rename, Change, AddIndex, DropIndex}
-use Rattle.alter_grammar.specs.declared.map.MapColumn.{MapColumn}
-use Rattle.alter_grammar.specs.declared.map.Origin.{Origin}
-use Rattle.alter_grammar.specs.declared.map.Origin.TheVariants as from
+use Rattle.alter_image.specs.declared.clause.Clause.{Clause}
+use Rattle.alter_image.specs.declared.clause.Clause.TheVariants.{Add, Drop, Rename, Change, AddIndex, DropIndex}
+use Rattle.alter_image.specs.declared.map.MapColumn.{MapColumn}
+use Rattle.alter_image.specs.declared.map.Origin.{Origin}
+use Rattle.alter_image.specs.declared.map.Origin.TheVariants as from
 use Rattle.table_words.specs.Reads.{◌>>=◌}
 use Rattle.gho_schema.specs.Clustering.{is_not_null, clustered_key}
 use Rattle.schema_text.specs.Declaring.{Reasons, first_reason, unless}

@@ -5,9 +5,9 @@ use Rattle.std.specs.List.{remove}
 use Rattle.gho_schema.specs.declared.schema.Column.{Column}
 use Rattle.gho_schema.specs.declared.schema.Schema.{Schema}
 use Rattle.gho_schema.specs.Names.{same_name}
-use Rattle.alter_grammar.specs.declared.clause.NewColumn.{NewColumn}
-use Rattle.alter_grammar.specs.declared.clause.Spot.{Spot}
-use Rattle.alter_grammar.specs.declared.clause.Spot.TheVariants.{Unsaid, First, After}
+use Rattle.alter_image.specs.declared.clause.NewColumn.{NewColumn}
+use Rattle.alter_image.specs.declared.clause.Spot.{Spot}
+use Rattle.alter_image.specs.declared.clause.Spot.TheVariants.{Unsaid, First, After}
 use Rattle.table_words.specs.Reads.{◌>>=◌}
 use Rattle.schema_text.specs.Declaring.{Reasons, first_reason, unless}
 use Rattle.schema_text.specs.Limits.{is_column_name}

@@ -8,9 +8,9 @@ use Rattle.gho_values.specs.declared.value.Value.{Value}
 use Rattle.gho_schema.specs.declared.schema.Column.{Column}
 use Rattle.gho_schema.specs.declared.schema.Index.{Index}
 use Rattle.gho_schema.specs.Names.{same_name}
-use Rattle.alter_grammar.specs.declared.clause.NewColumn.{NewColumn}
-use Rattle.alter_grammar.specs.declared.clause.Spot.{Spot}
-use Rattle.alter_grammar.specs.declared.clause.Spot.TheVariants.{Unsaid, First, After}
+use Rattle.alter_image.specs.declared.clause.NewColumn.{NewColumn}
+use Rattle.alter_image.specs.declared.clause.Spot.{Spot}
+use Rattle.alter_image.specs.declared.clause.Spot.TheVariants.{Unsaid, First, After}
 use Rattle.table_words.specs.Reads.{◌>>=◌}
 use Rattle.schema_text.specs.Defaults.{stored_default, defaults_fit}
 use Rattle.alter_schema.specs.declared.code.AlterCode.{AlterCode}

@@ -9,7 +9,7 @@ ghost use Rattle.alter_schema.specs.Standing.{Stands};
 use crate::code::{AlterCode, AlterFault};
 use crate::columns::{column_of, fitting, has_column, is_spot, spot_place};
 use crate::standing::Standing;
-use alter_grammar::{NewColumn, Spot};
+use alter_image::{NewColumn, Spot};
 use gho_schema::Column;
 use schema_text::is_column_name;
 use std::alloc::Global;

@@ -16,7 +16,7 @@ use crate::indexing::{indexed, unindexed};
 use crate::mapping::map_of;
 use crate::renaming::renamed;
 use crate::standing::Standing;
-use alter_grammar::{Clause, Clauses, ColumnMap};
+use alter_image::{Clause, Clauses, ColumnMap};
 use gho_schema::{Index, Schema, are_not_null, clustered_key};
 use std::alloc::Global;
 

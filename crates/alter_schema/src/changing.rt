@@ -13,7 +13,7 @@ use crate::columns::{
 use crate::conversions::{is_conversion, is_key_conversion};
 use crate::renaming::is_unapproved;
 use crate::standing::{Standing, origin_at, removed};
-use alter_grammar::{NewColumn, Spot};
+use alter_image::{NewColumn, Spot};
 use gho_schema::{Column, Schema, same_name};
 use gho_values::{Duplicate, Name};
 use schema_text::is_column_name;

@@ -6,7 +6,7 @@ ghost use Rattle.alter_schema.specs.Columns.{column_place, has_column, column_na
 
 use crate::code::{AlterCode, AlterFault};
 use crate::standing::Standing;
-use alter_grammar::{NewColumn, Spot};
+use alter_image::{NewColumn, Spot};
 use gho_schema::{Column, Index, same_name};
 use gho_values::{Duplicate, Name, StoreFault, Value};
 use schema_text::{defaults_fit, stored_default};

@@ -1,7 +1,7 @@
 -- Clauses that write a column or an index: ADD, CHANGE and MODIFY ("ALTER TABLE Statement").
 use Rattle.std.specs.Prelude.{codes, ℕ, if◌then◌else◌, List, [], ◌∷◌, Option, Some, None, Result, Ok, Err}
-use Rattle.alter_grammar.specs.declared.clause.Clause.{Clause}
-use Rattle.alter_grammar.specs.declared.clause.Clause.TheVariants.{Add, Change, AddIndex}
+use Rattle.alter_image.specs.declared.clause.Clause.{Clause}
+use Rattle.alter_image.specs.declared.clause.Clause.TheVariants.{Add, Change, AddIndex}
 use Rattle.table_words.specs.declared.token.Token.{Token}
 use Rattle.table_words.specs.Keys.{key_at}
 use Rattle.table_words.specs.Pieces.{name_at}

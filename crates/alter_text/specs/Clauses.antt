@@ -1,7 +1,7 @@
 -- The clauses of an ALTER, and the ALTER TABLE that may stand in front of them ("ALTER TABLE Statement").
 use Rattle.std.specs.Prelude.{codes, ℕ, Bool, true, false, if◌then◌else◌, List, [], ◌∷◌, length, Option, Some, None, Result, Ok, Err}
 use Rattle.std.specs.Str.{bytes_eq}
-use Rattle.alter_grammar.specs.declared.clause.Clause.{Clause}
+use Rattle.alter_image.specs.declared.clause.Clause.{Clause}
 use Rattle.table_words.specs.declared.token.Token.{Token}
 use Rattle.table_words.specs.declared.tokens.TextWords.{TextWords}
 use Rattle.table_words.specs.Listed.{listed}

@@ -1,8 +1,8 @@
 -- A column as a clause writes it, and where it is to stand ("ALTER TABLE Statement").
 use Rattle.std.specs.Prelude.{codes, ℕ, if◌then◌else◌, List, [], ◌∷◌, length, Option, Some, None, Result, Ok, Err}
-use Rattle.alter_grammar.specs.declared.clause.NewColumn.{NewColumn}
-use Rattle.alter_grammar.specs.declared.clause.Spot.{Spot}
-use Rattle.alter_grammar.specs.declared.clause.Spot.TheVariants.{Unsaid, First, After}
+use Rattle.alter_image.specs.declared.clause.NewColumn.{NewColumn}
+use Rattle.alter_image.specs.declared.clause.Spot.{Spot}
+use Rattle.alter_image.specs.declared.clause.Spot.TheVariants.{Unsaid, First, After}
 use Rattle.table_words.specs.declared.attributes.Attribute.{Attribute}
 use Rattle.table_words.specs.declared.attributes.Attributes.{Attributes}
 use Rattle.table_words.specs.declared.token.Token.{Token}

@@ -1,7 +1,7 @@
 -- Clauses that take something away or give it another name: DROP and RENAME ("ALTER TABLE Statement").
 use Rattle.std.specs.Prelude.{codes, ℕ, ◌||◌, if◌then◌else◌, List, [], ◌∷◌, Option, Some, None, Result, Ok, Err}
-use Rattle.alter_grammar.specs.declared.clause.Clause.{Clause}
-use Rattle.alter_grammar.specs.declared.clause.Clause.TheVariants.{Drop, Rename, DropIndex}
+use Rattle.alter_image.specs.declared.clause.Clause.{Clause}
+use Rattle.alter_image.specs.declared.clause.Clause.TheVariants.{Drop, Rename, DropIndex}
 use Rattle.table_words.specs.declared.token.Token.{Token}
 use Rattle.table_words.specs.Pieces.{keyword_at, name_at}
 use Rattle.table_words.specs.Reads.{◌>>=◌}

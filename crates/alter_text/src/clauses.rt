@@ -8,7 +8,7 @@ ghost use Rattle.table_words.specs.Pieces.{behind_keyword};
 use crate::adding::{add_at, change_at, modify_at};
 use crate::pieces::name_at;
 use crate::removing::{drop_at, rename_at};
-use alter_grammar::{Clause, Clauses};
+use alter_image::{Clause, Clauses};
 use alter_schema::{AlterCode, AlterFault};
 use gho_values::{Name, Sequence};
 use std::alloc::Global;

@@ -4,7 +4,7 @@ ghost use Rattle.alter_schema.specs.Codes.{Answers};
 ghost use Rattle.alter_text.specs.Reading.{alter_at};
 
 use crate::clauses::{clauses_at, front_at};
-use alter_grammar::Clauses;
+use alter_image::Clauses;
 use alter_schema::{AlterCode, AlterFault};
 use gho_values::Name;
 use std::alloc::Global;

@@ -5,7 +5,7 @@ use Rattle.gho_values.specs.declared.value.Value.{Value}
 use Rattle.gho_values.specs.declared.span.Bound.TheVariants.{Open}
 use Rattle.gho_values.specs.Comparing.{compare_keys}
 use Rattle.gho_schema.specs.declared.schema.Schema.{Schema}
-use Rattle.alter_grammar.specs.declared.map.MapColumn.{MapColumn}
+use Rattle.alter_image.specs.declared.map.MapColumn.{MapColumn}
 use Rattle.row_store.specs.Databases.{find_table}
 use Rattle.schema_text.specs.Lawful.{IsLawful}
 use Rattle.server_words.specs.declared.answer.Answer.{Answer}

@@ -7,7 +7,7 @@ ghost use Rattle.tool_program.specs.Programs.{plan_altered, tool_asks, asks_requ
 ghost use Rattle.tool_program.specs.Orders.{is_some};
 
 use crate::migration::Migration;
-use alter_grammar::ColumnMap;
+use alter_image::ColumnMap;
 use gho_schema::Schema;
 use gho_values::{Bound, Duplicate, Key, Name, Sequence, Span};
 use row_store::{Pair, Pairs};

@@ -5,7 +5,7 @@ ghost use Rattle.tool_program.specs.Programs.{plan_altered, altered_in};
 ghost use Rattle.tool_program.specs.ToolNames.{ghost_name, old_name};
 ghost use Rattle.migration_core.specs.Calls.{HasLawfulSchema};
 
-use alter_grammar::ColumnMap;
+use alter_image::ColumnMap;
 use alter_schema::{AlterFault, altered};
 use gho_schema::Schema;
 use gho_values::Name;

@@ -4,7 +4,7 @@
 ghost use Rattle.std.specs.Prelude.{◌<◌, ◌^◌, length};
 ghost use Rattle.serial_laws.specs.SerialLaws.{IsMigratable};
 
-use alter_grammar::{MapColumn, image};
+use alter_image::{MapColumn, image};
 use gho_schema::Schema;
 use gho_values::{Duplicate, Row, Rows, Sequence, Text, print_row};
 use plan_replay::altered_plan;

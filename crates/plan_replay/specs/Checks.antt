@@ -1,7 +1,7 @@
 -- *Altered schema* of a plan.
 use Rattle.std.specs.Prelude.{◌≡◌, List, Some}
 use Rattle.gho_schema.specs.declared.schema.Schema.{Schema}
-use Rattle.alter_grammar.specs.declared.map.MapColumn.{MapColumn}
+use Rattle.alter_image.specs.declared.map.MapColumn.{MapColumn}
 use Rattle.plan_text.specs.PlanData.{PlanData}
 use Rattle.tool_program.specs.Programs.{plan_altered}
 

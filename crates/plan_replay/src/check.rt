@@ -5,7 +5,7 @@ ghost use Rattle.tool_program.specs.Programs.{plan_altered};
 ghost use Rattle.serial_laws.specs.SerialLaws.{IsMigratable};
 ghost use Rattle.plan_replay.specs.Checks.{Alters};
 
-use alter_grammar::ColumnMap;
+use alter_image::ColumnMap;
 use gho_schema::Schema;
 use migration_core::plan_altered;
 use plan_text::Plan;

@@ -3,7 +3,7 @@ use Rattle.std.specs.Prelude.{ℕ, List, [], ◌∷◌, if◌then◌else◌, Opt
 use Rattle.std.specs.Str.{bytes_eq}
 use Rattle.gho_schema.specs.declared.schema.Schema.{Schema}
 use Rattle.gho_schema.specs.Options.{◌>>=◌}
-use Rattle.alter_grammar.specs.declared.clause.Clause.{Clause}
+use Rattle.alter_image.specs.declared.clause.Clause.{Clause}
 use Rattle.plan_text.specs.PlanData.{PlanData}
 use Rattle.plan_text.specs.PlanKeys.{PlanKeys}
 use Rattle.plan_text.specs.PlanRows.{rows_in}

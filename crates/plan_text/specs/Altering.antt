@@ -4,8 +4,8 @@ use Rattle.std.specs.Result.{result_ok}
 use Rattle.gho_values.specs.declared.value.Value.{Value}
 use Rattle.gho_schema.specs.declared.schema.Schema.{Schema}
 use Rattle.gho_schema.specs.Options.{◌>>=◌}
-use Rattle.alter_grammar.specs.declared.map.MapColumn.{MapColumn}
-use Rattle.alter_grammar.specs.Images.{images}
+use Rattle.alter_image.specs.declared.map.MapColumn.{MapColumn}
+use Rattle.alter_image.specs.Images.{images}
 use Rattle.alter_schema.specs.Altering.{altered}
 use Rattle.plan_text.specs.PlanData.{PlanData}
 

@@ -1,7 +1,7 @@
 -- What a plan says.
 use Rattle.std.specs.Prelude.{ℕ, Bool, List}
 use Rattle.row_store.specs.Databases.{TableRows, Database}
-use Rattle.alter_grammar.specs.declared.clause.Clause.{Clause}
+use Rattle.alter_image.specs.declared.clause.Clause.{Clause}
 use Rattle.script_text.specs.declared.script.ScriptLine.{ScriptLine}
 
 -- an accepted plan

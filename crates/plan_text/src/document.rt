@@ -15,7 +15,7 @@ use crate::fault::{NOT_BUILT, PlanFault, Refusal};
 use crate::keys::{KeyTexts, keys_at};
 use crate::plan::Plan;
 use crate::rows::rows_in;
-use alter_grammar::Clauses;
+use alter_image::Clauses;
 use alter_schema::altered;
 use alter_text::read_alter;
 use gho_schema::Schema;

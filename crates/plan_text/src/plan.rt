@@ -3,7 +3,7 @@
 ghost use Rattle.std.specs.Prelude.{◌≡◌};
 ghost use Rattle.row_store.specs.Databases.{database};
 
-use alter_grammar::Clauses;
+use alter_image::Clauses;
 use gho_values::{Name, Sequence};
 use row_store::Tables;
 use script_text::Script;

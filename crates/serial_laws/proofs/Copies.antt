@@ -13,9 +13,9 @@ use Rattle.gho_values.specs.Spans.{above}
 use Rattle.gho_values.specs.Storing.{error_number}
 use Rattle.gho_schema.specs.Rows.{key_of, key_places, put}
 use Rattle.gho_schema.specs.Tables.{IsRow, IsTable, Ascends, Apart, clash}
-use Rattle.alter_grammar.specs.declared.image_fault.UnfitAt.{UnfitAt}
-use Rattle.alter_grammar.specs.declared.map.MapColumn.{MapColumn}
-use Rattle.alter_grammar.specs.Images.{image}
+use Rattle.alter_image.specs.declared.image_fault.UnfitAt.{UnfitAt}
+use Rattle.alter_image.specs.declared.map.MapColumn.{MapColumn}
+use Rattle.alter_image.specs.Images.{image}
 use Rattle.event_codec.specs.declared.event.RowEvent.{RowEvent}
 use Rattle.event_codec.specs.declared.event.Change.TheVariants.{Write}
 use Rattle.row_store.specs.RowLists.{is_at}

@@ -11,8 +11,8 @@ use Rattle.gho_schema.specs.declared.schema.Index.{Index}
 use Rattle.gho_schema.specs.declared.schema.Column.{Column}
 use Rattle.gho_schema.specs.Rows.{key_of, key_places, has_key, with_row, put}
 use Rattle.gho_schema.specs.Tables.{IsRow, Ascends, Apart, clash, no_null}
-use Rattle.alter_grammar.specs.declared.map.MapColumn.{MapColumn}
-use Rattle.alter_grammar.specs.Images.{image, images}
+use Rattle.alter_image.specs.declared.map.MapColumn.{MapColumn}
+use Rattle.alter_image.specs.Images.{image, images}
 use Rattle.row_store.specs.Databases.{TableRows, clashing}
 use Rattle.plan_text.specs.Altering.{Altered}
 use Rattle.serial_laws.specs.SerialLaws.{KeepsRows}

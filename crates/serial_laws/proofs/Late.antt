@@ -4,7 +4,7 @@ use Rattle.std.proofs.lemmas.List.{append-nil}
 use Rattle.std.specs.Option.{option_to_list}
 use Rattle.gho_schema.specs.declared.schema.Schema.{Schema}
 use Rattle.gho_schema.specs.Tables.{IsTable}
-use Rattle.alter_grammar.specs.Images.{images}
+use Rattle.alter_image.specs.Images.{images}
 use Rattle.row_store.specs.declared.renaming.Pair.{Pair}
 use Rattle.row_store.specs.Databases.{TableRows, Database, find_table, has_table, rename_tables}
 use Rattle.server_words.specs.declared.entry.Asked.TheVariants.{Call}

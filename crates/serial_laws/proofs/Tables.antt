@@ -16,8 +16,8 @@ use Rattle.gho_schema.specs.declared.schema.Index.{Index}
 use Rattle.gho_schema.specs.Rows.{key_of, key_places, has_key, with_row, put}
 use Rattle.gho_schema.specs.Tables.{IsRow, IsTable, Ascends, Apart, clash}
 use Rattle.gho_schema.specs.Laws.{PutKeepsOrder}
-use Rattle.alter_grammar.specs.declared.image_fault.UnfitAt.{UnfitAt}
-use Rattle.alter_grammar.specs.Images.{value_first}
+use Rattle.alter_image.specs.declared.image_fault.UnfitAt.{UnfitAt}
+use Rattle.alter_image.specs.Images.{value_first}
 use Rattle.event_codec.specs.declared.event.RowEvent.{RowEvent}
 use Rattle.event_codec.specs.declared.event.Change.TheVariants.{Write, Delete}
 use Rattle.row_store.specs.RowLists.{is_at, without_key}

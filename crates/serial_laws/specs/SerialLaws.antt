@@ -4,7 +4,7 @@ use Rattle.gho_values.specs.declared.value.Value.{Value}
 use Rattle.gho_schema.specs.declared.schema.Schema.{Schema}
 use Rattle.gho_schema.specs.Rows.{key_of, key_places}
 use Rattle.gho_schema.specs.Tables.{IsRow, IsTable, clash}
-use Rattle.alter_grammar.specs.Images.{image}
+use Rattle.alter_image.specs.Images.{image}
 use Rattle.row_store.specs.Databases.{TableRows, IsDatabase}
 use Rattle.schema_text.specs.Lawful.{IsLawful}
 use Rattle.server_words.specs.declared.entry.Entry.{Entry}

@@ -2,7 +2,7 @@
 use Rattle.std.specs.Prelude.{◌≡◌, ℕ, ◌-◌, ◌≤◌, true, List, ◌∷◌, count_by, Some}
 use Rattle.std.specs.List.{slice_get}
 use Rattle.gho_values.specs.declared.value.Value.{Value}
-use Rattle.alter_grammar.specs.declared.map.MapColumn.{MapColumn}
+use Rattle.alter_image.specs.declared.map.MapColumn.{MapColumn}
 use Rattle.server_words.specs.declared.answer.Answer.TheVariants as answers
 use Rattle.server_words.specs.declared.cause.Cause.{Cause}
 use Rattle.server_words.specs.declared.cause.Cause.TheVariants.{Unfit}

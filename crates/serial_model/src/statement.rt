@@ -7,7 +7,7 @@ use crate::plain::{PlainTable, PlainTables, find_table};
 use crate::refusing::{only, refuses, refuses_value};
 use crate::rows::{first_clash, row_at_key};
 use crate::stored::{sought, stored_row};
-use alter_grammar::ImageFault;
+use alter_image::ImageFault;
 use event_codec::{Change, RowEvent};
 use gho_values::{Duplicate, Name, Row, Sequence, Value};
 use script_text::{Condition, Shown, Statement};

@@ -3,11 +3,11 @@
 ghost use Rattle.std.specs.Prelude.{◌≡◌, ◌<◌, ◌^◌, length, position, slice_get, option_copied, IfOk};
 ghost use Rattle.gho_values.specs.Storing.{stores};
 ghost use Rattle.gho_schema.specs.Names.{same_name};
-ghost use Rattle.alter_grammar.specs.Images.{Images, Fits};
+ghost use Rattle.alter_image.specs.Images.{Images, Fits};
 ghost use Rattle.server_words.specs.Statements.{stored_row, is_only, sought_in, sought_at, sought};
 
 use crate::refusing::{refuses, refuses_value};
-use alter_grammar::{ImageFault, UnfitAt};
+use alter_image::{ImageFault, UnfitAt};
 use gho_schema::{Column, Schema, same_name};
 use gho_values::{Name, Row, Sequence, StoreFault, Value, seek, store};
 use script_text::{Condition, Set};

@@ -4,10 +4,10 @@ use Rattle.std.proofs.lemmas.List.{append-nil, drop_all, drop_more}
 use Rattle.gho_values.specs.declared.value.Value.{Value}
 use Rattle.gho_values.specs.Storing.{stores}
 use Rattle.gho_schema.specs.declared.schema.Column.{Column}
-use Rattle.alter_grammar.specs.declared.image_fault.UnfitAt.{UnfitAt}
-use Rattle.alter_grammar.specs.declared.image_fault.ImageFault.{ImageFault}
-use Rattle.alter_grammar.specs.declared.image_fault.ImageFault.TheVariants as faults
-use Rattle.alter_grammar.specs.Images.{value_first, before, Fits, Images}
+use Rattle.alter_image.specs.declared.image_fault.UnfitAt.{UnfitAt}
+use Rattle.alter_image.specs.declared.image_fault.ImageFault.{ImageFault}
+use Rattle.alter_image.specs.declared.image_fault.ImageFault.TheVariants as faults
+use Rattle.alter_image.specs.Images.{value_first, before, Fits, Images}
 use Rattle.server_words.specs.Statements.{stored_from}
 
 -- the values so far, and those that are still made

@@ -6,7 +6,7 @@ ghost use Rattle.server_words.specs.Copying.{copies, copies_row};
 
 use crate::refusing::{only, refuses, refuses_value};
 use crate::statement::written;
-use alter_grammar::{ImageFault, MapColumn, image};
+use alter_image::{ImageFault, MapColumn, image};
 use event_codec::Change;
 use gho_values::{Key, Name, Row};
 use row_store::{Table, Tables};

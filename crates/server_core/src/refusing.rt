@@ -3,7 +3,7 @@
 ghost use Rattle.std.specs.Prelude.{◌≡◌};
 ghost use Rattle.server_words.specs.Statements.{refuses, refuses_value, only};
 
-use alter_grammar::UnfitAt;
+use alter_image::UnfitAt;
 use gho_values::Sequence;
 use server_words::{Answer, Said};
 use std::alloc::Global;

@@ -16,7 +16,7 @@ use crate::refusing::refuses;
 use crate::sessions::{begin, is_in_transaction, rest, write, writes_of};
 use crate::statement::says;
 use crate::view::{View, extended, prepare, seen, settled};
-use alter_grammar::MapColumn;
+use alter_image::MapColumn;
 use event_codec::{Events, RowEvent};
 use gho_schema::Schema;
 use gho_values::{Bound, Duplicate, Key, Name, Sequence, Span};

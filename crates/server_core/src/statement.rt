@@ -3,12 +3,12 @@
 ghost use Rattle.std.specs.Prelude.{◌≡◌, ◌<◌, ◌^◌, [], ◌∷◌, length, position, slice_get, option_copied, IfOk, option_to_list};
 ghost use Rattle.gho_values.specs.Storing.{stores};
 ghost use Rattle.gho_schema.specs.Names.{same_name};
-ghost use Rattle.alter_grammar.specs.Images.{Images, Fits};
+ghost use Rattle.alter_image.specs.Images.{Images, Fits};
 ghost use Rattle.row_store.specs.Databases.{database};
 ghost use Rattle.server_words.specs.Statements.{stored_row, written_unless, written_or, inserts, is_only, sought_in, sought_at, sought, deletes_row, deletes, selects, says};
 
 use crate::refusing::{only, refuses, refuses_value};
-use alter_grammar::{ImageFault, UnfitAt};
+use alter_image::{ImageFault, UnfitAt};
 use event_codec::{Change, RowEvent};
 use gho_schema::{Column, Schema, same_name};
 use gho_values::{Duplicate, Key, Name, Row, Sequence, StoreFault, Value, seek, store};

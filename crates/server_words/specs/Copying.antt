@@ -2,9 +2,9 @@
 -- gh-ost's copy of rows; that an image which doesn't fit is refused and never cut is this project's rule).
 use Rattle.std.specs.Prelude.{ℕ, List, [], ◌∷◌, Option, Some, None, Result, Ok, Err}
 use Rattle.gho_values.specs.declared.value.Value.{Value}
-use Rattle.alter_grammar.specs.declared.map.MapColumn.{MapColumn}
-use Rattle.alter_grammar.specs.declared.image_fault.UnfitAt.{UnfitAt}
-use Rattle.alter_grammar.specs.Images.{image}
+use Rattle.alter_image.specs.declared.map.MapColumn.{MapColumn}
+use Rattle.alter_image.specs.declared.image_fault.UnfitAt.{UnfitAt}
+use Rattle.alter_image.specs.Images.{image}
 use Rattle.event_codec.specs.declared.event.Change.TheVariants.{Write}
 use Rattle.row_store.specs.Databases.{TableRows, Database, find_table, row_at_key, clashing}
 use Rattle.server_words.specs.declared.answer.Answer.TheVariants as answers

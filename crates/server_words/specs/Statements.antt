@@ -12,8 +12,8 @@ use Rattle.gho_schema.specs.declared.schema.Schema.{Schema}
 use Rattle.gho_schema.specs.declared.schema.Column.{Column}
 use Rattle.gho_schema.specs.Names.{same_name}
 use Rattle.gho_schema.specs.Rows.{key_places}
-use Rattle.alter_grammar.specs.declared.image_fault.UnfitAt.{UnfitAt}
-use Rattle.alter_grammar.specs.Images.{value_first}
+use Rattle.alter_image.specs.declared.image_fault.UnfitAt.{UnfitAt}
+use Rattle.alter_image.specs.Images.{value_first}
 use Rattle.event_codec.specs.declared.event.RowEvent.{RowEvent}
 use Rattle.event_codec.specs.declared.event.Change.TheVariants.{Write, Delete}
 use Rattle.row_store.specs.Databases.{TableRows, Database, find_table, row_at_key, clashing}

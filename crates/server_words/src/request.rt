@@ -2,7 +2,7 @@
 
 ghost use Rattle.std.specs.Prelude.{◌≡◌, IfOk};
 
-use alter_grammar::ColumnMap;
+use alter_image::ColumnMap;
 use gho_schema::Schema;
 use gho_values::{Bound, Duplicate, Key, Name, Span};
 use row_store::Pairs;

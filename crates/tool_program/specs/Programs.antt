@@ -11,7 +11,7 @@ use Rattle.gho_values.specs.declared.span.Bound.TheVariants.{Open, Closed}
 use Rattle.gho_values.specs.Comparing.{compare_keys}
 use Rattle.gho_schema.specs.declared.schema.Schema.{Schema}
 use Rattle.gho_schema.specs.declared.schema.Column.{Column}
-use Rattle.alter_grammar.specs.declared.map.MapColumn.{MapColumn}
+use Rattle.alter_image.specs.declared.map.MapColumn.{MapColumn}
 use Rattle.row_store.specs.Databases.{TableRows, find_table}
 use Rattle.script_text.specs.declared.actor.Actor.{Actor}
 use Rattle.script_text.specs.declared.actor.Actor.TheVariants.{Insp, Copy, Ren, Client}

@@ -2,7 +2,7 @@
 
 use super::{INT, ask, ask_line, numbers_of, schema_of, server_of};
 use crate::server::Server;
-use alter_grammar::{ColumnMap, MapColumn, Origin};
+use alter_image::{ColumnMap, MapColumn, Origin};
 use gho_values::{Bound, Name, Sequence, Span, Text, Value};
 use row_store::{Pair, Pairs};
 use script_text::LineFault;

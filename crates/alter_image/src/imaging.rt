@@ -2,7 +2,7 @@
 
 ghost use Rattle.std.specs.Prelude.{◌≡◌, ◌<◌, ◌^◌, length};
 ghost use Rattle.gho_values.specs.Storing.{stores};
-ghost use Rattle.alter_grammar.specs.Images.{source, Fits, Images, image};
+ghost use Rattle.alter_image.specs.Images.{source, Fits, Images, image};
 
 use crate::image_fault::{ImageFault, UnfitAt};
 use crate::map::{MapColumn, Origin};

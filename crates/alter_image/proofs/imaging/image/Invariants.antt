@@ -1,7 +1,7 @@
 use Rattle.std.proofs.Common.{◌≡◌, drop}
-use Rattle.alter_grammar.specs.Images.{image_from}
-use Rattle.alter_grammar.proofs.RowImages.{with_front}
-use Rattle.alter_grammar.proofs.imaging.image.Given as goal
+use Rattle.alter_image.specs.Images.{image_from}
+use Rattle.alter_image.proofs.RowImages.{with_front}
+use Rattle.alter_image.proofs.imaging.image.Given as goal
 
 -- the values so far, and those that are still made, are the image
 abbrev pub invariant-loop-new : goal.invariant-loop-new

@@ -1,7 +1,7 @@
 //! Why a row has no image.
 
 ghost use Rattle.std.specs.Prelude.{◌≡◌};
-ghost use Rattle.alter_grammar.specs.declared.image_fault.ImageFault.TheVariants.{Memory};
+ghost use Rattle.alter_image.specs.declared.image_fault.ImageFault.TheVariants.{Memory};
 
 use gho_values::Unfit;
 use std::alloc::{AllocError, AllocFailed, Global};

@@ -8,12 +8,12 @@ use Rattle.gho_values.specs.declared.value.Value.TheVariants.{Null}
 use Rattle.gho_values.specs.declared.fault.Unfit.{Unfit}
 use Rattle.gho_values.specs.Storing.{stores}
 use Rattle.gho_schema.specs.Options.{◌>>=◌}
-use Rattle.alter_grammar.specs.declared.map.MapColumn.{MapColumn}
-use Rattle.alter_grammar.specs.declared.map.Origin.{Origin}
-use Rattle.alter_grammar.specs.declared.map.Origin.TheVariants.{Old, Added}
-use Rattle.alter_grammar.specs.declared.image_fault.UnfitAt.{UnfitAt}
-use Rattle.alter_grammar.specs.declared.image_fault.ImageFault.{ImageFault}
-use Rattle.alter_grammar.specs.declared.image_fault.ImageFault.TheVariants as faults
+use Rattle.alter_image.specs.declared.map.MapColumn.{MapColumn}
+use Rattle.alter_image.specs.declared.map.Origin.{Origin}
+use Rattle.alter_image.specs.declared.map.Origin.TheVariants.{Old, Added}
+use Rattle.alter_image.specs.declared.image_fault.UnfitAt.{UnfitAt}
+use Rattle.alter_image.specs.declared.image_fault.ImageFault.{ImageFault}
+use Rattle.alter_image.specs.declared.image_fault.ImageFault.TheVariants as faults
 
 -- What a new column gets from a row before it stores it: the old value, or the added default. A row without the old
 -- place has no value there, which is null.

@@ -1,7 +1,7 @@
 use Rattle.std.proofs.Common.{arith}
 use Rattle.std.proofs.lemmas.Result.{err_from_is_err_and}
-use Rattle.alter_grammar.proofs.RowImages.{goes_on, fails, is_full}
-use Rattle.alter_grammar.proofs.imaging.image.Goals as goal
+use Rattle.alter_image.proofs.RowImages.{goes_on, fails, is_full}
+use Rattle.alter_image.proofs.imaging.image.Goals as goal
 
 pub returns-in_err-value : goal.returns-in_err-value
 returns-in_err-value c =
