@@ -1,90 +1,76 @@
-//! Runs the top call over the plans of the folder `data`, and says of which the status or the text is another than the
-//! one that stands beside it, or than the plain model's. The file `cases` has a line for each, a command and a name:
-//! `NAME.toml`, `NAME.stdout` and `NAME.status` belong together.
+//! Runs the top call over the cases of the folder `data`, and says of which the status or the text is another than the one
+//! that stands in it, or than the plain model's. The file `files` names the files of cases.
 #![tactic(auto)]
 
+mod cases;
 mod model;
+mod run;
 
-use crate::model::modelled;
-use gho_edges::{BytesSink, BytesSource, OpenGate};
-use migration_host::{Ended, Line, ghost_};
-use plan_laws::laws::accepted_plans_are_migratable;
-use plan_text::read_plan;
+use crate::cases::Case;
+use crate::run::is_as_expected;
+use std::alloc::AllocError;
 use std::rt::Files;
 use std::sync::Wait;
 use std::thread::Threads;
 use std::{fs, io};
 
-/// How a call of the program ended, and what it printed.
-#[derive(Drop)]
-struct Printed {
-    ended: Ended,
-    sink: BytesSink,
+/// How many cases a file has, and how many of them are as expected.
+#[derive(Clone, Copy)]
+struct Count {
+    cases: u64,
+    expected: u64,
 }
 
-/// What the top call prints of a plan under a command.
-fn printed_of<R: Threads + Wait + Sync + AllocGlobal>(
+/// Runs a case, and says so where it isn't as expected.
+fn run_case<R: Print + Threads + Wait + Sync + AllocGlobal>(
     rt: &R,
-    command: &str,
-    plan: Vec<u8>,
-) -> io::Result<Printed> {
-    let mut line = Line::new(rt.alloc());
-    line.push(rt.alloc(), command)?;
-    let mut source = BytesSource::new(plan, None);
-    let mut sink = BytesSink::new(rt.alloc(), None);
-    let ended = ghost_(rt, rt.alloc(), &line, &mut source, &mut sink, &OpenGate);
-    Ok(Printed { ended, sink })
-}
-
-/// What a file of a case holds.
-fn held<R: Files + AllocGlobal>(rt: &R, name: &str, end: &str) -> io::Result<Vec<u8>> {
-    let path = format!(in rt.alloc(); "{name}.{end}")?;
-    fs::read(rt, path.as_str())
-}
-
-/// Whether the plain model says what was printed, where turns were taken and the ALTER was done.
-fn is_modelled<R: AllocGlobal>(rt: &R, plan: &[u8], printed: &Printed) -> io::Result<bool> {
-    if printed.ended.status != 0 || printed.ended.journal.is_empty() {
-        return Ok(true);
+    count: &mut Count,
+    case: &Case<'_>,
+) -> io::Result<()> {
+    count.cases = count.cases.saturating_add(1);
+    if is_as_expected(rt, case)? {
+        count.expected = count.expected.saturating_add(1);
+        Ok(())
+    } else {
+        println!(rt; "{} is not as expected", case.name)
     }
-    accepted_plans_are_migratable();
-    match read_plan(rt.alloc(), plan) {
-        Ok(plan) => {
-            let text = modelled(rt.alloc(), &plan, &printed.ended.journal)?;
-            Ok(text.as_str().as_bytes() == printed.sink.held())
+}
+
+/// Runs the cases of a text, and counts them.
+fn run_cases<R: Print + Threads + Wait + Sync + AllocGlobal>(
+    rt: &R,
+    text: &str,
+) -> io::Result<Count> {
+    let mut count = Count {
+        cases: 0,
+        expected: 0,
+    };
+    let mut case: Option<Case<'_>> = None;
+    for line in text.lines() {
+        if let Some(head) = line.strip_prefix("#### case ") {
+            if let Some(case) = case {
+                run_case(rt, &mut count, &case)?;
+            }
+            case = Some(Case::new(rt.alloc(), head));
+        } else if let Some(case) = &mut case {
+            case.add(line)?;
         }
-        Err(_) => Ok(false),
     }
-}
-
-/// Whether a case prints what stands beside it, with the status that stands there, and what the model says.
-fn is_as_expected<R: Files + Threads + Wait + Sync + AllocGlobal>(
-    rt: &R,
-    command: &str,
-    name: &str,
-) -> io::Result<bool> {
-    let plan = held(rt, name, "toml")?;
-    let printed = printed_of(rt, command, held(rt, name, "toml")?)?;
-    let status = format!(in rt.alloc(); "{}\n", printed.ended.status)?;
-    Ok(
-        held(rt, name, "status")?.as_slice() == status.as_bytes()
-            && held(rt, name, "stdout")?.as_slice() == printed.sink.held()
-            && is_modelled(rt, plan.as_slice(), &printed)?,
-    )
+    if let Some(case) = case {
+        run_case(rt, &mut count, &case)?;
+    }
+    Ok(count)
 }
 
 fn main(rt: HostRuntime) -> io::Result<()> {
-    let names = fs::read_to_string(&rt, "cases")?;
-    let mut cases = 0u64;
-    let mut expected = 0u64;
-    for case in names.lines() {
-        cases = cases.saturating_add(1);
-        let (command, name) = case.split_once(' ').unwrap_or((case, ""));
-        if is_as_expected(&rt, command, name)? {
-            expected = expected.saturating_add(1);
-        } else {
-            println!(&rt; "{case} is not as expected")?;
-        }
+    let names = fs::read_to_string(&rt, "files")?;
+    for name in names.lines() {
+        let text = fs::read_to_string(&rt, name)?;
+        let count = run_cases(&rt, text.as_str())?;
+        println!(&rt;
+            "{name}: {} of {} cases are as expected",
+            count.expected, count.cases
+        )?;
     }
-    println!(&rt; "{expected} of {cases} plans are as expected")
+    Ok(())
 }
