@@ -10,11 +10,11 @@ use Rattle.script_text.specs.declared.actor.Actor.{Actor}
 use Rattle.script_text.specs.declared.actor.Actor.TheVariants.{Client}
 use Rattle.script_text.specs.declared.script.ScriptLine.{ScriptLine}
 use Rattle.server_words.specs.declared.entry.Entry.{Entry}
-use Rattle.plan_text.specs.PlanData.{PlanData}
-use Rattle.plan_text.specs.Journals.{same_actor, turns_of, script_of}
+use Rattle.plan_words.specs.PlanData.{PlanData, plan_altered}
+use Rattle.plan_words.specs.Journals.{same_actor, turns_of, script_of}
 use Rattle.tool_program.specs.declared.tool.Tool.{Tool}
 use Rattle.tool_program.specs.declared.tool.Tool.TheVariants.{Creating}
-use Rattle.tool_program.specs.Programs.{plan_altered, session_named, Progress, progress, after_turn}
+use Rattle.tool_program.specs.Programs.{session_named, Progress, progress, after_turn}
 use Rattle.tool_program.specs.Orders.{actors, clients_from, last_actor}
 use Rattle.migration_core.specs.declared.seat.Seat.{Seat}
 use Rattle.migration_core.specs.Books.{seat_at, marked, place_of, IsBook}

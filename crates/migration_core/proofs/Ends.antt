@@ -8,12 +8,11 @@ use Rattle.script_text.specs.declared.actor.Actor.TheVariants.{Op, Insp, Copy, A
 use Rattle.script_text.specs.declared.script.ScriptLine.{ScriptLine}
 use Rattle.server_words.specs.declared.entry.Asked.{Asked}
 use Rattle.server_words.specs.declared.entry.Entry.{Entry}
-use Rattle.plan_text.specs.PlanData.{PlanData}
-use Rattle.plan_text.specs.Altering.{Altered}
-use Rattle.plan_text.specs.Journals.{same_actor, is_client}
+use Rattle.plan_words.specs.PlanData.{PlanData, Altered, plan_altered}
+use Rattle.plan_words.specs.Journals.{same_actor, is_client}
 use Rattle.tool_program.specs.declared.tool.Tool.{Tool}
 use Rattle.tool_program.specs.declared.tool.Tool.TheVariants.{Creating, Reaching, Choosing, Spanning, Copying, Renaming, Done, Reverting, Reverted}
-use Rattle.tool_program.specs.Programs.{plan_altered, progress, tool_actor, tool_call, tool_asks, is_none, over_from, clients_over, given, is_over, has_ended}
+use Rattle.tool_program.specs.Programs.{progress, tool_actor, tool_call, tool_asks, is_none, over_from, clients_over, given, is_over, has_ended}
 use Rattle.tool_program.specs.Orders.{actors, clients_from, behind_last, last_actor, is_some, is_ready, next_actor}
 use Rattle.migration_core.proofs.Givens.{given_to_tool}
 

@@ -7,9 +7,9 @@ use Rattle.script_text.specs.declared.actor.Actor.TheVariants.{Op, Insp, Copy, A
 use Rattle.script_text.specs.declared.script.ScriptLine.{ScriptLine}
 use Rattle.server_words.specs.declared.entry.Asked.{Asked}
 use Rattle.server_words.specs.declared.entry.Entry.{Entry}
-use Rattle.plan_text.specs.PlanData.{PlanData}
-use Rattle.plan_text.specs.Journals.{same_actor, is_client, turns_of, script_of, script_asks, client_asks}
-use Rattle.tool_program.specs.Programs.{plan_altered, progress, tool_actor, tool_asks, clients_over, given}
+use Rattle.plan_words.specs.PlanData.{PlanData, plan_altered}
+use Rattle.plan_words.specs.Journals.{same_actor, is_client, turns_of, script_of, script_asks, client_asks}
+use Rattle.tool_program.specs.Programs.{progress, tool_actor, tool_asks, clients_over, given}
 use Rattle.tool_program.specs.Orders.{actors}
 use Rattle.migration_core.specs.Books.{place_of}
 use Rattle.migration_core.proofs.Books.{client_stands}

@@ -11,8 +11,8 @@ use Rattle.server_words.specs.declared.entry.Asked.{Asked}
 use Rattle.server_words.specs.declared.entry.Entry.{Entry}
 use Rattle.server_words.specs.Along.{Along-more}
 use Rattle.server_words.specs.States.{State}
-use Rattle.plan_text.specs.PlanData.{PlanData}
-use Rattle.plan_text.specs.Journals.{opening, is_client, same_actor, after_entry, state_at, IsAnswered, IsFaithful, TakesLine, IsPlanned, KeepsPlan}
+use Rattle.plan_words.specs.PlanData.{PlanData}
+use Rattle.plan_words.specs.Journals.{opening, is_client, same_actor, after_entry, state_at, IsAnswered, IsFaithful, TakesLine, IsPlanned, KeepsPlan}
 use Rattle.tool_program.specs.Programs.{given, session_named, session_for, IsGiven, Follows}
 use Rattle.tool_program.specs.Orders.{is_some}
 use Rattle.migration_core.specs.Runs.{opened_for, connected_for, served, turn_of, with_turn, journal_after, IsKept}

@@ -16,7 +16,7 @@ use Rattle.server_words.specs.Chunks.{span_keys}
 use Rattle.server_words.specs.Copying.{copies}
 use Rattle.server_words.specs.Statements.{says}
 use Rattle.server_words.specs.Serving.{answered, creates, begins, renames}
-use Rattle.plan_text.specs.Journals.{is_live, serves_asked}
+use Rattle.plan_words.specs.Journals.{is_live, serves_asked}
 
 -- the session of this number is live
 abbrev pub live : ℕ → State → Bool

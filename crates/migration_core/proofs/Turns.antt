@@ -7,7 +7,7 @@ use Rattle.script_text.specs.declared.actor.Actor.{Actor}
 use Rattle.server_words.specs.declared.entry.Asked.{Asked}
 use Rattle.server_words.specs.declared.entry.Entry.{Entry}
 use Rattle.server_words.specs.Along.{Along-more}
-use Rattle.plan_text.specs.PlanData.{PlanData}
+use Rattle.plan_words.specs.PlanData.{PlanData}
 use Rattle.tool_program.specs.Programs.{given, has_ended}
 use Rattle.tool_program.specs.Orders.{is_some, next_actor, ReplayOrder}
 use Rattle.migration_core.specs.declared.run.Stepped.{Stepped}

@@ -3,10 +3,10 @@ use Rattle.std.specs.Prelude.{◌≡◌, ℕ, ◌+◌, ◌<◌, if◌then◌else
 use Rattle.script_text.specs.declared.actor.Actor.{Actor}
 use Rattle.script_text.specs.declared.actor.Actor.TheVariants.{Op, Insp, Copy, Apply, Lock, Ren, Client}
 use Rattle.server_words.specs.declared.entry.Entry.{Entry}
-use Rattle.plan_text.specs.PlanData.{PlanData}
-use Rattle.plan_text.specs.Journals.{same_actor, turns_of}
+use Rattle.plan_words.specs.PlanData.{PlanData, plan_altered}
+use Rattle.plan_words.specs.Journals.{same_actor, turns_of}
 use Rattle.tool_program.specs.declared.tool.Tool.{Tool}
-use Rattle.tool_program.specs.Programs.{plan_altered, session_named, progress}
+use Rattle.tool_program.specs.Programs.{session_named, progress}
 use Rattle.tool_program.specs.Orders.{actors, last_actor}
 use Rattle.migration_core.specs.declared.seat.Seat.{Seat}
 

@@ -11,11 +11,11 @@ use Rattle.schema_text.specs.Lawful.{IsLawful}
 use Rattle.server_words.specs.declared.answer.Answer.{Answer}
 use Rattle.server_words.specs.declared.answer.Answer.TheVariants as answers
 use Rattle.server_words.specs.declared.cause.Cause.TheVariants.{Unfit}
-use Rattle.plan_text.specs.PlanData.{PlanData}
+use Rattle.plan_words.specs.PlanData.{PlanData, plan_altered}
 use Rattle.tool_program.specs.declared.tool.Tool.{Tool}
 use Rattle.tool_program.specs.declared.tool.Tool.TheVariants.{Choosing, Copying, Renaming, Reverting}
 use Rattle.tool_program.specs.ToolNames.{ghost_name, old_name}
-use Rattle.tool_program.specs.Programs.{plan_altered, new_column}
+use Rattle.tool_program.specs.Programs.{new_column}
 use Rattle.migration_core.specs.declared.next.Next.{Next}
 use Rattle.migration_core.specs.declared.next.Next.TheVariants.{Same, Copied, Becomes}
 

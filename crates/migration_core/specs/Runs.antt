@@ -5,8 +5,8 @@ use Rattle.server_words.specs.declared.entry.Asked.{Asked}
 use Rattle.server_words.specs.declared.entry.Entry.{Entry}
 use Rattle.server_words.specs.States.{State, session_of, connected}
 use Rattle.server_words.specs.Serving.{Served}
-use Rattle.plan_text.specs.PlanData.{PlanData}
-use Rattle.plan_text.specs.Journals.{is_live, is_client, serves_asked, state_at, IsFaithful, KeepsPlan}
+use Rattle.plan_words.specs.PlanData.{PlanData}
+use Rattle.plan_words.specs.Journals.{is_live, is_client, serves_asked, state_at, IsFaithful, KeepsPlan}
 use Rattle.tool_program.specs.Programs.{given, session_named, session_for, has_ended, Follows}
 use Rattle.tool_program.specs.Orders.{is_ready, ReplayOrder}
 use Rattle.migration_core.specs.declared.run.Stepped.{Stepped}

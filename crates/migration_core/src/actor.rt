@@ -1,7 +1,7 @@
 //! The actors in their fixed order.
 
 ghost use Rattle.std.specs.Prelude.{◌≡◌};
-ghost use Rattle.plan_text.specs.Journals.{same_actor, is_client};
+ghost use Rattle.plan_words.specs.Journals.{same_actor, is_client};
 ghost use Rattle.migration_core.specs.Books.{place_of};
 ghost use Rattle.tool_program.specs.Programs.{tool_actor, is_over};
 

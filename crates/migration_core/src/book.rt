@@ -4,8 +4,9 @@ ghost use Rattle.std.specs.Prelude.{◌≡◌, ◌+◌, ◌<◌, [], ◌∷◌, 
 ghost use Rattle.script_text.specs.declared.actor.Actor.TheVariants.{Op, Insp, Copy, Apply, Lock, Ren};
 ghost use Rattle.server_words.specs.declared.entry.Asked.TheVariants.{Call};
 ghost use Rattle.server_words.specs.declared.request.Request.TheVariants.{Do};
-ghost use Rattle.plan_text.specs.Journals.{script_of, client_asks, line_asks, word_asks};
-ghost use Rattle.tool_program.specs.Programs.{plan_altered, clients_over, session_named, progress, after_turn};
+ghost use Rattle.plan_words.specs.Journals.{script_of, client_asks, line_asks, word_asks};
+ghost use Rattle.plan_words.specs.PlanData.{plan_altered};
+ghost use Rattle.tool_program.specs.Programs.{clients_over, session_named, progress, after_turn};
 ghost use Rattle.tool_program.specs.Orders.{actors, last_actor};
 ghost use Rattle.migration_core.specs.Calls.{HasLawfulSchema, applied};
 ghost use Rattle.migration_core.specs.Books.{seat_at, place_of};
@@ -15,7 +16,7 @@ use crate::actor::{is_client, place_of};
 use crate::migration::Migration;
 use crate::next::Next;
 use crate::seat::{Seat, mark_turn};
-use plan_text::Plan;
+use plan_words::Plan;
 use script_text::{Actor, Script, ScriptLine, ScriptWord, Statement};
 use server_words::{Entry, Journal};
 use std::alloc::{AllocError, Global};
@@ -147,7 +148,7 @@ impl<'a> Book<'a> {
     }
 
     /// The statement that a client asks next; none where it is over.
-    #[tactic(auto, using(crate::proofs::Books::client_seated), unfolding(plan_text::specs::Journals::client_asks))]
+    #[tactic(auto, using(crate::proofs::Books::client_seated), unfolding(plan_words::specs::Journals::client_asks))]
     pub fn asks(&self, client: u32) -> Option<&Statement>
         ensures { option_map (λ statement. Call (Do statement.now)) result ≡ client_asks self.now.plan self.now.journal client }
     {

@@ -3,7 +3,8 @@
 ghost use Rattle.std.specs.Prelude.{◌≡◌, [], ◌∷◌, IfOk};
 ghost use Rattle.gho_values.specs.declared.span.Bound.TheVariants.{Closed};
 ghost use Rattle.server_words.specs.declared.request.Request.TheVariants.{CopyRow, ChunkEnd, BeginSpan};
-ghost use Rattle.tool_program.specs.Programs.{plan_altered, tool_asks, asks_request, chunk_size};
+ghost use Rattle.plan_words.specs.PlanData.{plan_altered};
+ghost use Rattle.tool_program.specs.Programs.{tool_asks, asks_request, chunk_size};
 ghost use Rattle.tool_program.specs.Orders.{is_some};
 
 use crate::migration::Migration;

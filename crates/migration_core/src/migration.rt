@@ -1,7 +1,7 @@
 //! What is to be done: a plan, with what its ALTER makes of the table.
 
 ghost use Rattle.std.specs.Prelude.{◌≡◌, IfOk, IsSome};
-ghost use Rattle.tool_program.specs.Programs.{plan_altered, altered_in};
+ghost use Rattle.plan_words.specs.PlanData.{plan_altered, altered_in};
 ghost use Rattle.tool_program.specs.ToolNames.{ghost_name, old_name};
 ghost use Rattle.migration_core.specs.Calls.{HasLawfulSchema};
 
@@ -9,7 +9,7 @@ use alter_image::ColumnMap;
 use alter_schema::{AlterFault, altered};
 use gho_schema::Schema;
 use gho_values::Name;
-use plan_text::Plan;
+use plan_words::Plan;
 use std::alloc::{AllocError, Global};
 use std::marker::Model;
 
@@ -24,7 +24,7 @@ pub struct Migration<'a> {
 }
 
 impl<'a> Model for Migration<'a> {
-    ghost use Rattle.plan_text.specs.PlanData.{PlanData};
+    ghost use Rattle.plan_words.specs.PlanData.{PlanData};
     ghost use Rattle.migration_core.specs.Calls.{IsMigration};
 
     ghost Value = { PlanData };
@@ -35,7 +35,7 @@ impl<'a> Model for Migration<'a> {
 }
 
 /// The new schema of the plan's table, and where its columns' values come from.
-#[tactic(auto, unfolding(tool_program::specs::Programs::plan_altered))]
+#[tactic(auto, unfolding(plan_words::specs::PlanData::plan_altered))]
 pub fn plan_altered(alloc: Global, plan: &Plan) -> Result<(Schema, ColumnMap), AllocError>
     requires altered { IsSome (plan_altered plan.now) }
     requires lawful { HasLawfulSchema plan.now }
@@ -44,7 +44,7 @@ pub fn plan_altered(alloc: Global, plan: &Plan) -> Result<(Schema, ColumnMap), A
     let Some(table) = plan.tables().find(plan.table()) else {
         unreachable!();
     };
-    let approve = plan.approves_renamed_columns();
+    let approve = plan.options().approve_renamed_columns;
     match altered(alloc, table.schema(), plan.alter(), approve) {
         Ok(new) => Ok(new),
         Err(AlterFault::Memory) => Err(AllocError),

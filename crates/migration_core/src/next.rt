@@ -1,7 +1,8 @@
 //! How far the tool is after an answer.
 
 ghost use Rattle.std.specs.Prelude.{◌≡◌, ◌+◌, ◌<◌, ◌^◌, IfOk};
-ghost use Rattle.tool_program.specs.Programs.{plan_altered, new_column, after_answer};
+ghost use Rattle.plan_words.specs.PlanData.{plan_altered};
+ghost use Rattle.tool_program.specs.Programs.{new_column, after_answer};
 ghost use Rattle.migration_core.specs.Calls.{applied, next_copy, next_commit};
 
 use crate::migration::Migration;

@@ -3,8 +3,9 @@
 ghost use Rattle.std.specs.Prelude.{◌≡◌, ◌&&◌, map, find, option_map, true, IfOk, IfSome, IfNone};
 ghost use Rattle.server_words.specs.declared.entry.Asked.TheVariants.{Call};
 ghost use Rattle.server_words.specs.declared.request.Request.TheVariants.{Do};
-ghost use Rattle.plan_text.specs.Journals.{same_actor};
-ghost use Rattle.tool_program.specs.Programs.{plan_altered, progress, tool_actor, tool_asks, clients_over, given, has_ended, verdict_of};
+ghost use Rattle.plan_words.specs.Journals.{same_actor};
+ghost use Rattle.plan_words.specs.PlanData.{plan_altered};
+ghost use Rattle.tool_program.specs.Programs.{progress, tool_actor, tool_asks, clients_over, given, has_ended, verdict_of};
 ghost use Rattle.tool_program.specs.Orders.{actors, behind_last, last_actor, is_ready, next_actor};
 ghost use Rattle.migration_core.specs.Runs.{is_over};
 

@@ -1,10 +1,11 @@
 //! A run.
 
 ghost use Rattle.std.specs.Prelude.{◌≡◌, ◌<◌, [], length, true, false, IsSome, IfSome, IfNone, IfOk};
-ghost use Rattle.plan_text.specs.Journals.{opening, state_at, IsFaithful, KeepsPlan};
-ghost use Rattle.plan_text.specs.Histories.{history, Serial, tables_left};
+ghost use Rattle.plan_words.specs.Journals.{opening, state_at, IsFaithful, KeepsPlan};
+ghost use Rattle.plan_words.specs.Histories.{history, Serial, tables_left};
 ghost use Rattle.serial_laws.specs.SerialLaws.{IsMigratable};
-ghost use Rattle.tool_program.specs.Programs.{plan_altered, has_ended, verdict_of, Follows};
+ghost use Rattle.plan_words.specs.PlanData.{plan_altered};
+ghost use Rattle.tool_program.specs.Programs.{has_ended, verdict_of, Follows};
 ghost use Rattle.tool_program.specs.Orders.{is_ready, next_actor, ReplayOrder};
 ghost use Rattle.migration_core.specs.Calls.{HasLawfulSchema};
 ghost use Rattle.migration_core.specs.Runs.{Steps, Passes, is_over};
@@ -12,7 +13,7 @@ ghost use Rattle.migration_core.specs.declared.run.Replayed.TheVariants as Repla
 
 use crate::book::{Book, TURN_LIMIT};
 use crate::turn::take_turn;
-use plan_text::Plan;
+use plan_words::Plan;
 use script_text::Actor;
 use serial_laws::laws::journals_are_serial;
 use server_words::{Entry, Journal, Serve, Verdict};

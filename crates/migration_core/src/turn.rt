@@ -1,7 +1,7 @@
 //! A turn of an actor that is ready.
 
 ghost use Rattle.std.specs.Prelude.{◌≡◌, ◌+◌, ◌<◌, length, true, unwrap_or, IfOk, OnOk, OnErr};
-ghost use Rattle.plan_text.specs.Journals.{state_at, serves_asked};
+ghost use Rattle.plan_words.specs.Journals.{state_at, serves_asked};
 ghost use Rattle.tool_program.specs.Orders.{is_ready};
 ghost use Rattle.migration_core.specs.Runs.{IsKept, connected_for, journal_after, turn_limit};
 

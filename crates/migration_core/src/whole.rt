@@ -1,16 +1,17 @@
 //! The replay of a whole plan.
 
 ghost use Rattle.std.specs.Prelude.{◌≡◌, ◌<◌, length, true, IsSome, IfSome, IfOk};
-ghost use Rattle.plan_text.specs.Journals.{opening, state_at, IsFaithful, KeepsPlan};
-ghost use Rattle.plan_text.specs.Histories.{history, Serial, tables_left};
+ghost use Rattle.plan_words.specs.Journals.{opening, state_at, IsFaithful, KeepsPlan};
+ghost use Rattle.plan_words.specs.Histories.{history, Serial, tables_left};
 ghost use Rattle.serial_laws.specs.SerialLaws.{IsMigratable};
-ghost use Rattle.tool_program.specs.Programs.{plan_altered, verdict_of, Follows};
+ghost use Rattle.plan_words.specs.PlanData.{plan_altered};
+ghost use Rattle.tool_program.specs.Programs.{verdict_of, Follows};
 ghost use Rattle.tool_program.specs.Orders.{ReplayOrder};
 ghost use Rattle.migration_core.specs.Calls.{HasLawfulSchema};
 ghost use Rattle.migration_core.specs.Runs.{is_over};
 
 use crate::run::{Replayed, Run};
-use plan_text::Plan;
+use plan_words::Plan;
 use server_words::{Journal, Serve, Verdict};
 use std::alloc::{AllocError, Global};
 

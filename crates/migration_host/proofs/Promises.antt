@@ -8,10 +8,10 @@ use Rattle.server_words.specs.declared.cause.Cause.{Cause}
 use Rattle.server_words.specs.declared.cause.Verdict.{Verdict}
 use Rattle.server_words.specs.declared.cause.Verdict.TheVariants as verdicts
 use Rattle.server_words.specs.declared.entry.Entry.{Entry}
-use Rattle.plan_text.specs.PlanData.{PlanData}
+use Rattle.plan_words.specs.PlanData.{PlanData}
 use Rattle.plan_text.specs.declared.TheConstants.{PLAN_LIMIT}
 use Rattle.plan_text.specs.declared.fault.Refusal.{Refusal}
-use Rattle.plan_text.specs.Journals.{state_at}
+use Rattle.plan_words.specs.Journals.{state_at}
 use Rattle.plan_text.specs.Plans.{reads}
 use Rattle.tool_program.specs.declared.tool.Tool.{Tool}
 use Rattle.tool_program.specs.declared.tool.Tool.TheVariants.{Creating, Reaching, Choosing, Spanning, Copying, Renaming, Done, Reverting, Reverted}

@@ -6,9 +6,9 @@ use Rattle.schema_text.specs.Printing.{printed_schema}
 use Rattle.server_words.specs.declared.cause.Verdict.{Verdict}
 use Rattle.server_words.specs.declared.cause.Verdict.TheVariants as verdicts
 use Rattle.server_words.specs.declared.entry.Entry.{Entry}
-use Rattle.plan_text.specs.PlanData.{PlanData}
+use Rattle.plan_words.specs.PlanData.{PlanData}
 use Rattle.plan_text.specs.declared.fault.Refusal.{Refusal}
-use Rattle.plan_text.specs.Journals.{state_at}
+use Rattle.plan_words.specs.Journals.{state_at}
 use Rattle.tool_program.specs.Programs.{verdict_of}
 use Rattle.migration_core.specs.Runs.{is_over}
 use Rattle.plan_replay.specs.Checks.{Alters}

@@ -9,10 +9,10 @@ use Rattle.server_words.specs.declared.cause.Cause.{Cause}
 use Rattle.server_words.specs.declared.cause.Verdict.{Verdict}
 use Rattle.server_words.specs.declared.cause.Verdict.TheVariants.{Done, Reverted, Unfinished}
 use Rattle.server_words.specs.declared.entry.Entry.{Entry}
-use Rattle.plan_text.specs.PlanData.{PlanData}
+use Rattle.plan_words.specs.PlanData.{PlanData}
 use Rattle.plan_text.specs.declared.TheConstants.{PLAN_LIMIT}
 use Rattle.plan_text.specs.declared.fault.Refusal.{Refusal}
-use Rattle.plan_text.specs.Journals.{state_at}
+use Rattle.plan_words.specs.Journals.{state_at}
 use Rattle.plan_text.specs.Plans.{reads}
 use Rattle.tool_program.specs.Programs.{verdict_of}
 use Rattle.serial_laws.specs.VerdictLaws.{TellsAlter, NamesTurn}

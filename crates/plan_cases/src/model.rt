@@ -8,7 +8,7 @@ use alter_image::{MapColumn, image};
 use gho_schema::Schema;
 use gho_values::{Duplicate, Row, Rows, Sequence, Text, print_row};
 use plan_replay::altered_plan;
-use plan_text::Plan;
+use plan_words::Plan;
 use script_text::{Actor, ScriptWord, Statement};
 use serial_model::{PlainTable, alone_in_order, plain_tables};
 use server_words::{Asked, EndedTxn, Entry, Journal, Mark, Reply, Request, TxnEnd, TxnLine};

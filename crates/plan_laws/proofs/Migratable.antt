@@ -22,10 +22,9 @@ use Rattle.alter_laws.specs.Laws.{ImagesKeepClusteredKeys, ImagesStayApart, Alte
 use Rattle.plan_text.specs.declared.TheConstants.{PLAN_LIMIT}
 use Rattle.plan_text.specs.declared.fault.Refusal.{Refusal}
 use Rattle.plan_text.specs.declared.fault.Refusal.TheVariants.{TooLong}
-use Rattle.plan_text.specs.Accepting.{accepted}
-use Rattle.plan_text.specs.Altering.{Altered}
+use Rattle.plan_text.specs.Accepting.{plan_of, accepted}
+use Rattle.plan_words.specs.PlanData.{Altered, PlanData}
 use Rattle.plan_text.specs.Clients.{clients_in}
-use Rattle.plan_text.specs.PlanData.{PlanData}
 use Rattle.plan_text.specs.PlanKeys.{PlanKeys, keys_at}
 use Rattle.plan_text.specs.PlanRows.{rows_in}
 use Rattle.plan_text.specs.Plans.{built, of_table, of_alter, plan_at, document, document_in, reads}
@@ -81,7 +80,7 @@ accepted_is laws keys schema clauses new plan lawful alters is =
     let rows = bound (rows_in schema keys.rows) _ plan is in
     let clients = bound (clients_in schema keys.clients) _ plan rows.goes_on in
     let table : TableRows = record { schema = schema; rows = rows.x } in
-    let made : PlanData = record { table = keys.table; alter = clauses; approve_renamed_columns = keys.approve_renamed_columns; tables = table ∷ []; clients = clients.x } in
+    let made : PlanData = plan_of keys clauses table clients.x in
     let all = tested (bytes_eq schema.name keys.table) made plan clients.goes_on in
     subst IsMigratable all.1 (record {
       table = table;

@@ -1,6 +1,6 @@
 -- What holds of every accepted plan. The functions of the module `laws` prove each.
 use Rattle.std.specs.Prelude.{◌≡◌, ℕ, List, Ok}
-use Rattle.plan_text.specs.PlanData.{PlanData}
+use Rattle.plan_words.specs.PlanData.{PlanData}
 use Rattle.plan_text.specs.Plans.{reads}
 use Rattle.serial_laws.specs.SerialLaws.{IsMigratable}
 

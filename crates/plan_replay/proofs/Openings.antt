@@ -1,8 +1,7 @@
 -- What stands where a replay begins.
 use Rattle.std.proofs.Common.{refl, IsSome}
 use Rattle.std.proofs.lemmas.Slice.Eq.{bytes_eq-Decides}
-use Rattle.plan_text.specs.PlanData.{PlanData}
-use Rattle.tool_program.specs.Programs.{plan_altered}
+use Rattle.plan_words.specs.PlanData.{PlanData, plan_altered}
 use Rattle.migration_core.specs.Calls.{HasLawfulSchema}
 use Rattle.serial_laws.specs.SerialLaws.{IsMigratable}
 

@@ -2,8 +2,7 @@
 use Rattle.std.specs.Prelude.{◌≡◌, List, Some}
 use Rattle.gho_schema.specs.declared.schema.Schema.{Schema}
 use Rattle.alter_image.specs.declared.map.MapColumn.{MapColumn}
-use Rattle.plan_text.specs.PlanData.{PlanData}
-use Rattle.tool_program.specs.Programs.{plan_altered}
+use Rattle.plan_words.specs.PlanData.{PlanData, plan_altered}
 
 -- The plan's ALTER leaves this schema of its table, with its columns' values from where the map says.
 pub record Alters (plan : PlanData) (schema : Schema) : Type 0 where

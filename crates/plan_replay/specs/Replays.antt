@@ -3,9 +3,9 @@ use Rattle.std.specs.Prelude.{◌≡◌, ℕ, true, List, Option, IfSome, Result
 use Rattle.server_words.specs.declared.cause.Verdict.{Verdict}
 use Rattle.server_words.specs.declared.entry.Entry.{Entry}
 use Rattle.server_words.specs.States.{State}
-use Rattle.plan_text.specs.PlanData.{PlanData}
-use Rattle.plan_text.specs.Journals.{IsFaithful, KeepsPlan, state_at}
-use Rattle.plan_text.specs.Histories.{history, Serial, tables_left}
+use Rattle.plan_words.specs.PlanData.{PlanData}
+use Rattle.plan_words.specs.Journals.{IsFaithful, KeepsPlan, state_at}
+use Rattle.plan_words.specs.Histories.{history, Serial, tables_left}
 use Rattle.tool_program.specs.Programs.{Follows, verdict_of}
 use Rattle.tool_program.specs.Orders.{ReplayOrder}
 use Rattle.migration_core.specs.Runs.{is_over}

@@ -1,14 +1,14 @@
 //! The check of a plan.
 
 ghost use Rattle.std.specs.Prelude.{◌≡◌, Some, IfOk};
-ghost use Rattle.tool_program.specs.Programs.{plan_altered};
+ghost use Rattle.plan_words.specs.PlanData.{plan_altered};
 ghost use Rattle.serial_laws.specs.SerialLaws.{IsMigratable};
 ghost use Rattle.plan_replay.specs.Checks.{Alters};
 
 use alter_image::ColumnMap;
 use gho_schema::Schema;
 use migration_core::plan_altered;
-use plan_text::Plan;
+use plan_words::Plan;
 use std::alloc::{AllocError, Global};
 
 /// The schema that the plan's ALTER leaves of its table, and where its columns' values come from.

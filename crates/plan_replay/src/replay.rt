@@ -5,7 +5,7 @@ ghost use Rattle.serial_laws.specs.SerialLaws.{IsMigratable};
 ghost use Rattle.plan_replay.specs.Replays.{IsReplay, IsEnd};
 
 use migration_core::{Left, replay};
-use plan_text::Plan;
+use plan_words::Plan;
 use server_core::Server;
 use server_words::Limits;
 use std::alloc::{AllocError, Global};

@@ -9,7 +9,8 @@ mod steps;
 use crate::replay::LIMITS;
 use migration_core::Run;
 use plan_laws::laws::accepted_plans_are_migratable;
-use plan_text::{Plan, PlanFault, read_plan};
+use plan_text::{PlanFault, read_plan};
+use plan_words::Plan;
 use server_core::Server;
 use std::alloc::{AllocError, Global};
 

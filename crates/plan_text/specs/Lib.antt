@@ -1,10 +1,6 @@
 pub mod Accepting
-pub mod Altering
 pub mod Clients
 pub mod Documents
-pub mod Histories
-pub mod Journals
-pub mod PlanData
 pub mod PlanFaults
 pub mod PlanKeys
 pub mod PlanRows

@@ -14,7 +14,7 @@ use Rattle.plan_text.specs.declared.fault.Refusal.{Refusal}
 use Rattle.plan_text.specs.declared.fault.Refusal.TheVariants.{TooLong, NotToml, Schema, Alter, NotBuilt}
 use Rattle.plan_text.specs.declared.fault.PlanFault.{PlanFault}
 use Rattle.plan_text.specs.declared.fault.PlanFault.TheVariants as faults
-use Rattle.plan_text.specs.PlanData.{PlanData}
+use Rattle.plan_words.specs.PlanData.{PlanData}
 use Rattle.plan_text.specs.PlanKeys.{keys_at}
 use Rattle.plan_text.specs.Accepting.{accepted}
 

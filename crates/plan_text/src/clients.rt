@@ -8,9 +8,9 @@ ghost use Rattle.plan_text.specs.Documents.{Finds};
 ghost use Rattle.plan_text.specs.Clients.{is_column, is_key_column, is_on_key, is_built, is_built_word, built_script, client_of, clients_of, line_count, few_lines, clients_in};
 
 use crate::fault::{NOT_BUILT, PlanFault};
-use crate::plan::Scripts;
 use gho_schema::{Column, Schema, same_name};
 use gho_values::{Name, Sequence};
+use plan_words::Scripts;
 use script_text::{Condition, Script, ScriptLine, ScriptWord, Shown, Statement, read_script};
 use std::alloc::Global;
 use toml::Value;

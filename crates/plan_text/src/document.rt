@@ -4,6 +4,7 @@ ghost use Rattle.std.specs.Prelude.{◌≡◌, [], ◌∷◌, IfOk};
 ghost use Rattle.row_store.specs.Databases.{database};
 ghost use Rattle.toml.specs.View.{table_view};
 ghost use Rattle.schema_text.specs.Reading.{schema_at};
+ghost use Rattle.plan_words.specs.PlanOptions.{default_options};
 ghost use Rattle.plan_text.specs.Accepting.{accepted};
 ghost use Rattle.plan_text.specs.Documents.{Finds};
 ghost use Rattle.plan_text.specs.PlanKeys.{keys_view};
@@ -13,15 +14,15 @@ use crate::PLAN_LIMIT;
 use crate::clients::clients_in;
 use crate::fault::{NOT_BUILT, PlanFault, Refusal};
 use crate::keys::{KeyTexts, keys_at};
-use crate::plan::Plan;
 use crate::rows::rows_in;
 use alter_image::Clauses;
 use alter_schema::altered;
 use alter_text::read_alter;
 use gho_schema::Schema;
 use gho_schema::laws::put_keeps_order;
-use gho_values::Name;
 use gho_values::laws::stored_values_store_again;
+use gho_values::{Name, Sequence};
+use plan_words::{Options, Plan, PlanParts};
 use row_store::{AddFault, Table, Tables};
 use schema_laws::read_schemas_are_lawful;
 use schema_text::read_schema;
@@ -54,6 +55,15 @@ fn schema_of(alloc: Global, number: u32, create: &str, migrated: &str) -> Result
     }
 }
 
+/// The options, of which a plan names one so far.
+fn options_of(keys: &KeyTexts<'_>) -> Options
+    ensures { result ≡ record default_options { approve_renamed_columns = keys.now.approve_renamed_columns } }
+{
+    let mut options = Options::default();
+    options.approve_renamed_columns = keys.approve_renamed_columns;
+    options
+}
+
 /// The plan, once its schema and its clauses are read.
 #[tactic(auto, unfolding(crate::specs::Accepting::accepted))]
 fn accepted(
@@ -73,7 +83,16 @@ fn accepted(
         return Err(NOT_BUILT);
     }
     let tables = only_table(alloc, Table::from_rows(schema, rows))?;
-    Ok(Plan::new(name, clauses, keys.approve_renamed_columns, tables, clients))
+    Ok(Plan::new(PlanParts {
+        table: name,
+        alter: clauses,
+        tables,
+        clients,
+        operator: Sequence::new(alloc),
+        faults: Sequence::new(alloc),
+        turns: Sequence::new(alloc),
+        options: options_of(keys),
+    }))
 }
 
 #[tactic(auto, unfolding(crate::specs::Plans::plan_at))]

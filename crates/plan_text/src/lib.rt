@@ -1,11 +1,10 @@
-//! Plans: how their bytes are read, and what a journal of one means.
+//! Plans: how their bytes are read.
 #![tactic(auto)]
 
 mod clients;
 mod document;
 mod fault;
 mod keys;
-mod plan;
 mod row_text;
 mod rows;
 
@@ -14,7 +13,6 @@ pub const PLAN_LIMIT: usize = 16_777_216;
 
 pub use document::read_plan;
 pub use fault::{PlanFault, Refusal};
-pub use plan::{Plan, Scripts};
 
 #[cfg(test)]
 mod tests;

@@ -5,8 +5,8 @@ use Rattle.std.proofs.lemmas.Grind.{flat_map-append}
 use Rattle.std.proofs.lemmas.List.{drop_all}
 use Rattle.std.specs.List.{flat_map, slice_get}
 use Rattle.row_store.specs.Databases.{StoredTable, TableRows, Database, database, find_table}
-use Rattle.plan_text.specs.PlanData.{PlanData}
-use Rattle.plan_text.specs.Histories.{tables_left}
+use Rattle.plan_words.specs.PlanData.{PlanData}
+use Rattle.plan_words.specs.Histories.{tables_left}
 use Rattle.report_text.specs.Names.{placed, in_byte_order, table_names}
 use Rattle.report_text.specs.Tables.{table_text, tables_text}
 

@@ -6,8 +6,8 @@ use Rattle.script_text.specs.declared.script.ScriptLine.{ScriptLine}
 use Rattle.server_words.specs.declared.ended.Reply.{Reply}
 use Rattle.server_words.specs.declared.ended.Reply.TheVariants.{Ok, Error, Rows}
 use Rattle.server_words.specs.declared.entry.Entry.{Entry}
-use Rattle.plan_text.specs.PlanData.{PlanData}
-use Rattle.plan_text.specs.Histories.{NumberedReply, replies_of}
+use Rattle.plan_words.specs.PlanData.{PlanData}
+use Rattle.plan_words.specs.Histories.{NumberedReply, replies_of}
 use Rattle.report_text.specs.Tables.{row_lines}
 
 -- a reply: `ok 1`, `error 1062`, or `rows 2` and then the rows

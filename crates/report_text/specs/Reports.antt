@@ -9,8 +9,8 @@ use Rattle.server_words.specs.declared.cause.Cause.TheVariants.{Unfit}
 use Rattle.server_words.specs.declared.cause.Verdict.{Verdict}
 use Rattle.server_words.specs.declared.cause.Verdict.TheVariants.{Done, Reverted, Unfinished}
 use Rattle.server_words.specs.declared.entry.Entry.{Entry}
-use Rattle.plan_text.specs.PlanData.{PlanData}
-use Rattle.plan_text.specs.Histories.{tables_left}
+use Rattle.plan_words.specs.PlanData.{PlanData}
+use Rattle.plan_words.specs.Histories.{tables_left}
 use Rattle.report_text.specs.Names.{names_line}
 use Rattle.report_text.specs.Replies.{clients_text}
 use Rattle.report_text.specs.Tables.{tables_text}

@@ -7,8 +7,8 @@ use Rattle.server_words.specs.declared.entry.Asked.TheVariants.{Call}
 use Rattle.server_words.specs.declared.entry.Entry.{Entry}
 use Rattle.server_words.specs.declared.request.Request.TheVariants as requests
 use Rattle.server_words.specs.Alone.{reply_of}
-use Rattle.plan_text.specs.Journals.{same_actor}
-use Rattle.plan_text.specs.Histories.{NumberedReply}
+use Rattle.plan_words.specs.Journals.{same_actor}
+use Rattle.plan_words.specs.Histories.{NumberedReply}
 
 -- the reply to a client's statement, as its transaction of this number
 abbrev pub turn_replies : ℕ → Asked → Answer → List NumberedReply

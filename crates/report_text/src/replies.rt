@@ -4,7 +4,7 @@ ghost use Rattle.std.specs.Prelude.{◌≡◌, ◌++◌, codes, OnOk};
 ghost use Rattle.std.specs.Fmt.{decimal};
 ghost use Rattle.std.specs.List.{flat_map};
 ghost use Rattle.script_text.specs.declared.actor.Actor.TheVariants.{Client};
-ghost use Rattle.plan_text.specs.Journals.{same_actor};
+ghost use Rattle.plan_words.specs.Journals.{same_actor};
 ghost use Rattle.server_words.specs.declared.ended.Reply.TheVariants.{Rows};
 ghost use Rattle.server_words.specs.Alone.{reply_of};
 ghost use Rattle.report_text.specs.Replies.{reply_text, numbered_text, client_line, client_text, clients_text};
@@ -12,7 +12,7 @@ ghost use Rattle.report_text.specs.Walks.{turn_replies, replies_from};
 
 use crate::tables::push_row_lines;
 use gho_values::{Row, Text};
-use plan_text::Plan;
+use plan_words::Plan;
 use script_text::Actor;
 use server_words::{Answer, Asked, Entry, Request};
 use std::alloc::AllocError;

@@ -1,13 +1,13 @@
 //! Tables, line by line.
 
 ghost use Rattle.std.specs.Prelude.{◌≡◌, ◌++◌, option_to_list, OnOk};
-ghost use Rattle.plan_text.specs.Histories.{tables_left};
+ghost use Rattle.plan_words.specs.Histories.{tables_left};
 ghost use Rattle.row_store.specs.Databases.{database, find_table};
 ghost use Rattle.report_text.specs.Tables.{more_names, column_names, table_line, row_lines, table_text, tables_text};
 
 use gho_schema::{Column, Schema};
 use gho_values::{Row, Text, print_row};
-use plan_text::Plan;
+use plan_words::Plan;
 use row_store::{Table, Tables};
 use std::alloc::AllocError;
 

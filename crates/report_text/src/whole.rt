@@ -9,7 +9,7 @@ use crate::replies::push_clients;
 use crate::tables::push_tables_left;
 use crate::verdict::push_verdict;
 use gho_values::Text;
-use plan_text::Plan;
+use plan_words::Plan;
 use row_store::Tables;
 use server_words::{Journal, Verdict};
 use std::alloc::{AllocError, Global};

@@ -19,8 +19,8 @@ use Rattle.server_words.specs.declared.request.Request.TheVariants as requests
 use Rattle.server_words.specs.States.{State, after_events}
 use Rattle.server_words.specs.Chunks.{keys_of, keys_in, chunk_end, span_keys, first_keys, last_of, end_key}
 use Rattle.server_words.specs.Serving.{answered}
-use Rattle.plan_text.specs.PlanData.{PlanData}
-use Rattle.plan_text.specs.Histories.{Happening}
+use Rattle.plan_words.specs.PlanData.{PlanData}
+use Rattle.plan_words.specs.Histories.{Happening}
 use Rattle.tool_program.specs.Programs.{after_answer}
 use Rattle.tool_program.specs.declared.tool.Tool.TheVariants.{Choosing, Spanning}
 use Rattle.serial_laws.specs.SerialLaws.{IsMigratable}

@@ -30,8 +30,8 @@ use Rattle.server_words.specs.States.{State, after_event, after_events, view, se
 use Rattle.server_words.specs.Chunks.{keys_of}
 use Rattle.server_words.specs.Copying.{copies, copies_row, copies_image, copies_unless}
 use Rattle.server_words.specs.Serving.{answered, with_said}
-use Rattle.plan_text.specs.PlanData.{PlanData}
-use Rattle.plan_text.specs.Histories.{Happening}
+use Rattle.plan_words.specs.PlanData.{PlanData}
+use Rattle.plan_words.specs.Histories.{Happening}
 use Rattle.tool_program.specs.ToolNames.{ghost_name}
 use Rattle.tool_program.specs.Programs.{after_answer, after_chunk_call, after_copy, after_commit, chunk_call}
 use Rattle.tool_program.specs.declared.tool.Tool.TheVariants.{Copying, Choosing, Renaming}

@@ -14,8 +14,8 @@ use Rattle.server_words.specs.declared.request.Request.TheVariants as requests
 use Rattle.server_words.specs.States.{State}
 use Rattle.server_words.specs.Chunks.{ends_of, keys_of}
 use Rattle.server_words.specs.Serving.{answered}
-use Rattle.plan_text.specs.PlanData.{PlanData}
-use Rattle.plan_text.specs.Histories.{Happening, Serial}
+use Rattle.plan_words.specs.PlanData.{PlanData}
+use Rattle.plan_words.specs.Histories.{Happening, Serial}
 use Rattle.tool_program.specs.ToolNames.{ghost_name, old_name}
 use Rattle.tool_program.specs.Programs.{after_answer}
 use Rattle.tool_program.specs.declared.tool.Tool.TheVariants.{Creating, Reaching}

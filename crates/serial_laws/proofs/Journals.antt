@@ -17,12 +17,12 @@ use Rattle.server_words.specs.declared.request.Request.{Request}
 use Rattle.server_words.specs.declared.request.Request.TheVariants as requests
 use Rattle.server_words.specs.Along.{gathered-more}
 use Rattle.server_words.specs.States.{State}
-use Rattle.plan_text.specs.PlanData.{PlanData}
-use Rattle.plan_text.specs.Journals.{opening, same_actor, is_client, state_at, after_entry, turns_of, script_of, word_asks, line_asks, script_asks, client_asks}
-use Rattle.plan_text.specs.Histories.{Happening, history, entry_adds}
+use Rattle.plan_words.specs.PlanData.{PlanData, plan_altered}
+use Rattle.plan_words.specs.Journals.{opening, same_actor, is_client, state_at, after_entry, turns_of, script_of, word_asks, line_asks, script_asks, client_asks}
+use Rattle.plan_words.specs.Histories.{Happening, history, entry_adds}
 use Rattle.tool_program.specs.declared.tool.Tool.{Tool}
 use Rattle.tool_program.specs.declared.tool.Tool.TheVariants.{Creating}
-use Rattle.tool_program.specs.Programs.{Progress, progress, after_turn, given, tool_actor, tool_asks, plan_altered, clients_over, over_from, is_none, session_named}
+use Rattle.tool_program.specs.Programs.{Progress, progress, after_turn, given, tool_actor, tool_asks, clients_over, over_from, is_none, session_named}
 
 pub state-more : (plan : PlanData) (journal : List Entry) (entry : Entry) → state_at plan (journal ++ (entry ∷ [])) ≡ after_entry (state_at plan journal) entry
 unfolding state_at

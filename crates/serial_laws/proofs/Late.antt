@@ -11,9 +11,8 @@ use Rattle.server_words.specs.declared.entry.Asked.TheVariants.{Call}
 use Rattle.server_words.specs.declared.request.Request.TheVariants as requests
 use Rattle.server_words.specs.States.{State}
 use Rattle.server_words.specs.Serving.{answered}
-use Rattle.plan_text.specs.PlanData.{PlanData}
-use Rattle.plan_text.specs.Altering.{Altered, altered_table}
-use Rattle.plan_text.specs.Histories.{Happening, Alter, Leads, Serial, tables_left, altered_database, alters}
+use Rattle.plan_words.specs.PlanData.{PlanData, Altered, altered_table}
+use Rattle.plan_words.specs.Histories.{Happening, Alter, Leads, Serial, tables_left, altered_database, alters}
 use Rattle.tool_program.specs.ToolNames.{ghost_name, old_name}
 use Rattle.tool_program.specs.Programs.{after_answer}
 use Rattle.tool_program.specs.declared.tool.Tool.TheVariants.{Renaming, Done}

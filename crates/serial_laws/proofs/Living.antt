@@ -19,8 +19,8 @@ use Rattle.server_words.specs.Chunks.{span_keys}
 use Rattle.server_words.specs.Copying.{copies}
 use Rattle.server_words.specs.Statements.{says}
 use Rattle.server_words.specs.Serving.{answered, creates, begins, renames}
-use Rattle.plan_text.specs.PlanData.{PlanData}
-use Rattle.plan_text.specs.Journals.{is_live, is_client, same_actor, state_at, with_session_open, after_entry, serves_asked}
+use Rattle.plan_words.specs.PlanData.{PlanData}
+use Rattle.plan_words.specs.Journals.{is_live, is_client, same_actor, state_at, with_session_open, after_entry, serves_asked}
 use Rattle.tool_program.specs.Programs.{session_named, session_for}
 use Rattle.serial_laws.proofs.Lists.{all-both}
 use Rattle.serial_laws.proofs.Sessions.{Calm, CalmOne, KeepsLive, edits_keep_live, one_more_keeps, new_is_live}

@@ -13,9 +13,9 @@ use Rattle.server_words.specs.declared.cause.Cause.{Cause}
 use Rattle.server_words.specs.declared.session.Session.{Session}
 use Rattle.server_words.specs.States.{State, after_events, session_of}
 use Rattle.server_words.specs.Chunks.{keys_of}
-use Rattle.plan_text.specs.PlanData.{PlanData}
-use Rattle.plan_text.specs.Journals.{is_live}
-use Rattle.plan_text.specs.Histories.{Happening, Serial, tables_left}
+use Rattle.plan_words.specs.PlanData.{PlanData}
+use Rattle.plan_words.specs.Journals.{is_live}
+use Rattle.plan_words.specs.Histories.{Happening, Serial, tables_left}
 use Rattle.tool_program.specs.ToolNames.{ghost_name}
 use Rattle.tool_program.specs.declared.tool.Tool.{Tool}
 use Rattle.tool_program.specs.declared.tool.Tool.TheVariants.{Creating, Reaching, Choosing, Spanning, Copying, Renaming, Done, Reverting, Reverted}

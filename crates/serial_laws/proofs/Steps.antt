@@ -23,13 +23,13 @@ use Rattle.server_words.specs.declared.said.Said.{Said}
 use Rattle.server_words.specs.Statements.{says}
 use Rattle.server_words.specs.States.{State, view, session_of, after_events, is_in_transaction, writes_of, with_writes}
 use Rattle.server_words.specs.Serving.{answered, serves}
-use Rattle.plan_text.specs.PlanData.{PlanData}
-use Rattle.plan_text.specs.Journals.{IsAnswered, IsFaithful, same_actor, is_client, is_live, state_at, after_entry, with_session_open, serves_asked, client_asks, turns_of}
-use Rattle.plan_text.specs.Histories.{Happening, Txn, Leads, Serial, history, adds, entry_adds, alters, single, tables_left}
+use Rattle.plan_words.specs.PlanData.{PlanData, plan_altered}
+use Rattle.plan_words.specs.Journals.{IsAnswered, IsFaithful, same_actor, is_client, is_live, state_at, after_entry, with_session_open, serves_asked, client_asks, turns_of}
+use Rattle.plan_words.specs.Histories.{Happening, Txn, Leads, Serial, history, adds, entry_adds, alters, single, tables_left}
 use Rattle.tool_program.specs.ToolNames.{ghost_name}
 use Rattle.tool_program.specs.declared.tool.Tool.{Tool}
 use Rattle.tool_program.specs.declared.tool.Tool.TheVariants.{Creating, Reaching, Choosing, Spanning, Copying, Renaming, Done, Reverting, Reverted}
-use Rattle.tool_program.specs.Programs.{Progress, progress, given, IsGiven, Follows, session_named, session_for, clients_over, tool_asks, tool_call, tool_actor, asks_request, plan_altered, after_answer, chunk_call, after_turn}
+use Rattle.tool_program.specs.Programs.{Progress, progress, given, IsGiven, Follows, session_named, session_for, clients_over, tool_asks, tool_call, tool_actor, asks_request, after_answer, chunk_call, after_turn}
 use Rattle.serial_laws.specs.SerialLaws.{IsMigratable, JournalsAreSerial}
 use Rattle.serial_laws.proofs.Sessions.{Calm, Quiet, calm-quiet, Busy, but-busy}
 use Rattle.serial_laws.proofs.Names.{NamesApart, names_apart, same}

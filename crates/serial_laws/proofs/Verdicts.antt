@@ -10,7 +10,7 @@ use Rattle.std.specs.Str.{bytes_eq}
 use Rattle.gho_values.specs.declared.value.Value.{Value}
 use Rattle.gho_values.specs.declared.span.Bound.TheVariants.{Open, Closed}
 use Rattle.gho_values.specs.Comparing.{compare_keys}
-use Rattle.plan_text.specs.Altering.{Altered}
+use Rattle.plan_words.specs.PlanData.{Altered, PlanData, plan_altered}
 use Rattle.script_text.specs.declared.actor.Actor.{Actor}
 use Rattle.script_text.specs.declared.actor.Actor.TheVariants.{Op, Insp, Copy, Apply, Lock, Ren, Client}
 use Rattle.server_words.specs.declared.answer.Answer.{Answer}
@@ -25,13 +25,12 @@ use Rattle.server_words.specs.declared.entry.Entry.{Entry}
 use Rattle.server_words.specs.declared.request.Request.{Request}
 use Rattle.server_words.specs.declared.request.Request.TheVariants as requests
 use Rattle.server_words.specs.Along.{Along, Along-keeps}
-use Rattle.plan_text.specs.PlanData.{PlanData}
-use Rattle.plan_text.specs.Journals.{same_actor, is_client, client_asks}
-use Rattle.plan_text.specs.Histories.{Happening, Txn, Alter, history, adds, entry_adds, alters, ends_txn, takes_away, is_alter}
+use Rattle.plan_words.specs.Journals.{same_actor, is_client, client_asks}
+use Rattle.plan_words.specs.Histories.{Happening, Txn, Alter, history, adds, entry_adds, alters, ends_txn, takes_away, is_alter}
 use Rattle.tool_program.specs.declared.tool.Tool.{Tool}
 use Rattle.tool_program.specs.declared.tool.Tool.TheVariants.{Creating, Reaching, Choosing, Spanning, Copying, Renaming, Done, Reverting, Reverted}
 use Rattle.tool_program.specs.ToolNames.{ghost_name, old_name}
-use Rattle.tool_program.specs.Programs.{Progress, progress, after_turn, after_answer, after_chunk_call, after_copy, after_commit, tool_asks, tool_call, asks_request, chunk_call, plan_altered, new_column, given, clients_over, has_ended, is_over, verdict_of, tool_verdict, IsGiven, Follows}
+use Rattle.tool_program.specs.Programs.{Progress, progress, after_turn, after_answer, after_chunk_call, after_copy, after_commit, tool_asks, tool_call, asks_request, chunk_call, new_column, given, clients_over, has_ended, is_over, verdict_of, tool_verdict, IsGiven, Follows}
 use Rattle.serial_laws.specs.VerdictLaws.{alter_count, TellsAlter, IsUnfitTurn, NamesTurn, VerdictsTellTheAlter, RevertsNameTurns}
 use Rattle.serial_laws.proofs.Journals.{progress-more, history-more, AsksStatement, client_statement, ToolTurn, tool_turn}
 

@@ -8,10 +8,9 @@ use Rattle.alter_image.specs.Images.{image}
 use Rattle.row_store.specs.Databases.{TableRows, IsDatabase}
 use Rattle.schema_text.specs.Lawful.{IsLawful}
 use Rattle.server_words.specs.declared.entry.Entry.{Entry}
-use Rattle.plan_text.specs.PlanData.{PlanData}
-use Rattle.plan_text.specs.Altering.{Altered, altered_by}
-use Rattle.plan_text.specs.Journals.{IsFaithful, state_at}
-use Rattle.plan_text.specs.Histories.{history, Serial, tables_left}
+use Rattle.plan_words.specs.PlanData.{PlanData, Altered, altered_by}
+use Rattle.plan_words.specs.Journals.{IsFaithful, state_at}
+use Rattle.plan_words.specs.Histories.{history, Serial, tables_left}
 use Rattle.tool_program.specs.Programs.{Follows}
 
 -- What an ALTER keeps of a table: its name; of a row that has an image, the clustered key; that images are rows of the

@@ -10,10 +10,10 @@ use Rattle.server_words.specs.declared.cause.Verdict.TheVariants.{Done, Reverted
 use Rattle.server_words.specs.declared.entry.Asked.TheVariants.{Call}
 use Rattle.server_words.specs.declared.entry.Entry.{Entry}
 use Rattle.server_words.specs.declared.request.Request.TheVariants as requests
-use Rattle.plan_text.specs.PlanData.{PlanData}
-use Rattle.plan_text.specs.Histories.{Happening, history, is_alter}
+use Rattle.plan_words.specs.PlanData.{PlanData, plan_altered}
+use Rattle.plan_words.specs.Histories.{Happening, history, is_alter}
 use Rattle.tool_program.specs.ToolNames.{ghost_name}
-use Rattle.tool_program.specs.Programs.{plan_altered, new_column, has_ended, verdict_of, Follows}
+use Rattle.tool_program.specs.Programs.{new_column, has_ended, verdict_of, Follows}
 
 -- how often a history has the ALTER
 abbrev pub alter_count : List Happening → ℕ

@@ -7,8 +7,8 @@ use Rattle.script_text.specs.declared.script.ScriptLine.{ScriptLine}
 use Rattle.server_words.specs.declared.entry.Asked.{Asked}
 use Rattle.server_words.specs.declared.entry.Entry.{Entry}
 use Rattle.server_words.specs.Along.{Along}
-use Rattle.plan_text.specs.PlanData.{PlanData}
-use Rattle.plan_text.specs.Journals.{same_actor}
+use Rattle.plan_words.specs.PlanData.{PlanData}
+use Rattle.plan_words.specs.Journals.{same_actor}
 use Rattle.tool_program.specs.Programs.{given}
 
 -- the clients from this number on

@@ -12,7 +12,6 @@ use Rattle.gho_values.specs.Comparing.{compare_keys}
 use Rattle.gho_schema.specs.declared.schema.Schema.{Schema}
 use Rattle.gho_schema.specs.declared.schema.Column.{Column}
 use Rattle.alter_image.specs.declared.map.MapColumn.{MapColumn}
-use Rattle.row_store.specs.Databases.{TableRows, find_table}
 use Rattle.script_text.specs.declared.actor.Actor.{Actor}
 use Rattle.script_text.specs.declared.actor.Actor.TheVariants.{Insp, Copy, Ren, Client}
 use Rattle.script_text.specs.declared.script.ScriptLine.{ScriptLine}
@@ -28,20 +27,11 @@ use Rattle.server_words.specs.declared.entry.Entry.{Entry}
 use Rattle.server_words.specs.declared.request.Request.{Request}
 use Rattle.server_words.specs.declared.request.Request.TheVariants as requests
 use Rattle.server_words.specs.Along.{Along}
-use Rattle.plan_text.specs.PlanData.{PlanData}
-use Rattle.plan_text.specs.Altering.{Altered, altered_by}
-use Rattle.plan_text.specs.Journals.{same_actor, is_client, client_asks, state_at}
+use Rattle.plan_words.specs.PlanData.{PlanData, Altered, plan_altered}
+use Rattle.plan_words.specs.Journals.{same_actor, is_client, client_asks, state_at}
 use Rattle.tool_program.specs.ToolNames.{ghost_name, old_name}
 use Rattle.tool_program.specs.declared.tool.Tool.{Tool}
 use Rattle.tool_program.specs.declared.tool.Tool.TheVariants.{Creating, Reaching, Choosing, Spanning, Copying, Renaming, Done, Reverting, Reverted}
-
--- the new schema of the migrated table, and where its columns' values come from; none where the ALTER is refused
-abbrev pub altered_in : PlanData → Option TableRows → Option Altered
-altered_in plan None = None
-altered_in plan (Some table) = altered_by plan table.schema
-
-unfoldable pub plan_altered : PlanData → Option Altered
-plan_altered plan = altered_in plan (find_table plan.table plan.tables)
 
 -- how many rows a chunk has at most, where the plan says nothing (gh-ost's --chunk-size)
 abbrev pub chunk_size : ℕ

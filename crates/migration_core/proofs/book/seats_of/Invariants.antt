@@ -1,5 +1,5 @@
 use Rattle.std.proofs.Common.{◌≡◌, ℕ, ◌+◌, List, [], ◌++◌, map, drop}
-use Rattle.plan_text.specs.PlanData.{PlanData}
+use Rattle.plan_words.specs.PlanData.{PlanData}
 use Rattle.tool_program.specs.Orders.{actors, clients_from}
 use Rattle.migration_core.specs.declared.seat.Seat.{Seat}
 use Rattle.migration_core.specs.Books.{seat_at}

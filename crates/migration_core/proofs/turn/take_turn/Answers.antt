@@ -1,5 +1,5 @@
 use Rattle.std.proofs.Common.{◌≡◌, Some, sym, ◌∙◌, rules}
-use Rattle.plan_text.specs.Journals.{state_at}
+use Rattle.plan_words.specs.Journals.{state_at}
 use Rattle.tool_program.specs.Programs.{given, session_for}
 use Rattle.migration_core.specs.Runs.{opened_for, served}
 use Rattle.migration_core.proofs.Givens.{given_stands}

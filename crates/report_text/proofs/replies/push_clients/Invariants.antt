@@ -1,6 +1,6 @@
 use Rattle.std.proofs.Common.{◌≡◌, ℕ, ◌+◌, List, ◌++◌, drop}
 use Rattle.server_words.specs.declared.entry.Entry.{Entry}
-use Rattle.plan_text.specs.PlanData.{PlanData}
+use Rattle.plan_words.specs.PlanData.{PlanData}
 use Rattle.report_text.specs.Replies.{clients_from}
 use Rattle.report_text.proofs.replies.push_clients.Given as goal
 

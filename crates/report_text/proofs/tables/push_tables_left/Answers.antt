@@ -1,7 +1,7 @@
 use Rattle.std.proofs.Common.{◌++◌, arith}
 use Rattle.std.proofs.lemmas.Bool.Decides.{nat_tests}
 use Rattle.row_store.specs.Databases.{database}
-use Rattle.plan_text.specs.Histories.{tables_left}
+use Rattle.plan_words.specs.Histories.{tables_left}
 use Rattle.report_text.specs.Tables.{tables_text}
 use Rattle.report_text.proofs.Steps.{prints_one, prints_all}
 use Rattle.report_text.proofs.tables.push_tables_left.Goals as goal

@@ -1,6 +1,6 @@
 use Rattle.std.proofs.Common.{◌≡◌, ◌++◌, drop}
 use Rattle.row_store.specs.Databases.{database}
-use Rattle.plan_text.specs.Histories.{tables_left}
+use Rattle.plan_words.specs.Histories.{tables_left}
 use Rattle.report_text.specs.Tables.{tables_text}
 use Rattle.report_text.proofs.Steps.{with_tables}
 use Rattle.report_text.proofs.tables.push_tables_left.Given as goal

@@ -1,6 +1,6 @@
 use Rattle.std.proofs.Common.{◌≡◌, ℕ, ◌+◌, List, drop}
 use Rattle.server_words.specs.declared.entry.Entry.{Entry}
-use Rattle.plan_text.specs.PlanData.{PlanData}
+use Rattle.plan_words.specs.PlanData.{PlanData}
 use Rattle.tool_program.specs.Programs.{over_from, clients_over}
 use Rattle.migration_core.proofs.book.Book.clients_over.Given as goal
 

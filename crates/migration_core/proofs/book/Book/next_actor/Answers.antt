@@ -1,7 +1,7 @@
 use Rattle.std.proofs.Common.{◌≡◌, sym, ◌∙◌, subst}
 use Rattle.std.specs.List.{find}
 use Rattle.std.specs.Option.{IsSome}
-use Rattle.tool_program.specs.Programs.{plan_altered}
+use Rattle.plan_words.specs.PlanData.{plan_altered}
 use Rattle.tool_program.specs.Orders.{actors, behind_last, last_actor, is_ready, next_actor}
 use Rattle.migration_core.specs.Books.{BookView}
 use Rattle.migration_core.proofs.Ends.{next_is_ready, next_behind, next_of_all, some_ready, none_ended}

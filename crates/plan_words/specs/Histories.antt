@@ -23,9 +23,8 @@ use Rattle.server_words.specs.declared.ended.Reply.{Reply}
 use Rattle.server_words.specs.declared.request.Request.TheVariants as requests
 use Rattle.server_words.specs.Along.{gathered}
 use Rattle.server_words.specs.Alone.{Ran, alone, reply_of}
-use Rattle.plan_text.specs.PlanData.{PlanData}
-use Rattle.plan_text.specs.Altering.{altered_table}
-use Rattle.plan_text.specs.Journals.{turns_of}
+use Rattle.plan_words.specs.PlanData.{PlanData, altered_table}
+use Rattle.plan_words.specs.Journals.{turns_of}
 
 -- a transaction of a client that ended, and the replies that the client got
 pub record Past : Type 0 where

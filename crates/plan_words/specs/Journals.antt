@@ -17,7 +17,7 @@ use Rattle.server_words.specs.declared.session.Session.{Session}
 use Rattle.server_words.specs.Along.{Along}
 use Rattle.server_words.specs.States.{State, opened, session_of, connected}
 use Rattle.server_words.specs.Serving.{Served, serves}
-use Rattle.plan_text.specs.PlanData.{PlanData}
+use Rattle.plan_words.specs.PlanData.{PlanData}
 
 -- the two are one actor
 abbrev pub same_actor : Actor → Actor → Bool

@@ -1,0 +1,5 @@
+pub mod Histories
+pub mod Journals
+pub mod PlanData
+pub mod PlanOptions
+pub mod PlanParts

@@ -1,0 +1,75 @@
+-- What a plan says, and what its ALTER makes of its table (MySQL's manual, "ALTER TABLE Statement").
+use Rattle.std.specs.Prelude.{ℕ, List, [], unwrap_or, Option, Some, None}
+use Rattle.std.specs.Option.{option_map}
+use Rattle.std.specs.Result.{result_ok}
+use Rattle.gho_values.specs.declared.value.Value.{Value}
+use Rattle.gho_schema.specs.declared.schema.Schema.{Schema}
+use Rattle.gho_schema.specs.Options.{◌>>=◌}
+use Rattle.alter_image.specs.declared.clause.Clause.{Clause}
+use Rattle.alter_image.specs.declared.map.MapColumn.{MapColumn}
+use Rattle.alter_image.specs.Images.{images}
+use Rattle.alter_schema.specs.Altering.{altered}
+use Rattle.row_store.specs.Databases.{TableRows, Database, find_table}
+use Rattle.script_text.specs.declared.loss.Loss.{Loss}
+use Rattle.script_text.specs.declared.operator.Command.{Command}
+use Rattle.script_text.specs.declared.script.ScriptLine.{ScriptLine}
+use Rattle.plan_words.specs.declared.options.Options.{Options}
+use Rattle.plan_words.specs.declared.runs.ActorRun.{ActorRun}
+
+-- an accepted plan
+pub record PlanData : Type 0 where
+  -- the name of the table to migrate
+  pub table : List ℕ
+  -- the clauses of the ALTER
+  pub alter : List Clause
+  -- the opening tables, in the plan's order
+  pub tables : Database
+  -- each client's script
+  pub clients : List (List ScriptLine)
+  -- the operator's commands
+  pub operator : List Command
+  -- the losses of sessions
+  pub faults : List Loss
+  -- the order of turns that is asked for
+  pub turns : List ActorRun
+  pub options : Options
+
+-- a new schema, and for each of its columns where its values come from
+abbrev pub Altered : Type 0
+Altered = Schema × List MapColumn
+
+-- what the plan's clauses make of a schema; none where they are refused
+abbrev pub altered_by : PlanData → Schema → Option Altered
+altered_by plan schema = result_ok (altered plan.options.approve_renamed_columns schema plan.alter)
+
+-- *Altered table*: the new schema and the image of every row. There is none where the clauses are refused or a row has
+-- no image.
+unfoldable pub altered_table : PlanData → Schema → List (List Value) → Option (Schema × List (List Value))
+altered_table plan schema rows = do
+  new ← altered_by plan schema
+  rows ← images new.1 rows
+  Some (new.0, rows)
+
+-- the new schema of the migrated table, and where its columns' values come from; none where the ALTER is refused
+abbrev pub altered_in : PlanData → Option TableRows → Option Altered
+altered_in plan None = None
+altered_in plan (Some table) = altered_by plan table.schema
+
+unfoldable pub plan_altered : PlanData → Option Altered
+plan_altered plan = altered_in plan (find_table plan.table plan.tables)
+
+-- the migrated table's schema, and what the ALTER makes of it. (An accepted plan has both; another has this empty one.)
+abbrev pub no_schema : Schema
+no_schema = record { name = []; columns = []; uniques = []; indexes = []; comment = [] }
+
+abbrev pub old_schema : PlanData → Schema
+old_schema plan = unwrap_or (option_map (λ table. table.schema) (find_table plan.table plan.tables)) no_schema
+
+abbrev pub new_altered : PlanData → Altered
+new_altered plan = unwrap_or (altered_by plan (old_schema plan)) (no_schema, [])
+
+unfoldable pub new_schema : PlanData → Schema
+new_schema plan = (new_altered plan).0
+
+unfoldable pub new_map : PlanData → List MapColumn
+new_map plan = (new_altered plan).1

@@ -1,0 +1,10 @@
+//! Plans, as they were read, and what a journal of one means.
+#![tactic(auto)]
+
+mod options;
+mod plan;
+mod runs;
+
+pub use options::Options;
+pub use plan::{Losses, Plan, PlanParts, Scripts};
+pub use runs::{ActorRun, ActorRuns};
