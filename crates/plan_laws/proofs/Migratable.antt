@@ -80,7 +80,7 @@ accepted_is laws keys schema clauses new plan lawful alters is =
     let rows = bound (rows_in schema keys.rows) _ plan is in
     let clients = bound (clients_in schema keys.clients) _ plan rows.goes_on in
     let table : TableRows = record { schema = schema; rows = rows.x } in
-    let made : PlanData = plan_of keys clauses table clients.x in
+    let made : PlanData = plan_of keys clauses (table ∷ []) clients.x in
     let all = tested (bytes_eq schema.name keys.table) made plan clients.goes_on in
     subst IsMigratable all.1 (record {
       table = table;

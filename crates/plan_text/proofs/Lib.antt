@@ -1,3 +1,4 @@
+mod Accepted
 mod Clashes
 mod ClientTexts
 mod Members

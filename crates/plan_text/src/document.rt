@@ -5,7 +5,8 @@ ghost use Rattle.row_store.specs.Databases.{database};
 ghost use Rattle.toml.specs.View.{table_view};
 ghost use Rattle.schema_text.specs.Reading.{schema_at};
 ghost use Rattle.plan_words.specs.PlanOptions.{default_options};
-ghost use Rattle.plan_text.specs.Accepting.{accepted};
+ghost use Rattle.plan_words.specs.PlanParts.{data_of};
+ghost use Rattle.plan_text.specs.Accepting.{plan_of, accepted};
 ghost use Rattle.plan_text.specs.Documents.{Finds};
 ghost use Rattle.plan_text.specs.PlanKeys.{keys_view};
 ghost use Rattle.plan_text.specs.Plans.{of_table, plan_at, document, document_in, reads, Says};
@@ -22,7 +23,7 @@ use gho_schema::Schema;
 use gho_schema::laws::put_keeps_order;
 use gho_values::laws::stored_values_store_again;
 use gho_values::{Name, Sequence};
-use plan_words::{Options, Plan, PlanParts};
+use plan_words::{Options, Plan, PlanParts, Scripts};
 use row_store::{AddFault, Table, Tables};
 use schema_laws::read_schemas_are_lawful;
 use schema_text::read_schema;
@@ -64,6 +65,30 @@ fn options_of(keys: &KeyTexts<'_>) -> Options
     options
 }
 
+/// The parts of a plan, of which the keys name some so far.
+fn parts_of(
+    alloc: Global,
+    keys: &KeyTexts<'_>,
+    table: Name,
+    alter: Clauses,
+    tables: Tables,
+    clients: Scripts,
+) -> PlanParts
+    requires { table ≡ keys.now.table.now }
+    ensures { data_of result ≡ plan_of (keys_view keys.now) alter (database tables) clients }
+{
+    PlanParts {
+        table,
+        alter,
+        tables,
+        clients,
+        operator: Sequence::new(alloc),
+        faults: Sequence::new(alloc),
+        turns: Sequence::new(alloc),
+        options: options_of(keys),
+    }
+}
+
 /// The plan, once its schema and its clauses are read.
 #[tactic(auto, unfolding(crate::specs::Accepting::accepted))]
 fn accepted(
@@ -83,16 +108,7 @@ fn accepted(
         return Err(NOT_BUILT);
     }
     let tables = only_table(alloc, Table::from_rows(schema, rows))?;
-    Ok(Plan::new(PlanParts {
-        table: name,
-        alter: clauses,
-        tables,
-        clients,
-        operator: Sequence::new(alloc),
-        faults: Sequence::new(alloc),
-        turns: Sequence::new(alloc),
-        options: options_of(keys),
-    }))
+    Ok(Plan::new(parts_of(alloc, keys, name, clauses, tables, clients)))
 }
 
 #[tactic(auto, unfolding(crate::specs::Plans::plan_at))]
