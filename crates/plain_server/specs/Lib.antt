@@ -1,0 +1,17 @@
+pub mod Along
+pub mod Answers
+pub mod Rows
+pub mod Checking
+pub mod Saying
+pub mod Needing
+pub mod Jobs
+pub mod Chunks
+pub mod States
+pub mod Locking
+pub mod Showing
+pub mod Deeds
+pub mod Serving
+pub mod Conditions
+pub mod Alone
+pub mod Entries
+pub mod Reading

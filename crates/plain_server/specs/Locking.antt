@@ -1,0 +1,46 @@
+-- *Need* of a request, and who blocks it: a request needs all its locks at once, and waits where another session holds,
+-- or asked earlier for, what conflicts with one of them. (MySQL's manual, "Metadata Locking", "InnoDB Locking"; that all
+-- are granted at once, or none, is this project's rule.)
+use Rattle.std.specs.Prelude.{ℕ, false, List, [], ◌∷◌, Option, Some, None}
+use Rattle.gho_values.specs.declared.span.Span.{Span}
+use Rattle.gho_schema.specs.declared.schema.Schema.{Schema}
+use Rattle.gho_schema.specs.Clustering.{clustered_place}
+use Rattle.row_locks.specs.declared.lock.Lock.{Lock}
+use Rattle.row_locks.specs.Granting.{refuser_of_set, least}
+use Rattle.metadata_locks.specs.Granting.{refuser_of_names}
+use Rattle.row_store.specs.Databases.{TableRows, Database, find_table}
+use Rattle.plain_server.specs.declared.need.Need.{Need}
+use Rattle.plain_server.specs.declared.request.Request.{Request}
+use Rattle.plain_server.specs.declared.request.Request.TheVariants as requests
+use Rattle.plain_server.specs.Needing.{lock_on}
+use Rattle.plain_server.specs.Jobs.{row_needs, job_needs, copy_job}
+use Rattle.plain_server.specs.States.{State, view, names_in, is_exclusive, waiters, names_held, locks_held}
+
+-- a share lock on a span of the clustered key, where the schema has one
+abbrev pub span_lock : Schema → Span → Option ℕ → List Lock
+span_lock schema span None = []
+span_lock schema span (Some place) = lock_on schema false (record { key = place; span = span }) ∷ []
+
+abbrev pub span_needs : Span → Option TableRows → List Lock
+span_needs span None = []
+span_needs span (Some table) = span_lock table.schema span (clustered_place table.schema)
+
+-- the row locks that a request needs, on the tables as the session sees them
+abbrev pub row_locks_of : Database → Request → List Lock
+row_locks_of seen (requests.Do statement) = row_needs seen statement
+row_locks_of seen (requests.BeginSpan table span size) = span_needs span (find_table table seen)
+row_locks_of seen (requests.CopyRow from into map key) = job_needs seen (copy_job seen from into map key)
+row_locks_of seen request = []
+
+-- *Need* of a request, on the tables as its session sees them
+abbrev pub need_within : Database → Request → Need
+need_within seen request = record { exclusive = is_exclusive request; names = names_in request; locks = row_locks_of seen request }
+
+-- *Need* of a session's request. It comes before every refusal, also before that of a table outside the locked ones.
+abbrev pub need : State → ℕ → Request → Need
+need state number request = need_within (view number state) request
+
+-- *Blocker*: the least session that blocks a lock which is needed, over names and rows together
+abbrev pub blocker : State → ℕ → Need → Option ℕ
+blocker state number need =
+    least (refuser_of_names (names_held state.sessions) (waiters state.waiting) number need.exclusive need.names) (refuser_of_set (locks_held state.sessions) number need.locks)

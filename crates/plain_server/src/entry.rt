@@ -1,0 +1,146 @@
+//! The journal of a run: what was asked in each turn, and the answer.
+
+ghost use Rattle.std.specs.Prelude.{◌≡◌, ◌==◌, ◌≤◌, ◌-◌, length, slice_get, Some, IfOk, [], ◌∷◌, ◌++◌, OnOk, OnErr};
+
+use crate::answer::Answer;
+use crate::request::Request;
+use gho_values::{Duplicate, Sequence};
+use script_text::{Actor, OperatorWord, Side};
+use std::alloc::{AllocError, Global};
+use std::marker::Model;
+
+/// What an actor asks in its turn.
+#[derive(Debug, Drop)]
+pub enum Asked {
+    /// A call of its session.
+    Call(Request),
+    /// Its request that waits is tried again.
+    Poll,
+    /// A command of the operator's.
+    Command(OperatorWord),
+    /// Nothing: its session is lost between calls.
+    Cut,
+}
+
+/// One turn of a run.
+#[derive(Debug, Drop)]
+pub struct Entry {
+    /// Whose turn it was.
+    pub actor: Actor,
+    /// The number of the actor's session; 0 of the operator.
+    pub session: u32,
+    /// What it asked.
+    pub asked: Asked,
+    /// Where its session was lost in this turn: before the call was done, or after.
+    pub side: Option<Side>,
+    /// What it was answered; `Lost` where its session was lost.
+    pub answer: Answer,
+    /// What the server answered where the session was lost after the call.
+    pub missed: Option<Answer>,
+}
+
+impl Duplicate for Asked {
+    fn copy(&self) -> Result<Asked, AllocError> {
+        Ok(match self {
+            Asked::Call(request) => Asked::Call(request.copy()?),
+            Asked::Poll => Asked::Poll,
+            Asked::Command(word) => Asked::Command(*word),
+            Asked::Cut => Asked::Cut,
+        })
+    }
+}
+
+fn copy_of_missed(missed: &Option<Answer>) -> Result<Option<Answer>, AllocError>
+    ensures { IfOk result (λ copy. copy ≡ missed.now) }
+{
+    Ok(match missed {
+        Some(answer) => Some(answer.copy()?),
+        None => None,
+    })
+}
+
+impl Duplicate for Entry {
+    fn copy(&self) -> Result<Entry, AllocError> {
+        Ok(Entry {
+            actor: self.actor,
+            session: self.session,
+            asked: self.asked.copy()?,
+            side: self.side,
+            answer: self.answer.copy()?,
+            missed: copy_of_missed(&self.missed)?,
+        })
+    }
+}
+
+/// The turns of a run, in order. Turns are numbered from 1.
+#[derive(Debug, Drop)]
+pub struct Journal {
+    entries: Sequence<Entry>,
+}
+
+impl Model for Journal {
+    ghost use Rattle.std.specs.Prelude.{List};
+    ghost use Rattle.plain_server.specs.declared.entry.Entry.{Entry};
+
+    ghost Value = { List Entry };
+
+    ghost view = { λ j. j.entries };
+}
+
+impl Journal {
+    /// The journal without turns. It takes no memory.
+    pub fn new(alloc: Global) -> Journal
+        ensures { result ≡ [] }
+    {
+        Journal {
+            entries: Sequence::new(alloc),
+        }
+    }
+
+    /// The journal of these turns. It takes no memory.
+    pub fn from_vec(entries: Vec<Entry>) -> Journal
+        ensures { result ≡ entries.items }
+    {
+        Journal {
+            entries: Sequence::from_vec(entries),
+        }
+    }
+
+    /// How many turns it has.
+    pub fn len(&self) -> usize
+        ensures { result ≡ length self.now }
+    {
+        self.entries.len()
+    }
+
+    /// Whether it has no turn.
+    pub fn is_empty(&self) -> bool
+        ensures { result ≡ (length self.now == 0) }
+    {
+        self.entries.is_empty()
+    }
+
+    /// The turn of this number, from 1.
+    pub fn get(&self, turn: u64) -> &Entry
+        requires from_one { 1 ≤ turn }
+        requires within { turn ≤ length self.now }
+        ensures { slice_get self.now (turn - 1) ≡ Some result.now }
+    {
+        &self.entries.as_slice()[(turn - 1) as usize]
+    }
+
+    /// All turns in order.
+    pub fn as_slice(&self) -> &[Entry]
+        ensures { result.now ≡ self.now }
+    {
+        self.entries.as_slice()
+    }
+}
+
+impl Duplicate for Journal {
+    fn copy(&self) -> Result<Journal, AllocError> {
+        Ok(Journal {
+            entries: self.entries.copy()?,
+        })
+    }
+}

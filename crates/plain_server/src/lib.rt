@@ -1,0 +1,25 @@
+//! The plain server: what sessions ask and are answered, what a statement says and needs, and the journal of a run.
+//! Its definitions are lists and numbers; whatever serves faster keeps their answers.
+#![tactic(auto)]
+
+mod answer;
+mod entry;
+mod listing;
+mod need;
+mod outcome;
+mod request;
+mod serve;
+mod session;
+mod transaction;
+mod work;
+
+pub use answer::{Answer, KeyRange};
+pub use entry::{Asked, Entry, Journal};
+pub use listing::{ShownWaiter, ShownWaiters, TableName, TableNames};
+pub use need::Need;
+pub use outcome::{Cause, Numbers, Progress, Task, Verdict};
+pub use request::Request;
+pub use serve::Serve;
+pub use session::{HeldName, HeldNames, Limits, Session, Sessions, Waiting, Waits};
+pub use transaction::{EndedTxn, Mark, Replies, Reply, TxnEnd, TxnLine, TxnLines};
+pub use work::{ColumnSets, Reach, Selection, StatementResult, Work};

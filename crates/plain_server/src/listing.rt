@@ -1,0 +1,51 @@
+//! What SHOW TABLES and the list of waits show.
+
+ghost use Rattle.std.specs.Prelude.{◌≡◌, IfOk};
+
+use gho_values::{Chars, Duplicate, Name, Names, Sequence};
+use std::alloc::AllocError;
+
+/// A table that stands.
+#[derive(Debug, Drop)]
+pub struct TableName {
+    /// Its name.
+    pub name: Name,
+    /// Its comment; empty where it has none.
+    pub comment: Chars,
+}
+
+/// Tables that stand, in byte order of their names.
+pub type TableNames = Sequence<TableName>;
+
+/// A session that waits for names of tables exclusively.
+#[derive(Debug, Drop)]
+pub struct ShownWaiter {
+    /// The session.
+    pub session: u32,
+    /// The names, each once, in the order of its request.
+    pub names: Names,
+    /// The least session that blocks it, or 0 where none does.
+    pub by: u32,
+}
+
+/// Sessions that wait, by rising number.
+pub type ShownWaiters = Sequence<ShownWaiter>;
+
+impl Duplicate for TableName {
+    fn copy(&self) -> Result<TableName, AllocError> {
+        Ok(TableName {
+            name: self.name.copy()?,
+            comment: self.comment.copy()?,
+        })
+    }
+}
+
+impl Duplicate for ShownWaiter {
+    fn copy(&self) -> Result<ShownWaiter, AllocError> {
+        Ok(ShownWaiter {
+            session: self.session,
+            names: self.names.copy()?,
+            by: self.by,
+        })
+    }
+}

@@ -1,0 +1,102 @@
+//! What the server keeps of each session.
+
+ghost use Rattle.std.specs.Prelude.{◌≡◌, IfOk};
+
+use crate::request::Request;
+use event_codec::Events;
+use gho_values::{Duplicate, Name, Sequence};
+use row_locks::LockSet;
+use std::alloc::AllocError;
+
+/// How often a waiting session is polled before its wait times out.
+#[derive(Clone, Copy, Debug, PartialEq, Eq)]
+pub struct Limits {
+    /// Of a client's session.
+    pub client_wait: u32,
+    /// Of a session of the tool's.
+    pub tool_wait: u32,
+}
+
+/// A name of a table that a session holds (MySQL's manual, "Metadata Locking").
+#[derive(Debug, Drop)]
+pub struct HeldName {
+    /// The name, whether or not a table has it.
+    pub name: Name,
+    /// Whether it is held exclusively, by LOCK TABLES, or else shared.
+    pub exclusive: bool,
+}
+
+/// Names that are held, in the order in which they were granted.
+pub type HeldNames = Sequence<HeldName>;
+
+/// A live session.
+#[derive(Debug, Drop)]
+pub struct Session {
+    /// Its number; sessions count from 1 in the order of connecting.
+    pub number: u32,
+    /// Whether it is the tool's, and no client's.
+    pub is_tool: bool,
+    /// Whether it is in a transaction.
+    pub in_transaction: bool,
+    /// What its transaction wrote so far.
+    pub writes: Events,
+    /// The row locks that it holds.
+    pub row_locks: LockSet,
+    /// The names of tables that it holds.
+    pub names: HeldNames,
+    /// How often its waiting request was polled.
+    pub polls: u32,
+}
+
+/// Sessions in the order of connecting.
+pub type Sessions = Sequence<Session>;
+
+/// A request that waits.
+#[derive(Debug, Drop)]
+pub struct Waiting {
+    /// The session that asked.
+    pub session: u32,
+    /// What it asked.
+    pub request: Request,
+}
+
+/// Waiting requests in the order in which they came.
+pub type Waits = Sequence<Waiting>;
+
+impl Duplicate for Limits {
+    fn copy(&self) -> Result<Limits, AllocError> {
+        Ok(*self)
+    }
+}
+
+impl Duplicate for HeldName {
+    fn copy(&self) -> Result<HeldName, AllocError> {
+        Ok(HeldName {
+            name: self.name.copy()?,
+            exclusive: self.exclusive,
+        })
+    }
+}
+
+impl Duplicate for Session {
+    fn copy(&self) -> Result<Session, AllocError> {
+        Ok(Session {
+            number: self.number,
+            is_tool: self.is_tool,
+            in_transaction: self.in_transaction,
+            writes: self.writes.copy()?,
+            row_locks: self.row_locks.copy()?,
+            names: self.names.copy()?,
+            polls: self.polls,
+        })
+    }
+}
+
+impl Duplicate for Waiting {
+    fn copy(&self) -> Result<Waiting, AllocError> {
+        Ok(Waiting {
+            session: self.session,
+            request: self.request.copy()?,
+        })
+    }
+}

@@ -1,0 +1,68 @@
+//! What a statement is to do, once it is checked against its table's schema, and what it gives.
+
+use crate::answer::Answer;
+use alter_image::UnfitAt;
+use event_codec::Events;
+use gho_schema::Places;
+use gho_values::{Row, Sequence, Span, Value};
+
+/// Some values of one unique key of a table: those that a condition asks for.
+#[derive(Debug, Drop)]
+pub struct Reach {
+    /// The key's place among the table's unique keys.
+    pub key: u32,
+    /// The values.
+    pub span: Span,
+}
+
+/// What is selected of the rows that are read.
+#[derive(Debug, Drop)]
+pub enum Selection {
+    /// The values of all columns.
+    AllColumns,
+    /// The values of the columns at these places, in this order.
+    Columns(Places),
+    /// How many rows they are.
+    Count,
+}
+
+/// For each column in order the value that it is set to, where it is.
+pub type ColumnSets = Sequence<Option<Value>>;
+
+/// What a statement is to do.
+#[derive(Debug, Drop)]
+pub enum Work {
+    /// Nothing: it is refused.
+    Refuse(Answer),
+    /// A new row is written.
+    Insert(Row),
+    /// A new row is written, unless it clashes with one (INSERT IGNORE).
+    Copy(Row),
+    /// A new row is written, in place of those that it clashes with.
+    Replace(Row),
+    /// Rows are removed.
+    Delete(Reach),
+    /// Rows are changed.
+    Update {
+        /// Which rows.
+        reach: Reach,
+        /// What their columns are set to, or the first column that doesn't store its value.
+        sets: Result<ColumnSets, UnfitAt>,
+    },
+    /// Rows are read.
+    Select {
+        /// Which rows.
+        reach: Reach,
+        /// What is selected of them.
+        selection: Selection,
+    },
+}
+
+/// What a statement says.
+#[derive(Debug, Drop)]
+pub struct StatementResult {
+    /// The answer.
+    pub answer: Answer,
+    /// What it writes, in order.
+    pub events: Events,
+}
