@@ -1,0 +1,3 @@
+pub mod ToolNames
+pub mod ToolTables
+pub mod Hints

@@ -1,0 +1,6 @@
+//! The copier: it copies the rows of a table chunk by chunk, in order of the clustered key.
+#![tactic(auto)]
+
+mod copier;
+
+pub use copier::{Chunk, Copier, CopyRange, CopyStep};

@@ -1,0 +1,125 @@
+-- *The actors' program*: what each actor asks next, as a function of the journal so far. (After gh-ost; the exact steps
+-- are this project's rule.)
+use Rattle.std.specs.Prelude.{◌≡◌, ◌<◌, ℕ, ◌==◌, nat_le, nat_lt, Bool, false, ◌&&◌, not, if◌then◌else◌, List, [], ◌∷◌, Option, Some, None}
+use Rattle.std.specs.List.{slice_get, list_any}
+use Rattle.script_text.specs.declared.actor.Actor.{Actor}
+use Rattle.script_text.specs.declared.actor.Actor.TheVariants.{Op, Insp, Copy, Apply, Lock, Ren, Client}
+use Rattle.script_text.specs.declared.operator.OperatorWord.{OperatorWord}
+use Rattle.plain_server.specs.Along.{Along}
+use Rattle.plain_server.specs.declared.request.Request.{Request}
+use Rattle.plain_server.specs.declared.request.Request.TheVariants as requests
+use Rattle.plain_server.specs.declared.entry.Entry.{Entry}
+use Rattle.plain_server.specs.declared.entry.Asked.{Asked}
+use Rattle.plain_server.specs.declared.entry.Asked.TheVariants.{Call, Poll, Command, Cut}
+use Rattle.plain_server.specs.Entries.{is_command}
+use Rattle.plain_server.specs.States.{State, session_of, is_waiting, is_in_transaction, unread}
+use Rattle.journal_words.specs.PlanData.{PlanData}
+use Rattle.changelog_table.specs.ToolNames.{log_name}
+use Rattle.journal_words.specs.Journals.{live_session, sessions_named}
+use Rattle.journal_words.specs.Clients.{client_asks}
+use Rattle.journal_words.specs.Keeping.{words_of}
+use Rattle.chunk_copier.specs.Copiers as copiers
+use Rattle.event_applier.specs.Appliers as appliers
+use Rattle.cutover_core.specs.declared.cutover.Role.TheVariants.{Inspector, Locker, Renamer}
+use Rattle.cutover_core.specs.Attempts as cutovers
+use Rattle.cutover_core.specs.CutOvers.{stands, is_done, is_resting}
+use Rattle.migration_program.specs.Setups.{setup_call}
+use Rattle.migration_program.specs.Operators.{is_throttled, is_postponed}
+use Rattle.migration_program.specs.Tools.{Work, Course, SettingUp, Migrating, Tool, Moment, is_reverting, moment}
+
+-- WHO IS ASKED TO DO WHAT
+
+abbrev pub waits : State → Option ℕ → Bool
+waits state None = false
+waits state (Some session) = is_waiting state session
+
+abbrev pub in_transaction : State → Option ℕ → Bool
+in_transaction state None = false
+in_transaction state (Some session) = is_in_transaction (session_of session state.sessions)
+
+-- in a revert a transaction that is open is rolled back
+abbrev pub rolls_back : State → Option ℕ → Option Request
+rolls_back state session = if in_transaction state session then Some requests.Rollback else None
+
+-- the copier: a chunk begins where the tool isn't throttled
+abbrev pub copy_call : PlanData → State → List Entry → Tool → Work → Option Request
+copy_call plan state journal tool work =
+    if copiers.starts work.copier && is_throttled plan state tool.operator then None else copiers.next journal work.copier
+
+abbrev pub unread_in : State → Work → ℕ
+unread_in state work = unread state work.applier.position (work.applier.table ∷ log_name work.applier.table ∷ [])
+
+-- A batch begins where something is unread. While no attempt stands it doesn't where the tool is throttled; while one
+-- stands, it doesn't once the RENAME was asked for.
+abbrev pub is_held : PlanData → State → Tool → Work → Bool
+is_held plan state tool work = if stands work.cutover.phase then work.cutover.is_asked else is_throttled plan state tool.operator
+
+abbrev pub may_read : PlanData → State → Tool → Work → Bool
+may_read plan state tool work = nat_lt 0 (unread_in state work) && not (is_held plan state tool work)
+
+abbrev pub apply_call : PlanData → State → List Entry → Tool → Work → Option Request
+apply_call plan state journal tool work =
+    if is_done work.cutover.phase then None
+    else if appliers.starts work.applier && not (may_read plan state tool work) then None
+    else Some (appliers.next journal work.applier)
+
+-- An attempt begins where the range is copied, few events are unread, and the tool is neither throttled nor postponed.
+abbrev pub may_begin : PlanData → State → Tool → Work → Bool
+may_begin plan state tool work =
+    work.copier.is_copied && nat_le (unread_in state work) plan.options.max_backlog && not (is_throttled plan state tool.operator)
+    && not (is_postponed plan tool.operator)
+
+abbrev pub lock_call : PlanData → State → Tool → Work → Option Request
+lock_call plan state tool work =
+    if is_resting work.cutover.phase && not (may_begin plan state tool work) then None else cutovers.next Locker work.cutover
+
+-- the tool's call for an actor that doesn't wait
+abbrev pub tool_call : PlanData → State → List Entry → Tool → Course → Actor → Option Request
+tool_call plan state journal tool (SettingUp setup tries) Insp = if is_reverting tool.reason then None else setup_call plan setup
+tool_call plan state journal tool (Migrating work) Insp = cutovers.next Inspector work.cutover
+tool_call plan state journal tool (Migrating work) Copy =
+    if is_reverting tool.reason then rolls_back state (live_session journal Copy) else copy_call plan state journal tool work
+tool_call plan state journal tool (Migrating work) Apply =
+    if is_reverting tool.reason then rolls_back state (live_session journal Apply) else apply_call plan state journal tool work
+tool_call plan state journal tool (Migrating work) Lock = lock_call plan state tool work
+tool_call plan state journal tool (Migrating work) Ren = cutovers.next Renamer work.cutover
+tool_call plan state journal tool course actor = None
+
+abbrev pub calls : Option Request → Option Asked
+calls None = None
+calls (Some request) = Some (Call request)
+
+abbrev pub commands : Option OperatorWord → Option Asked
+commands None = None
+commands (Some word) = Some (Command word)
+
+-- what an actor of the tool asks: an actor that waits polls
+abbrev pub tool_asks : PlanData → List Entry → Moment → Actor → Option Asked
+tool_asks plan journal now actor =
+    if waits now.server (live_session journal actor) then Some Poll else calls (tool_call plan now.server journal now.tool now.tool.course actor)
+
+-- *Given*: what an actor asks next; none where it isn't ready.
+unfoldable pub given : PlanData → List Entry → Actor → Option Asked
+given plan journal (Client client) = client_asks plan journal client
+given plan journal Op = commands (slice_get (words_of plan) (moment plan journal).tool.operator.taken)
+given plan journal actor = tool_asks plan journal (moment plan journal) actor
+
+-- *Follows*: each turn but a loss between calls asks what was given to its actor.
+abbrev pub IsGiven : PlanData → List Entry → Entry → Asked → Type 0
+IsGiven plan before entry Cut = Unit {0}
+IsGiven plan before entry asked = given plan before entry.actor ≡ Some asked
+
+-- The actor's turns are in its live session; where it has none, in a new one. Sessions are numbered from 1, and each new
+-- one has a greater number than those before it. A command names none.
+abbrev pub IsInSession : List Entry → Entry → Asked → Option ℕ → Type 0
+IsInSession before entry (Command word) live = entry.session ≡ 0
+IsInSession before entry asked (Some session) = entry.session ≡ session
+IsInSession before entry Cut None = ⊥
+IsInSession before entry asked None = sessions_named before < entry.session
+
+pub record IsFollowed (plan : PlanData) (before : List Entry) (entry : Entry) : Type 0 where
+  pub given : IsGiven plan before entry entry.asked
+  pub session : IsInSession before entry entry.asked (live_session before entry.actor)
+
+unfoldable pub Follows : PlanData → List Entry → Type 0
+Follows plan journal = Along (IsFollowed plan) [] journal

@@ -1,0 +1,3 @@
+//! The tool's program: what each actor asks next as a function of the journal so far, how a run ends and why, and the
+//! orders of turns.
+#![tactic(auto)]
