@@ -1,0 +1,11 @@
+mod Computing
+mod Rows
+mod Plans1
+mod Plans2
+mod Plans3
+mod Plans4
+mod Plans5
+mod Workers
+mod Sequences1
+mod Sequences2
+mod Sequences3
