@@ -1,6 +1,6 @@
 -- *State at*, *inner answer*, *faithful*: the plain server after a journal's turns, what it answers in the next, and that
 -- the answers of the journal are those. (This project's rule.)
-use Rattle.std.specs.Prelude.{◌≡◌, ℕ, max, Bool, true, false, not, if◌then◌else◌, List, [], fold, count_by, ◌&&◌, ◌||◌, Option, Some, None}
+use Rattle.std.specs.Prelude.{◌≡◌, ℕ, max, Bool, true, false, not, if◌then◌else◌, List, [], ◌∷◌, count_by, ◌&&◌, ◌||◌, Option, Some, None}
 use Rattle.script_text.specs.declared.actor.Actor.{Actor}
 use Rattle.script_text.specs.declared.actor.Side.{Side}
 use Rattle.script_text.specs.declared.actor.Side.TheVariants.{Before, After}
@@ -21,7 +21,7 @@ abbrev pub opening : PlanData → State
 opening plan = opened (record { client_wait = plan.options.client_wait; tool_wait = plan.options.tool_wait }) plan.tables
 
 -- the session is live, unless nothing is asked of it
-abbrev pub opens_if : Bool → Bool → ℕ → State → State
+unfoldable pub opens_if : Bool → Bool → ℕ → State → State
 opens_if nothing is_tool number state = if nothing || is_live state number then state else connected number is_tool state
 
 -- The state once the entry's session is live. An entry opens the session that it names, as the tool's unless its actor
@@ -32,14 +32,18 @@ opens entry state = opens_if (is_command entry.asked) (not (is_client entry.acto
 abbrev pub after_entry : State → Entry → State
 after_entry state entry = leaves entry.side (opens entry state) entry.session entry.asked
 
--- *State at*: the server after the turns of a journal.
-unfoldable pub state_at : PlanData → List Entry → State
-state_at plan journal = fold after_entry (opening plan) journal
+-- the server behind turns, from this state on
+unfoldable pub state_behind : State → List Entry → State
+state_behind state [] = state
+state_behind state (entry ∷ entries) = state_behind (after_entry state entry) entries
 
--- *Inner answer*: what the server answers in the turn behind those before it, also where the answer is lost.
-unfoldable pub inner_answer : PlanData → List Entry → Entry → Option Answer
-inner_answer plan before entry =
-    given_at entry.side entry.asked (serves (opens entry (state_at plan before)) entry.session entry.asked).answer
+-- *State at*: the server after the turns of a journal.
+abbrev pub state_at : PlanData → List Entry → State
+state_at plan journal = state_behind (opening plan) journal
+
+-- *Inner answer*: what the server answers in the turn, from the state before it, also where the answer is lost.
+unfoldable pub inner_answer : State → Entry → Option Answer
+inner_answer state entry = given_at entry.side entry.asked (serves (opens entry state) entry.session entry.asked).answer
 
 -- what the actor hears of it
 abbrev pub heard : Option Side → Option Answer → Answer
@@ -59,34 +63,21 @@ may_lose asked = true
 
 -- An entry has the server's answer. Where its session was lost it has `Lost`, and what was missed where the side is After;
 -- a command and a loss between calls have no side.
-pub record IsAnswered (plan : PlanData) (before : List Entry) (entry : Entry) : Type 0 where
+pub record IsAnswered (state : State) (entry : Entry) : Type 0 where
   pub sides : may_lose entry.asked ≡ false → entry.side ≡ None
-  pub answer : entry.answer ≡ heard entry.side (inner_answer plan before entry)
-  pub missed : entry.missed ≡ missed entry.side (inner_answer plan before entry)
+  pub answer : entry.answer ≡ heard entry.side (inner_answer state entry)
+  pub missed : entry.missed ≡ missed entry.side (inner_answer state entry)
 
 -- *Faithful*: each answer of the journal is the plain server's.
-unfoldable pub IsFaithful : PlanData → List Entry → Type 0
-IsFaithful plan journal = Along (IsAnswered plan) [] journal
+abbrev pub IsFaithfulFrom : State → List Entry → Type 0
+IsFaithfulFrom state journal = Along (λ before entry. IsAnswered (state_behind state before) entry) [] journal
+
+abbrev pub IsFaithful : PlanData → List Entry → Type 0
+IsFaithful plan journal = IsFaithfulFrom (opening plan) journal
 
 -- how many turns an actor took, losses between calls aside
 abbrev pub turns_of : Actor → List Entry → ℕ
 turns_of actor journal = count_by (λ entry. same_actor entry.actor actor && not (is_cut entry.asked)) journal
-
--- the actor's live session: that of its last turn, unless it was lost there; a command names none
-abbrev pub session_left : Asked → Answer → ℕ → Option ℕ
-session_left (Command word) answer session = None
-session_left asked answers.Lost session = None
-session_left asked answer session = Some session
-
-abbrev pub session_in : Actor → Option ℕ → Entry → Option ℕ
-session_in actor old entry = if same_actor entry.actor actor then session_left entry.asked entry.answer entry.session else old
-
-unfoldable pub live_session : List Entry → Actor → Option ℕ
-live_session journal actor = fold (session_in actor) None journal
-
--- *Sessions named*: the greatest number of a session that the turns name; a command names none
-unfoldable pub sessions_named : List Entry → ℕ
-sessions_named journal = fold (λ most entry. if is_command entry.asked then most else max most entry.session) 0 journal
 
 -- what the session asked last
 abbrev pub last_asked : Asked → Option Request → Option Request

@@ -14,7 +14,8 @@ use Rattle.plain_server.specs.declared.entry.Asked.TheVariants.{Command, Cut}
 use Rattle.plain_server.specs.declared.entry.Entry.{Entry}
 use Rattle.plain_server.specs.Entries.{same_actor, is_command}
 use Rattle.journal_words.specs.PlanData.{PlanData}
-use Rattle.journal_words.specs.Journals.{turns_of, live_session}
+use Rattle.journal_words.specs.Journals.{turns_of}
+use Rattle.journal_words.specs.Sessions.{live_session}
 use Rattle.journal_words.specs.Clients.{client_asks}
 
 -- all commands in order, `wait N` as N commands

@@ -1,6 +1,7 @@
 pub mod Altering
 pub mod PlanData
 pub mod Journals
+pub mod Sessions
 pub mod Clients
 pub mod Keeping
 pub mod Histories

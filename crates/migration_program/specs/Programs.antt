@@ -1,6 +1,6 @@
 -- *The actors' program*: what each actor asks next, as a function of the journal so far. (After gh-ost; the exact steps
 -- are this project's rule.)
-use Rattle.std.specs.Prelude.{◌≡◌, ◌<◌, ℕ, ◌==◌, nat_le, nat_lt, Bool, false, ◌&&◌, not, if◌then◌else◌, List, [], ◌∷◌, Option, Some, None}
+use Rattle.std.specs.Prelude.{◌≡◌, ℕ, ◌==◌, nat_le, nat_lt, Bool, false, ◌&&◌, not, if◌then◌else◌, List, [], ◌∷◌, Option, Some, None}
 use Rattle.std.specs.List.{slice_get, list_any}
 use Rattle.script_text.specs.declared.actor.Actor.{Actor}
 use Rattle.script_text.specs.declared.actor.Actor.TheVariants.{Op, Insp, Copy, Apply, Lock, Ren, Client}
@@ -15,7 +15,7 @@ use Rattle.plain_server.specs.Entries.{is_command}
 use Rattle.plain_server.specs.States.{State, session_of, is_waiting, is_in_transaction, unread}
 use Rattle.journal_words.specs.PlanData.{PlanData}
 use Rattle.changelog_table.specs.ToolNames.{log_name}
-use Rattle.journal_words.specs.Journals.{live_session, sessions_named}
+use Rattle.journal_words.specs.Sessions.{live_session, IsInSession}
 use Rattle.journal_words.specs.Clients.{client_asks}
 use Rattle.journal_words.specs.Keeping.{words_of}
 use Rattle.chunk_copier.specs.Copiers as copiers
@@ -104,19 +104,11 @@ given plan journal (Client client) = client_asks plan journal client
 given plan journal Op = commands (slice_get (words_of plan) (moment plan journal).tool.operator.taken)
 given plan journal actor = tool_asks plan journal (moment plan journal) actor
 
--- *Follows*: each turn but a loss between calls asks what was given to its actor.
 abbrev pub IsGiven : PlanData → List Entry → Entry → Asked → Type 0
 IsGiven plan before entry Cut = Unit {0}
 IsGiven plan before entry asked = given plan before entry.actor ≡ Some asked
 
--- The actor's turns are in its live session; where it has none, in a new one. Sessions are numbered from 1, and each new
--- one has a greater number than those before it. A command names none.
-abbrev pub IsInSession : List Entry → Entry → Asked → Option ℕ → Type 0
-IsInSession before entry (Command word) live = entry.session ≡ 0
-IsInSession before entry asked (Some session) = entry.session ≡ session
-IsInSession before entry Cut None = ⊥
-IsInSession before entry asked None = sessions_named before < entry.session
-
+-- *Follows*: each turn but a loss between calls asks what was given to its actor, and each is in its actor's session.
 pub record IsFollowed (plan : PlanData) (before : List Entry) (entry : Entry) : Type 0 where
   pub given : IsGiven plan before entry entry.asked
   pub session : IsInSession before entry entry.asked (live_session before entry.actor)

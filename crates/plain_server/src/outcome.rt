@@ -78,12 +78,6 @@ pub enum Progress {
     },
 }
 
-impl Duplicate for Task {
-    fn copy(&self) -> Result<Task, AllocError> {
-        Ok(*self)
-    }
-}
-
 impl Duplicate for Cause {
     fn copy(&self) -> Result<Cause, AllocError> {
         Ok(match self {
@@ -114,11 +108,5 @@ impl Duplicate for Verdict {
             Verdict::Reverted(cause) => Verdict::Reverted(cause.copy()?),
             Verdict::Unfinished => Verdict::Unfinished,
         })
-    }
-}
-
-impl Duplicate for Progress {
-    fn copy(&self) -> Result<Progress, AllocError> {
-        Ok(*self)
     }
 }

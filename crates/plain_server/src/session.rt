@@ -63,12 +63,6 @@ pub struct Waiting {
 /// Waiting requests in the order in which they came.
 pub type Waits = Sequence<Waiting>;
 
-impl Duplicate for Limits {
-    fn copy(&self) -> Result<Limits, AllocError> {
-        Ok(*self)
-    }
-}
-
 impl Duplicate for HeldName {
     fn copy(&self) -> Result<HeldName, AllocError> {
         Ok(HeldName {

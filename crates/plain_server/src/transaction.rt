@@ -67,24 +67,12 @@ pub enum Reply {
 /// Replies in order.
 pub type Replies = Sequence<Reply>;
 
-impl Duplicate for Mark {
-    fn copy(&self) -> Result<Mark, AllocError> {
-        Ok(*self)
-    }
-}
-
 impl Duplicate for TxnLine {
     fn copy(&self) -> Result<TxnLine, AllocError> {
         Ok(TxnLine {
             word: self.word.copy()?,
             mark: self.mark,
         })
-    }
-}
-
-impl Duplicate for TxnEnd {
-    fn copy(&self) -> Result<TxnEnd, AllocError> {
-        Ok(*self)
     }
 }
 

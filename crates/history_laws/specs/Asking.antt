@@ -1,0 +1,37 @@
+-- Requests that are lines of a transaction: what they need and do, by the line.
+use Rattle.std.specs.Prelude.{ℕ, false, if◌then◌else◌, [], ◌∷◌, Option, Some, None}
+use Rattle.row_store.specs.Databases.{Database}
+use Rattle.script_text.specs.declared.script.ScriptWord.{ScriptWord}
+use Rattle.script_text.specs.declared.script.ScriptWord.TheVariants as words
+use Rattle.plain_server.specs.declared.request.Request.{Request}
+use Rattle.plain_server.specs.declared.request.Request.TheVariants as requests
+use Rattle.plain_server.specs.Jobs.{table_of, says, row_needs}
+use Rattle.plain_server.specs.States.{State, session_of, is_in_transaction}
+use Rattle.plain_server.specs.declared.need.Need.{Need}
+use Rattle.plain_server.specs.Serving.{goes_on, commits, forgets}
+
+-- the request that a line is, and the line that a request is
+abbrev pub asks_of : ScriptWord → Request
+asks_of words.Begin = requests.Begin
+asks_of words.Commit = requests.Commit
+asks_of words.Rollback = requests.Rollback
+asks_of (words.Do statement) = requests.Do statement
+
+abbrev pub word_in : Request → Option ScriptWord
+word_in requests.Begin = Some words.Begin
+word_in requests.Commit = Some words.Commit
+word_in requests.Rollback = Some words.Rollback
+word_in (requests.Do statement) = Some (words.Do statement)
+word_in request = None
+
+-- what a line needs, and what it leaves
+abbrev pub need_of_word : Database → ScriptWord → Need
+need_of_word seen (words.Do statement) = record { exclusive = false; names = table_of statement ∷ []; locks = row_needs seen statement }
+need_of_word seen word = record { exclusive = false; names = []; locks = [] }
+
+abbrev pub does_word : Database → State → ℕ → ScriptWord → State
+does_word seen state number words.Begin = goes_on number (need_of_word seen words.Begin) [] state
+does_word seen state number words.Commit = commits number [] state
+does_word seen state number words.Rollback = forgets number state
+does_word seen state number (words.Do statement) =
+    if is_in_transaction (session_of number state.sessions) then goes_on number (need_of_word seen (words.Do statement)) (says seen statement).events state else commits number (says seen statement).events state

@@ -1,0 +1,5 @@
+pub mod Asking
+pub mod Scenes
+pub mod Turns
+pub mod Holdings
+pub mod Laws

@@ -1,0 +1,2 @@
+//! What holds of every journal: its history is serial.
+#![tactic(auto)]

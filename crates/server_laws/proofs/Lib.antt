@@ -1,0 +1,7 @@
+mod Others
+mod Alone
+mod Locking
+mod Agreements
+mod Spans
+mod Beginning
+mod Defining

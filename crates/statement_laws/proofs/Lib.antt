@@ -1,0 +1,9 @@
+pub mod Standing
+pub mod Points
+pub mod Points2
+pub mod Footprints
+pub mod Covers
+pub mod Orderly
+pub mod Sound
+pub mod Finding
+pub mod Stables

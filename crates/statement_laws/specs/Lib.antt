@@ -1,0 +1,4 @@
+pub mod Agreeing
+pub mod Covering
+pub mod Databases
+pub mod Stability
