@@ -16,7 +16,8 @@ use Rattle.statement_laws.specs.Stability.{RunSo}
 use Rattle.history_laws.specs.Scenes.{PlainItem, Stored, Scene, is_mine, tables_left, left, seen, NamesTable, Seat, Going, no_seat, not_going, IsFine, Besides}
 use Rattle.plain_server.specs.declared.answer.Answer.{Answer}
 use Rattle.plain_server.specs.declared.answer.Answer.TheVariants as answers
-use Rattle.history_laws.specs.Turns.{scene_state, inner, answer_at, missed_at, IsTold, AllTold, Fate, Still, word_given, was_given, broken, word_lost, word_asked, renames_away, fate_renamed, request_of, about, is_busy, fate_if, fate, happens, goings_after, goings_from, goings_at, entry_adds, history, MayAskIf, MayAsk, ClientAsks, ToolAsks, RenamesSo, DefinesSo, AtRest, IsAllowed}
+use Rattle.plain_server.specs.Answers.{ok}
+use Rattle.history_laws.specs.Turns.{scene_state, inner, answer_at, missed_at, told_at, IsTold, AllTold, Fate, Still, word_given, was_given, broken, word_lost, word_asked, renames_away, fate_renamed, request_of, about, is_busy, fate_if, fate, happens, goings_after, goings_from, goings_at, entry_adds, history, MayAskIf, MayAsk, ClientAsks, ToolAsks, RenamesSo, DefinesSo, AtRest, IsAllowed}
 use Rattle.plain_server.specs.declared.entry.Asked.{Asked}
 use Rattle.plain_server.specs.declared.entry.Asked.TheVariants.{Call, Poll, Cut, Command}
 use Rattle.plain_server.specs.declared.entry.Entry.{Entry}
@@ -224,28 +225,28 @@ waits_still : (scene : Scene) (state : State) (number count : ℕ) (going : ℕ 
 waits_still scene state number count going past work lost true by state' tables log sessions = tool_counts scene state number count going past work lost state' tables log sessions
 waits_still scene state number count going past work lost false by state' tables log sessions = tool_counts scene state number count going past work lost state' tables log sessions
 
-tool_call : (scene : Scene) (state : State) (number : ℕ) (going : ℕ → Going) (past : List PlainItem) (work : ToolWork scene state number going past) → is_mine scene scene.migrated ≡ true → OneIn state.sessions → (lost : Bool) (request : Request) → ToolAsks scene request → DefinesSo scene (is_in_transaction (session_of number state.sessions)) state.tables (Some request) → (by : Option ℕ) → blocker state number (need state number request) ≡ by
+tool_call : (scene : Scene) (state : State) (number : ℕ) (going : ℕ → Going) (past : List PlainItem) (work : ToolWork scene state number going past) → is_mine scene scene.migrated ≡ true → OneIn state.sessions → (lost : Bool) (request : Request) → ToolAsks scene request → (by : Option ℕ) → DefinesSo scene (is_in_transaction (session_of number state.sessions)) state.tables (Some request) (Some (called_unless by state number request).answer) → blocker state number (need state number request) ≡ by
     → Turned scene (stored (final lost number (called_unless by state number request).after)) (face_of (final lost number (called_unless by state number request).after).sessions) number (fate_renamed (renames_away scene.migrated (Some request)) (Some (called_unless by state number request).answer)) going past
-tool_call scene state number going past work mine one lost request asks so None is = tool_done scene state number going past work lost request mine asks so (granted state number (need state number request) one is)
-tool_call scene state number going past work mine one lost request asks so (Some by) is = waits_still scene state number 0 going past work lost (renames_away scene.migrated (Some request)) by (called_unless (Some by) state number request).after refl refl refl
+tool_call scene state number going past work mine one lost request asks None so is = tool_done scene state number going past work lost request mine asks so (granted state number (need state number request) one is)
+tool_call scene state number going past work mine one lost request asks (Some by) so is = waits_still scene state number 0 going past work lost (renames_away scene.migrated (Some request)) by (called_unless (Some by) state number request).after refl refl refl
 
 tool_without : (scene : Scene) (state : State) (number : ℕ) (going : ℕ → Going) (past : List PlainItem) (work : ToolWork scene state number going past) → ToolWork scene (without_waiting number state) number going past
 tool_without scene state number going past work = record { holds = work.holds; found = work.found; is = work.is; tool = work.tool }
 
-tool_poll : (scene : Scene) (state : State) (number : ℕ) (going : ℕ → Going) (past : List PlainItem) (work : ToolWork scene state number going past) → is_mine scene scene.migrated ≡ true → OneIn state.sessions → (lost : Bool) (request : Request) → ToolAsks scene request → DefinesSo scene (is_in_transaction (session_of number state.sessions)) state.tables (Some request) → (by : Option ℕ) → blocker state number (need state number request) ≡ by
+tool_poll : (scene : Scene) (state : State) (number : ℕ) (going : ℕ → Going) (past : List PlainItem) (work : ToolWork scene state number going past) → is_mine scene scene.migrated ≡ true → OneIn state.sessions → (lost : Bool) (request : Request) → ToolAsks scene request → (by : Option ℕ) → DefinesSo scene (is_in_transaction (session_of number state.sessions)) state.tables (Some request) (Some (polled_unless by state number request).answer) → blocker state number (need state number request) ≡ by
     → Turned scene (stored (final lost number (polled_unless by state number request).after)) (face_of (final lost number (polled_unless by state number request).after).sessions) number (fate_renamed (renames_away scene.migrated (Some request)) (Some (polled_unless by state number request).answer)) going past
-tool_poll scene state number going past work mine one lost request asks so None is =
+tool_poll scene state number going past work mine one lost request asks None so is =
     tool_done scene (without_waiting number state) number going past (tool_without scene state number going past work) lost request mine asks so (free_without state number request (granted state number (need state number request) one is))
-tool_poll scene state number going past work mine one lost request asks so (Some by) is = at (is_over state number) (renames_away scene.migrated (Some request)) where
+tool_poll scene state number going past work mine one lost request asks (Some by) so is = at (is_over state number) (renames_away scene.migrated (Some request)) where
   at : (b away : Bool) → Turned scene (stored (final lost number (polled_over b by state number).after)) (face_of (final lost number (polled_over b by state number).after).sessions) number (fate_renamed away (Some (polled_over b by state number).answer)) going past
   at true true = tool_forgets scene (without_waiting number state) number going past (tool_without scene state number going past work) lost
   at true false = tool_forgets scene (without_waiting number state) number going past (tool_without scene state number going past work) lost
   at false away = waits_still scene state number (polls_of (session_of number state.sessions) + 1) going past work lost away by (polled_over false by state number).after refl refl refl
 
-tool_polled : (scene : Scene) (state : State) (number : ℕ) (going : ℕ → Going) (past : List PlainItem) (work : ToolWork scene state number going past) → is_mine scene scene.migrated ≡ true → OneIn state.sessions → (lost : Bool) (waiting : Option Waiting) → AsksIf false scene (request_of waiting) → DefinesSo scene (is_in_transaction (session_of number state.sessions)) state.tables (request_of waiting)
+tool_polled : (scene : Scene) (state : State) (number : ℕ) (going : ℕ → Going) (past : List PlainItem) (work : ToolWork scene state number going past) → is_mine scene scene.migrated ≡ true → OneIn state.sessions → (lost : Bool) (waiting : Option Waiting) → AsksIf false scene (request_of waiting) → DefinesSo scene (is_in_transaction (session_of number state.sessions)) state.tables (request_of waiting) (Some (polled_of waiting state number).answer)
     → Turned scene (stored (final lost number (polled_of waiting state number).after)) (face_of (final lost number (polled_of waiting state number).after).sessions) number (fate_renamed (renames_away scene.migrated (request_of waiting)) (Some (polled_of waiting state number).answer)) going past
 tool_polled scene state number going past work mine one lost None asks so = tool_stays scene state number going past work lost
-tool_polled scene state number going past work mine one lost (Some waiting) asks so = tool_poll scene state number going past work mine one lost waiting.request asks so (blocker state number (need state number waiting.request)) refl
+tool_polled scene state number going past work mine one lost (Some waiting) asks so = tool_poll scene state number going past work mine one lost waiting.request asks (blocker state number (need state number waiting.request)) so refl
 
 lost_still : (scene : Scene) (state : State) (number : ℕ) (going : ℕ → Going) (past : List PlainItem) (work : ToolWork scene state number going past) (away : Bool) (told : Option Answer) → ((b : Bool) → fate_renamed b told ≡ Still)
     → Turned scene (stored (loses number state)) (face_of (loses number state).sessions) number (fate_renamed away told) going past
@@ -266,13 +267,13 @@ gone_twice scene state number going past work =
     tool_rests scene (stored state) (face_of state.sessions) (face_of (filter (λ session. not (session.number == number)) (filter (λ session. not (session.number == number)) state.sessions))) number going past [] work.tool work.holds
     (lost_faces number state.sessions (filter (λ session. not (session.number == number)) state.sessions) no_face (faces_without number state.sessions))
 
-tool_turn : (scene : Scene) (side : Option Side) (state : State) (number : ℕ) (asked : Asked) (going : ℕ → Going) (past : List PlainItem) (work : ToolWork scene state number going past) → is_mine scene scene.migrated ≡ true → OneIn state.sessions → AsksIf false scene (about state number asked) → DefinesSo scene (is_in_transaction (session_of number state.sessions)) state.tables (about state number asked) → TurnsSo false scene side state number asked going past
+tool_turn : (scene : Scene) (side : Option Side) (state : State) (number : ℕ) (asked : Asked) (going : ℕ → Going) (past : List PlainItem) (work : ToolWork scene state number going past) → is_mine scene scene.migrated ≡ true → OneIn state.sessions → AsksIf false scene (about state number asked) → DefinesSo scene (is_in_transaction (session_of number state.sessions)) state.tables (about state number asked) (told_at side (answer_at side (serves state number asked).answer) (missed_at side (serves state number asked).answer)) → TurnsSo false scene side state number asked going past
 unfolding calls polls
-tool_turn scene None state number (Call request) going past work mine one asks so = tool_call scene state number going past work mine one false request asks so (blocker state number (need state number request)) refl
+tool_turn scene None state number (Call request) going past work mine one asks so = tool_call scene state number going past work mine one false request asks (blocker state number (need state number request)) so refl
 tool_turn scene None state number Poll going past work mine one asks so = tool_polled scene state number going past work mine one false (waiting_of number state.waiting) asks so
 tool_turn scene None state number Cut going past work mine one asks so = lost_still scene state number going past work (renames_away scene.migrated (about state number Cut)) (Some answers.Lost) lost_given
 tool_turn scene (Some Before) state number asked going past work mine one asks so = lost_still scene state number going past work (renames_away scene.migrated (about state number asked)) None none_given
-tool_turn scene (Some After) state number (Call request) going past work mine one asks so = tool_call scene state number going past work mine one true request asks so (blocker state number (need state number request)) refl
+tool_turn scene (Some After) state number (Call request) going past work mine one asks so = tool_call scene state number going past work mine one true request asks (blocker state number (need state number request)) so refl
 tool_turn scene (Some After) state number Poll going past work mine one asks so = tool_polled scene state number going past work mine one true (waiting_of number state.waiting) asks so
 tool_turn scene None state number (Command word) going past work mine one asks so = tool_stays scene state number going past work false
 tool_turn scene (Some After) state number (Command word) going past work mine one asks so = tool_stays scene state number going past work true
@@ -406,7 +407,7 @@ asks_about scene state number (Command word) may waits = tt_if (scene.client num
   tt_if own = tt
 
 any_turn : (scene : Scene) (side : Option Side) (state : State) (number : ℕ) (asked : Asked) (going : ℕ → Going) (past : List PlainItem) → is_mine scene scene.migrated ≡ true → Holds scene (stored state) (face_of state.sessions) going past → OneIn state.sessions → (found : Session) → session_of number state.sessions ≡ Some found
-    → DefinesSo scene (is_in_transaction (session_of number state.sessions)) state.tables (about state number asked) → (own : Bool) → scene.client number ≡ own → AsksIf own scene (about state number asked) → AsksIf own scene (request_of (waiting_of number state.waiting)) → TurnsSo own scene side state number asked going past
+    → DefinesSo scene (is_in_transaction (session_of number state.sessions)) state.tables (about state number asked) (told_at side (answer_at side (serves state number asked).answer) (missed_at side (serves state number asked).answer)) → (own : Bool) → scene.client number ≡ own → AsksIf own scene (about state number asked) → AsksIf own scene (request_of (waiting_of number state.waiting)) → TurnsSo own scene side state number asked going past
 any_turn scene side state number asked going past mine holds one found is so true own asks waits = client_turn scene side state number asked going past (record { holds = holds; found = found; is = is; client = own }) one asks waits
 any_turn scene side state number asked going past mine holds one found is so false own asks waits = tool_turn scene side state number asked going past (record { holds = holds; found = found; is = is; tool = own }) mine one asks so
 
@@ -416,7 +417,7 @@ command_still scene false state number word going past holds = turned_still scen
 
 -- a turn whose session is live, unless it is a command
 live_turn : (scene : Scene) (side : Option Side) (state : State) (number : ℕ) (asked : Asked) (going : ℕ → Going) (past : List PlainItem) → is_mine scene scene.migrated ≡ true → Holds scene (stored state) (face_of state.sessions) going past → OneIn state.sessions
-    → (is_command asked ≡ false → is_some (session_of number state.sessions) ≡ true) → (is_command asked ≡ true → side ≡ None) → DefinesSo scene (is_in_transaction (session_of number state.sessions)) state.tables (about state number asked) → AsksIf (scene.client number) scene (about state number asked)
+    → (is_command asked ≡ false → is_some (session_of number state.sessions) ≡ true) → (is_command asked ≡ true → side ≡ None) → DefinesSo scene (is_in_transaction (session_of number state.sessions)) state.tables (about state number asked) (told_at side (answer_at side (serves state number asked).answer) (missed_at side (serves state number asked).answer)) → AsksIf (scene.client number) scene (about state number asked)
     → AsksIf (scene.client number) scene (request_of (waiting_of number state.waiting)) → TurnsSo (scene.client number) scene side state number asked going past
 live_turn scene side state number (Command word) going past mine holds one live commands so asks waits =
     subst (λ (s : Option Side). TurnsSo (scene.client number) scene s state number (Command word) going past) (sym (commands refl)) (command_still scene (scene.client number) state number word going past holds)
@@ -433,7 +434,7 @@ fate_is scene state entry answer missed =
     ∙ ap (λ (m : Option Answer). fate_if (scene.client entry.session) scene (opens entry state) entry.session entry.asked entry.side (answer_at entry.side (inner state entry)) m) missed
 
 entry_kept : (scene : Scene) (state : State) (going : ℕ → Going) (past : List PlainItem) (entry : Entry) → is_mine scene scene.migrated ≡ true → entry.answer ≡ answer_at entry.side (inner state entry) → entry.missed ≡ missed_at entry.side (inner state entry) → MayAsk scene entry.session entry.asked → (is_command entry.asked ≡ true → entry.side ≡ None)
-    → AtRest (is_busy entry.session (opens entry state)) (about (opens entry state) entry.session entry.asked) → RenamesSo scene state.tables (about (opens entry state) entry.session entry.asked) → BookHolds scene state going past → BookHolds scene (after_entry state entry) (goings_after entry.session (fate scene state entry) going) (past ++ happens (fate scene state entry) (going entry.session))
+    → AtRest (is_busy entry.session (opens entry state)) (about (opens entry state) entry.session entry.asked) → (told_at entry.side entry.answer entry.missed ≡ Some ok → RenamesSo scene state.tables (about (opens entry state) entry.session entry.asked)) → BookHolds scene state going past → BookHolds scene (after_entry state entry) (goings_after entry.session (fate scene state entry) going) (past ++ happens (fate scene state entry) (going entry.session))
 entry_kept scene state going past entry mine answer missed may commands rest so is =
     let nothing : Bool = is_command entry.asked in
     let tool : Bool = not (is_client entry.actor) in
@@ -444,7 +445,10 @@ entry_kept scene state going past entry mine answer missed may commands rest so 
     let holds : Holds scene (stored now) (face_of now.sessions) going past = rw (stored_opened nothing tool number state) (holds_faces scene (stored state) (face_of state.sessions) (face_of now.sessions) going past (λ n. faces_opened nothing tool number n state) is.holds) in
     let asks = waits_found scene number now.waiting waits in
     let tables : now.tables ≡ state.tables = ap (λ (s : Stored). s.tables) (stored_opened nothing tool number state) in
-    let renames : RenamesSo scene now.tables (about now number entry.asked) = subst (λ (d : Database). RenamesSo scene d (about now number entry.asked)) (sym tables) so in
+    let told : told_at entry.side entry.answer entry.missed ≡ told_at entry.side (answer_at entry.side (inner state entry)) (missed_at entry.side (inner state entry)) =
+        ap (λ (g : Answer). told_at entry.side g entry.missed) answer ∙ ap (λ (m : Option Answer). told_at entry.side (answer_at entry.side (inner state entry)) m) missed in
+    let renames : told_at entry.side (answer_at entry.side (inner state entry)) (missed_at entry.side (inner state entry)) ≡ Some ok → RenamesSo scene now.tables (about now number entry.asked) =
+        λ done. subst (λ (d : Database). RenamesSo scene d (about now number entry.asked)) (sym tables) (so (told ∙ done)) in
     let turned : TurnsSo (scene.client number) scene entry.side now number entry.asked going past =
     live_turn scene entry.side now number entry.asked going past mine holds one (opened_live nothing tool number state) commands (rest, renames) (asks_about scene now number entry.asked may asks) asks in
     record {
@@ -518,7 +522,7 @@ journals_are_serial limits scene journal is mine faithful allowed =
 plain_allowed : (limits : Limits) (scene : Scene) (before journal : List Entry) → scene.exchanges ≡ false → Along (IsPlain limits scene) before journal → Along (IsAllowed limits scene) before journal
 plain_allowed limits scene before [] never plain = tt
 plain_allowed limits scene before (entry ∷ journal) never plain =
-    (record { may = plain.0.may; commands = plain.0.commands; rests = plain.0.rests; renames = so (about (opens entry (scene_state limits scene before)) entry.session entry.asked) }, plain_allowed limits scene (before ++ entry ∷ []) journal never plain.1) where
+    (record { may = plain.0.may; commands = plain.0.commands; rests = plain.0.rests; renames = λ told. so (about (opens entry (scene_state limits scene before)) entry.session entry.asked) }, plain_allowed limits scene (before ++ entry ∷ []) journal never plain.1) where
   so : (asks : Option Request) → RenamesSo scene (scene_state limits scene before).tables asks
   so None = tt
   so (Some (Rename pairs)) = λ may takes after is. absurd (false≢true (sym never ∙ may))

@@ -153,7 +153,7 @@ renames = exchange_alters scene exchanged exchange one_mine is_exchange
 journal_is_allowed : Along (IsAllowed limits scene) [] (journal_of limits scene turns)
 unfolding col keyed n tables altered limits scene actor_of by poll says put exchange turns told ok kept_from state_behind opens_if calls polls loses done Y9.distinct read_from events_read tables_shown waits_shown D.rename_tables job_says job_needs after_events work_of tells updates with_sets reach_of reach_range reach_equal new_row row_from places_named sought_each are_distinct sets_from beside lies_under change_rows needs points_from X.same_name X1.clustered_among X2.seeks X2.stores X2.text_number X2.in_range X2.half X3.key_of X4.has X4.meets X5.compare_values X3.with_row Y.with_session Y1.conflict Y1.refusal Y1.refuser_of_lock Y1.refuser_of_set Y2.holds Y2.least_holder Y2.least_waiter Y2.place_of Y2.refuser_of_name Y2.refuser_of_names exchanged
 journal_is_allowed =
-    (record { may = tt; commands = λ is. refl; rests = tt; renames = tt }, (record { may = refl; commands = λ is. refl; rests = tt; renames = tt }, (record { may = (refl, new_keyed); commands = λ is. refl; rests = refl; renames = tt }, (record { may = tt; commands = λ is. refl; rests = tt; renames = tt }, (record { may = refl; commands = λ is. refl; rests = tt; renames = tt }, (record { may = tt; commands = λ is. refl; rests = tt; renames = tt }, (record { may = tt; commands = λ is. refl; rests = tt; renames = tt }, (record { may = tt; commands = λ is. refl; rests = tt; renames = tt }, (record { may = refl; commands = λ is. refl; rests = tt; renames = tt }, (record { may = inr (refl, refl); commands = λ is. refl; rests = refl; renames = λ may takes after is. absurd (cc) }, (record { may = tt; commands = λ is. refl; rests = tt; renames = tt }, (record { may = refl; commands = λ is. refl; rests = refl; renames = tt }, (record { may = tt; commands = λ is. refl; rests = tt; renames = tt }, (record { may = tt; commands = λ is. refl; rests = tt; renames = tt }, (record { may = tt; commands = λ is. refl; rests = tt; renames = tt }, (record { may = tt; commands = λ is. refl; rests = tt; renames = tt }, (record { may = tt; commands = λ is. refl; rests = refl; renames = renames }, (record { may = tt; commands = λ is. refl; rests = tt; renames = tt }, (record { may = tt; commands = λ is. refl; rests = tt; renames = tt }, (record { may = tt; commands = λ is. refl; rests = tt; renames = tt }, tt))))))))))))))))))))
+    (record { may = tt; commands = λ is. refl; rests = tt; renames = λ told. tt }, (record { may = refl; commands = λ is. refl; rests = tt; renames = λ told. tt }, (record { may = (refl, new_keyed); commands = λ is. refl; rests = refl; renames = λ told. tt }, (record { may = tt; commands = λ is. refl; rests = tt; renames = λ told. tt }, (record { may = refl; commands = λ is. refl; rests = tt; renames = λ told. tt }, (record { may = tt; commands = λ is. refl; rests = tt; renames = λ told. tt }, (record { may = tt; commands = λ is. refl; rests = tt; renames = λ told. tt }, (record { may = tt; commands = λ is. refl; rests = tt; renames = λ told. tt }, (record { may = refl; commands = λ is. refl; rests = tt; renames = λ told. tt }, (record { may = inr (refl, refl); commands = λ is. refl; rests = refl; renames = λ may takes after is. absurd (cc) }, (record { may = tt; commands = λ is. refl; rests = tt; renames = λ told. tt }, (record { may = refl; commands = λ is. refl; rests = refl; renames = λ told. tt }, (record { may = tt; commands = λ is. refl; rests = tt; renames = λ told. tt }, (record { may = tt; commands = λ is. refl; rests = tt; renames = λ told. tt }, (record { may = tt; commands = λ is. refl; rests = tt; renames = λ told. tt }, (record { may = tt; commands = λ is. refl; rests = tt; renames = λ told. tt }, (record { may = tt; commands = λ is. refl; rests = refl; renames = λ told. renames }, (record { may = tt; commands = λ is. refl; rests = tt; renames = λ told. tt }, (record { may = tt; commands = λ is. refl; rests = tt; renames = λ told. tt }, (record { may = tt; commands = λ is. refl; rests = tt; renames = λ told. tt }, tt))))))))))))))))))))
 
 -- LOSSES: the RENAME's answer is lost, and so is a commit's; a statement that waits is lost before it is done
 lost : ℕ → Asked → Side → Turn

@@ -206,19 +206,20 @@ drop_left : (scene : Scene) (state : State) (number : ℕ) (going : ℕ → Goin
 drop_left scene state number going past work lost name off free false is = refused_left scene state number going past work lost false 1051
 drop_left scene state number going past work lost name off free true is = moved_left scene state number going past work lost (name ∷ []) _ is (off, tt) free (drop_moves name state.tables)
 
-rename_left : (scene : Scene) (state : State) (number : ℕ) (going : ℕ → Going) (past : List PlainItem) (work : ToolWork scene state number going past) (lost : Bool) (pairs : List Pair) → is_mine scene scene.migrated ≡ true → ToolAsks scene (Rename pairs) → RenamesSo scene state.tables (Some (Rename pairs)) → Free (names_held state.sessions) number (map exclusive (pair_names pairs))
-    → (away : Bool) → is_in_transaction (session_of number state.sessions) ≡ false → takes_away scene.migrated pairs ≡ away → (renamed : Result Database NotRenamed) → rename_tables pairs state.tables ≡ renamed → Left scene state number going past lost away (does (defined (renamed_or renamed)) state number)
-rename_left scene state number going past work lost pairs mine asks so free away is takes (Err reason) result = refused_left scene state number going past work lost away _
-rename_left scene state number going past work lost pairs mine asks so free true is takes (Ok tables) result = at asks where
+rename_left : (scene : Scene) (state : State) (number : ℕ) (going : ℕ → Going) (past : List PlainItem) (work : ToolWork scene state number going past) (lost : Bool) (pairs : List Pair) → is_mine scene scene.migrated ≡ true → ToolAsks scene (Rename pairs) → Free (names_held state.sessions) number (map exclusive (pair_names pairs))
+    → (away : Bool) → is_in_transaction (session_of number state.sessions) ≡ false → takes_away scene.migrated pairs ≡ away → (renamed : Result Database NotRenamed) → rename_tables pairs state.tables ≡ renamed
+    → (Some (does (defined (renamed_or renamed)) state number).answer ≡ Some ok → RenamesSo scene state.tables (Some (Rename pairs))) → Left scene state number going past lost away (does (defined (renamed_or renamed)) state number)
+rename_left scene state number going past work lost pairs mine asks free away is takes (Err reason) result so = refused_left scene state number going past work lost away _
+rename_left scene state number going past work lost pairs mine asks free true is takes (Ok tables) result so = at asks where
   moved : Moved (pair_names pairs) state.tables tables
   moved = rename_moves pairs state.tables tables result
   never : (ps : List Pair) → takes_away scene.migrated ps ≡ true → AllOther scene (pair_names ps) → is_mine scene scene.migrated ≡ false
   never [] takes others = absurd (false≢true takes)
   never (pair ∷ ps) takes others = ap (is_mine scene) (sym (are_same pair.old scene.migrated takes)) ∙ others.0
   at : AllOther scene (pair_names pairs) ⊎ ((scene.exchanges ≡ true) × (takes_away scene.migrated pairs ≡ true)) → Left scene state number going past lost true (does (defined (renamed_or (Ok tables))) state number)
-  at (inr both) = altered_left scene state number going past work lost (pair_names pairs) tables is both.0 (so both.0 takes tables result) free moved
+  at (inr both) = altered_left scene state number going past work lost (pair_names pairs) tables is both.0 (so refl both.0 takes tables result) free moved
   at (inl others) = absurd (false≢true (sym (never pairs takes others) ∙ mine))
-rename_left scene state number going past work lost pairs mine asks so free false is takes (Ok tables) result = moved_left scene state number going past work lost (pair_names pairs) tables is (at asks) free (rename_moves pairs state.tables tables result) where
+rename_left scene state number going past work lost pairs mine asks free false is takes (Ok tables) result so = moved_left scene state number going past work lost (pair_names pairs) tables is (at asks) free (rename_moves pairs state.tables tables result) where
   at : AllOther scene (pair_names pairs) ⊎ ((scene.exchanges ≡ true) × (takes_away scene.migrated pairs ≡ true)) → AllOther scene (pair_names pairs)
   at (inl others) = others
   at (inr more) = absurd (true≢false (sym more.1 ∙ takes))
@@ -226,7 +227,7 @@ rename_left scene state number going past work lost pairs mine asks so free fals
 seen_is : (scene : Scene) (state : State) (number : ℕ) (going : ℕ → Going) (past : List PlainItem) (work : ToolWork scene state number going past) → view number state ≡ after_events state.tables work.found.writes
 seen_is scene state number going past work = ap (λ (o : Option Session). after_events state.tables (writes_of o)) work.is
 
-within_left : (scene : Scene) (state : State) (number : ℕ) (going : ℕ → Going) (past : List PlainItem) (work : ToolWork scene state number going past) (lost : Bool) (request : Request) → is_mine scene scene.migrated ≡ true → ToolAsks scene request → DefinesSo scene (is_in_transaction (session_of number state.sessions)) state.tables (Some request) → IsFree state number (need_within (view number state) request)
+within_left : (scene : Scene) (state : State) (number : ℕ) (going : ℕ → Going) (past : List PlainItem) (work : ToolWork scene state number going past) (lost : Bool) (request : Request) → is_mine scene scene.migrated ≡ true → ToolAsks scene request → DefinesSo scene (is_in_transaction (session_of number state.sessions)) state.tables (Some request) (Some (does (deed_within (is_in_transaction (session_of number state.sessions)) (view number state) state request) state number).answer) → IsFree state number (need_within (view number state) request)
     → Left scene state number going past lost (renames_away scene.migrated (Some request)) (does (deed_within (is_in_transaction (session_of number state.sessions)) (view number state) state request) state number)
 within_left scene state number going past work lost requests.Begin mine asks so free = tool_word scene state number going past work words.Begin tt free.apart lost
 within_left scene state number going past work lost requests.Commit mine asks so free = tool_word scene state number going past work words.Commit tt free.apart lost
@@ -242,7 +243,7 @@ within_left scene state number going past work lost (LockTables names) mine asks
 within_left scene state number going past work lost Unlock mine asks so free = tool_unlocks_names scene state number going past work lost
 within_left scene state number going past work lost (Create schema) mine asks so free = create_left scene state number going past work lost schema asks free.names (has_table schema.name state.tables) so.0
 within_left scene state number going past work lost (Drop name) mine asks so free = drop_left scene state number going past work lost name asks free.names (has_table name state.tables) so.0
-within_left scene state number going past work lost (Rename pairs) mine asks so free = rename_left scene state number going past work lost pairs mine asks so.1 free.names (takes_away scene.migrated pairs) so.0 refl (rename_tables pairs state.tables) refl
+within_left scene state number going past work lost (Rename pairs) mine asks so free = rename_left scene state number going past work lost pairs mine asks free.names (takes_away scene.migrated pairs) so.0 refl (rename_tables pairs state.tables) refl so.1
 within_left scene state number going past work lost ShowTables mine asks so free = tool_stays scene state number going past work lost
 within_left scene state number going past work lost ShowWaiting mine asks so free = tool_stays scene state number going past work lost
 within_left scene state number going past work lost LogEnd mine asks so free = tool_stays scene state number going past work lost
@@ -266,10 +267,10 @@ within_left scene state number going past work lost (CopyRow from into columns k
   at true = tool_goes_on scene state number going past work need' said'.events lost free.apart fine
   at false = tool_commits scene state number going past work need' said'.events lost free.apart fine
 
-pub tool_done : (scene : Scene) (state : State) (number : ℕ) (going : ℕ → Going) (past : List PlainItem) (work : ToolWork scene state number going past) (lost : Bool) (request : Request) → is_mine scene scene.migrated ≡ true → ToolAsks scene request → DefinesSo scene (is_in_transaction (session_of number state.sessions)) state.tables (Some request) → IsFree state number (need state number request)
+pub tool_done : (scene : Scene) (state : State) (number : ℕ) (going : ℕ → Going) (past : List PlainItem) (work : ToolWork scene state number going past) (lost : Bool) (request : Request) → is_mine scene scene.migrated ≡ true → ToolAsks scene request → DefinesSo scene (is_in_transaction (session_of number state.sessions)) state.tables (Some request) (Some (done state number request).answer) → IsFree state number (need state number request)
     → Left scene state number going past lost (renames_away scene.migrated (Some request)) (done state number request)
 unfolding done
-tool_done scene state number going past work lost request mine asks so free = at (is_outside (session_of number state.sessions) request) free where
-  at : (b : Bool) → IsFree state number (need_within (view number state) request) → Left scene state number going past lost (renames_away scene.migrated (Some request)) (does (deed_unless b (is_in_transaction (session_of number state.sessions)) (view number state) state request) state number)
-  at true free = refused_left scene state number going past work lost (renames_away scene.migrated (Some request)) 1100
-  at false free = within_left scene state number going past work lost request mine asks so free
+tool_done scene state number going past work lost request mine asks so free = at (is_outside (session_of number state.sessions) request) so free where
+  at : (b : Bool) → DefinesSo scene (is_in_transaction (session_of number state.sessions)) state.tables (Some request) (Some (does (deed_unless b (is_in_transaction (session_of number state.sessions)) (view number state) state request) state number).answer) → IsFree state number (need_within (view number state) request) → Left scene state number going past lost (renames_away scene.migrated (Some request)) (does (deed_unless b (is_in_transaction (session_of number state.sessions)) (view number state) state request) state number)
+  at true so free = refused_left scene state number going past work lost (renames_away scene.migrated (Some request)) 1100
+  at false so free = within_left scene state number going past work lost request mine asks so free

@@ -284,12 +284,13 @@ AtRest busy (Some (Drop name)) = busy ≡ false
 AtRest busy (Some (Rename pairs)) = busy ≡ false
 AtRest busy asks = Unit {0}
 
-abbrev pub DefinesSo : Scene → Bool → Database → Option Request → Type 0
-DefinesSo scene busy tables asks = AtRest busy asks × RenamesSo scene tables asks
+-- what is told of a turn; only where the request was done the RENAME counts
+abbrev pub DefinesSo : Scene → Bool → Database → Option Request → Option Answer → Type 0
+DefinesSo scene busy tables asks told = AtRest busy asks × (told ≡ Some ok → RenamesSo scene tables asks)
 
 -- *Allowed*: what an entry may ask
 pub record IsAllowed (limits : Limits) (scene : Scene) (before : List Entry) (entry : Entry) : Type 0 where
   pub may : MayAsk scene entry.session entry.asked
   pub commands : is_command entry.asked ≡ true → entry.side ≡ None
   pub rests : AtRest (is_busy entry.session (opens entry (scene_state limits scene before))) (about (opens entry (scene_state limits scene before)) entry.session entry.asked)
-  pub renames : RenamesSo scene (scene_state limits scene before).tables (about (opens entry (scene_state limits scene before)) entry.session entry.asked)
+  pub renames : told_at entry.side entry.answer entry.missed ≡ Some ok → RenamesSo scene (scene_state limits scene before).tables (about (opens entry (scene_state limits scene before)) entry.session entry.asked)
