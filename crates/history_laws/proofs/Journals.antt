@@ -17,7 +17,8 @@ use Rattle.history_laws.specs.Scenes.{PlainItem, Stored, Scene, is_mine, tables_
 use Rattle.plain_server.specs.declared.answer.Answer.{Answer}
 use Rattle.plain_server.specs.declared.answer.Answer.TheVariants as answers
 use Rattle.plain_server.specs.Answers.{ok}
-use Rattle.history_laws.specs.Turns.{scene_state, inner, answer_at, missed_at, told_at, IsTold, AllTold, Fate, Still, word_given, was_given, broken, word_lost, word_asked, renames_away, fate_renamed, request_of, about, is_busy, fate_if, fate, happens, goings_after, goings_from, goings_at, entry_adds, history, MayAskIf, MayAsk, ClientAsks, ToolAsks, RenamesSo, DefinesSo, AtRest, IsAllowed}
+use Rattle.history_laws.specs.Turns.{scene_state, inner, answer_at, missed_at, told_at, IsTold, AllTold, Fate, Still, word_given, was_given, broken, word_lost, word_asked, fate_renamed, request_of, about, is_busy, fate_if, fate, happens, goings_after, goings_from, goings_at, entry_adds, history, MayAskIf, MayAsk, ClientAsks, ToolAsks, RenamesSo, DefinesSo, AtRest, IsAllowed}
+use Rattle.journal_words.specs.Histories.{renames_away}
 use Rattle.plain_server.specs.declared.entry.Asked.{Asked}
 use Rattle.plain_server.specs.declared.entry.Asked.TheVariants.{Call, Poll, Cut, Command}
 use Rattle.plain_server.specs.declared.entry.Entry.{Entry}

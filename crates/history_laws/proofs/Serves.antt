@@ -18,7 +18,8 @@ use Rattle.plain_server.specs.declared.session.Session.{Session}
 use Rattle.statement_laws.specs.Covering.{Apart}
 use Rattle.plain_server.specs.Jobs.{says, job_says, after_events, copy_job}
 use Rattle.history_laws.specs.Scenes.{PlainItem, Alter, Scene, seen, is_mine, AltersTo, NamesTable, Going, not_going, IsFine}
-use Rattle.history_laws.specs.Turns.{Fate, Still, Alters, ClientAsks, ToolAsks, AllOther, RenamesSo, DefinesSo, takes_away, renames_away, fate_renamed, word_given, mark_lost, was_given, happens, is_busy}
+use Rattle.history_laws.specs.Turns.{Fate, Still, Alters, ClientAsks, ToolAsks, AllOther, RenamesSo, DefinesSo, fate_renamed, word_given, mark_lost, was_given, happens, is_busy}
+use Rattle.journal_words.specs.Histories.{takes_away, renames_away}
 use Rattle.history_laws.specs.Turns as fates
 use Rattle.plain_server.specs.declared.transaction.TxnEnd.TheVariants as ends
 use Rattle.plain_server.specs.declared.work.StatementResult.{StatementResult}
@@ -215,7 +216,10 @@ rename_left scene state number going past work lost pairs mine asks free true is
   moved = rename_moves pairs state.tables tables result
   never : (ps : List Pair) → takes_away scene.migrated ps ≡ true → AllOther scene (pair_names ps) → is_mine scene scene.migrated ≡ false
   never [] takes others = absurd (false≢true takes)
-  never (pair ∷ ps) takes others = ap (is_mine scene) (sym (are_same pair.old scene.migrated takes)) ∙ others.0
+  never (pair ∷ ps) takes others = here (bytes_eq pair.old scene.migrated) refl takes (λ rest. never ps rest others.1.1) where
+    here : (b : Bool) → bytes_eq pair.old scene.migrated ≡ b → (b || takes_away scene.migrated ps) ≡ true → (takes_away scene.migrated ps ≡ true → is_mine scene scene.migrated ≡ false) → is_mine scene scene.migrated ≡ false
+    here true is takes more = ap (is_mine scene) (sym (are_same pair.old scene.migrated is)) ∙ others.0
+    here false is takes more = more takes
   at : AllOther scene (pair_names pairs) ⊎ ((scene.exchanges ≡ true) × (takes_away scene.migrated pairs ≡ true)) → Left scene state number going past lost true (does (defined (renamed_or (Ok tables))) state number)
   at (inr both) = altered_left scene state number going past work lost (pair_names pairs) tables is both.0 (so refl both.0 takes tables result) free moved
   at (inl others) = absurd (false≢true (sym (never pairs takes others) ∙ mine))

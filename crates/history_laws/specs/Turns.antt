@@ -36,6 +36,7 @@ use Rattle.plain_server.specs.States.{State, is_in_transaction, names_in, opened
 use Rattle.plain_server.specs.declared.session.Waiting.{Waiting}
 use Rattle.history_laws.specs.Asking.{word_in}
 use Rattle.journal_words.specs.Journals.{opens, after_entry, state_behind}
+use Rattle.journal_words.specs.Histories.{takes_away, renames_away}
 
 -- *State of a scene*: the server behind a journal that begins with the scene's tables
 abbrev pub scene_state : Limits → Scene → List Entry → State
@@ -149,15 +150,6 @@ client_fate None busy (Call request) asks given missed = word_asked busy asks gi
 client_fate None busy Poll asks given missed = word_asked busy asks given
 client_fate None busy (Command word) asks given missed = Still
 client_fate (Some side) busy asked asks given missed = word_lost busy asks missed
-
-abbrev pub takes_away : List ℕ → List Pair → Bool
-takes_away name [] = false
-takes_away name (pair ∷ pairs) = bytes_eq pair.old name
-
--- the request is a RENAME of the migrated table
-abbrev pub renames_away : List ℕ → Option Request → Bool
-renames_away name (Some (Rename pairs)) = takes_away name pairs
-renames_away name asks = false
 
 -- it was done
 abbrev pub fate_renamed : Bool → Option Answer → Fate

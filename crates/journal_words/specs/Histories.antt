@@ -8,6 +8,7 @@ use Rattle.script_text.specs.declared.actor.Actor.TheVariants.{Client}
 use Rattle.script_text.specs.declared.actor.Side.{Side}
 use Rattle.script_text.specs.declared.actor.Side.TheVariants.{Before, After}
 use Rattle.script_text.specs.declared.script.ScriptLine.{ScriptLine}
+use Rattle.row_store.specs.declared.renaming.Pair.{Pair}
 use Rattle.plain_server.specs.declared.transaction.Mark.{Mark}
 use Rattle.plain_server.specs.declared.transaction.TxnEnd.{TxnEnd}
 use Rattle.plain_server.specs.declared.transaction.TxnEnd.TheVariants as ends
@@ -20,11 +21,10 @@ use Rattle.plain_server.specs.declared.request.Request.TheVariants as requests
 use Rattle.plain_server.specs.declared.answer.Answer.{Answer}
 use Rattle.plain_server.specs.declared.answer.Answer.TheVariants as answers
 use Rattle.plain_server.specs.declared.entry.Asked.{Asked}
-use Rattle.plain_server.specs.declared.entry.Asked.TheVariants.{Cut}
+use Rattle.plain_server.specs.declared.entry.Asked.TheVariants.{Call, Poll, Command, Cut}
 use Rattle.plain_server.specs.declared.entry.Entry.{Entry}
 use Rattle.plain_server.specs.Entries.{same_actor}
 use Rattle.journal_words.specs.PlanData.{PlanData}
-use Rattle.journal_words.specs.Journals.{last_asked}
 use Rattle.journal_words.specs.Clients.{Reached, Became, Marked, Broken, became, client_at, is_inside, number_of, ends_with, with_line, with_reply}
 
 -- a transaction of a client that ended, and the replies that the client got
@@ -63,13 +63,27 @@ client_ends number client (Marked mark reply) = line_ends number client mark rep
 client_ends number client Broken = breaks number client (is_inside client.lines)
 client_ends number client other = []
 
--- what an actor's session asked last, polls aside
-unfoldable pub request_before : List Entry → Actor → Option Request
-request_before before actor = fold (λ old entry. if same_actor entry.actor actor then last_asked entry.asked old else old) None before
+-- the request that waits behind a turn with this answer, where this one waited before it
+abbrev pub waits_behind : Asked → Answer → Option Request → Option Request
+waits_behind (Call request) (answers.Waits by) old = Some request
+waits_behind Poll (answers.Waits by) old = old
+waits_behind asked answer old = None
 
--- what the turn is about
+abbrev pub waits_in : Actor → Option Request → Entry → Option Request
+waits_in actor old entry = if same_actor entry.actor actor then waits_behind entry.asked entry.answer old else old
+
+-- the request that an actor waits with: its last call, where that and every poll since were answered so
+unfoldable pub request_waiting : List Entry → Actor → Option Request
+request_waiting before actor = fold (waits_in actor) None before
+
+-- what a turn is about: the request that is called, or that the actor waits with
+abbrev pub asked_about : Asked → Option Request → Option Request
+asked_about (Call request) waiting = Some request
+asked_about (Command word) waiting = None
+asked_about asked waiting = waiting
+
 abbrev pub about : List Entry → Entry → Option Request
-about before entry = last_asked entry.asked (request_before before entry.actor)
+about before entry = asked_about entry.asked (request_waiting before entry.actor)
 
 -- what the server answered in the turn, as the entry has it
 abbrev pub told_in : Asked → Option Side → Answer → Option Answer → Option Answer
@@ -78,14 +92,17 @@ told_in asked None answer missed = Some answer
 told_in asked (Some Before) answer missed = None
 told_in asked (Some After) answer missed = missed
 
--- the migrated table gives up its name
-abbrev pub takes_away : PlanData → Request → Bool
-takes_away plan (requests.Rename pairs) = list_any (λ pair. bytes_eq pair.old plan.table) pairs
-takes_away plan request = false
+-- the table of this name gives it up
+abbrev pub takes_away : List ℕ → List Pair → Bool
+takes_away name pairs = list_any (λ pair. bytes_eq pair.old name) pairs
+
+abbrev pub renames_away : List ℕ → Option Request → Bool
+renames_away name (Some (requests.Rename pairs)) = takes_away name pairs
+renames_away name request = false
 
 -- *The ALTER* is at the turn in which the RENAME of the migrated table was done, also where its answer was missed.
 abbrev pub alters : PlanData → Option Request → Option Answer → List HistoryItem
-alters plan (Some request) (Some (answers.Ok count)) = if takes_away plan request then Alter ∷ [] else []
+alters plan request (Some (answers.Ok count)) = if renames_away plan.table request then Alter ∷ [] else []
 alters plan request answer = []
 
 -- what a turn adds to the history

@@ -78,8 +78,3 @@ IsFaithful plan journal = IsFaithfulFrom (opening plan) journal
 -- how many turns an actor took, losses between calls aside
 abbrev pub turns_of : Actor → List Entry → ℕ
 turns_of actor journal = count_by (λ entry. same_actor entry.actor actor && not (is_cut entry.asked)) journal
-
--- what the session asked last
-abbrev pub last_asked : Asked → Option Request → Option Request
-last_asked (Call request) old = Some request
-last_asked asked old = old
