@@ -18,3 +18,5 @@ pub mod Existing
 pub mod Joined
 pub mod Openings
 pub mod Runs
+pub mod Actors
+pub mod Waiting

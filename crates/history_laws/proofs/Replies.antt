@@ -13,7 +13,7 @@ use Rattle.gho_values.specs.Storing.{stores, seeks}
 use Rattle.alter_image.specs.declared.image_fault.UnfitAt.{UnfitAt}
 use Rattle.event_codec.specs.declared.event.Change.{Change}
 use Rattle.event_codec.specs.declared.event.Change.TheVariants as changes
-use Rattle.row_store.specs.Databases.{TableRows, Database, find_table}
+use Rattle.row_store.specs.Databases.{TableRows, Database, find_table, row_at_key}
 use Rattle.script_text.specs.declared.script.ScriptWord.{ScriptWord}
 use Rattle.script_text.specs.declared.script.ScriptWord.TheVariants as words
 use Rattle.script_text.specs.declared.statement.Statement.{Statement}
@@ -35,7 +35,10 @@ use Rattle.plain_server.specs.declared.work.Work.{Work}
 use Rattle.plain_server.specs.declared.work.Work.TheVariants.{Refuse, Insert, Copy, Replace, Delete, Update, Select}
 use Rattle.plain_server.specs.Checking.{◌>>=◌, unless, or_unknown, place_of, places_named, are_distinct, value_at, given_or, beside, row_from, places_listed, new_row, sought_at, sought_each, keyed, reach_equal, reach_range, reach_of, selection_of, or_refused, update_of, select_of, work_of}
 use Rattle.plain_server.specs.Saying.{TableResult, only, clashes_besides, change_first, with_sets, updates, result_or_refusal, updated, selected, tells}
-use Rattle.plain_server.specs.Jobs.{result_in, job_of, job_says}
+use Rattle.plain_server.specs.Jobs.{Job, result_in, job_of, job_says, copy_work, copy_from, copy_job}
+use Rattle.std.specs.Option.{option_map}
+use Rattle.alter_image.specs.declared.map.MapColumn.{MapColumn}
+use Rattle.alter_image.specs.Images.{image}
 use Rattle.std.specs.Option.{option_to_list}
 use Rattle.plain_server.specs.Alone.{reply_of}
 use Rattle.plain_server.specs.Alone.{line_says}
@@ -213,6 +216,24 @@ tells_replies schema rows (Select reach selection) is = shows_reply selection (r
 said_replies : (statement : Statement) (found : Option TableRows) → IsReply (result_in (job_of statement) found).answer
 said_replies statement None = tt
 said_replies statement (Some table) = tells_replies table.schema table.rows _ (work_replies table.schema statement)
+
+-- what copying a row says is a reply too
+work_in : (job : Job) (found : Option TableRows) → ((schema : Schema) → WorkReplies (job.work schema)) → IsReply (result_in job found).answer
+work_in job None is = tt
+work_in job (Some table) is = tells_replies table.schema table.rows (job.work table.schema) (is table.schema)
+
+image_replies : (image : Option (Result (List Value) UnfitAt)) (schema : Schema) → WorkReplies (copy_work image schema)
+image_replies None schema = tt
+image_replies (Some (Err at)) schema = tt
+image_replies (Some (Ok values)) schema = or_replies (new_row schema None values) Copy (new_replies schema None values) (λ row. tt)
+
+copy_replies : (from : Option TableRows) (map : List MapColumn) (key : List Value) (schema : Schema) → WorkReplies (copy_from from map key schema)
+copy_replies None map key schema = tt
+copy_replies (Some table) map key schema = image_replies (option_map (image map) (row_at_key table key)) schema
+
+pub copied_replies : (tables : Database) (from into : List ℕ) (map : List MapColumn) (key : List Value) → IsReply (job_says tables (copy_job tables from into map key)).answer
+unfolding job_says
+copied_replies tables from into map key = work_in (copy_job tables from into map key) (find_table into tables) (copy_replies (find_table from tables) map key)
 
 -- *what a line says is a reply*
 pub line_replies_so : (tables : Database) (word : ScriptWord) → IsReply (line_says tables word).answer

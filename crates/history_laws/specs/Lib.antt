@@ -3,3 +3,4 @@ pub mod Scenes
 pub mod Turns
 pub mod Holdings
 pub mod Laws
+pub mod Plans
