@@ -43,7 +43,8 @@ use Rattle.plain_server.specs.declared.request.Request.TheVariants as requests
 use Rattle.plain_server.specs.Deeds.{Deed, Forgets, Grows, Locks, Moves, Rests, Unlocks, Writes, deed}
 use Rattle.plain_server.specs.Serving.{at_rest, called_unless, calls, counting, does, done, is_over, leaves, loses, polled_of, polled_over, polled_unless, polls, serves, without_waiting}
 use Rattle.plain_server.specs.declared.session.Waiting.{Waiting}
-use Rattle.history_laws.specs.Asking.{asks_of, word_in}
+use Rattle.history_laws.specs.Asking.{word_in}
+use Rattle.journal_words.specs.Clients.{word_asks}
 use Rattle.plain_server.specs.Locking.{need, blocker}
 use Rattle.journal_words.specs.Journals.{after_entry, opens, opens_if, state_behind}
 
@@ -110,22 +111,22 @@ waited_still scene state number count going past work =
     turned_still scene (stored state) (face_of state.sessions) (face_of (with_session number (counting count) state.sessions)) number going past
     (same_faces scene state number going past work (face_of (with_session number (counting count) state.sessions)) (counted scene state number count going past work)) work.holds
 
-pub word_back : (word : ScriptWord) → word_in (asks_of word) ≡ Some word
+pub word_back : (word : ScriptWord) → word_in (word_asks word) ≡ Some word
 word_back words.Begin = refl
 word_back words.Commit = refl
 word_back words.Rollback = refl
 word_back (words.Do statement) = refl
 
 -- a call
-call_kept : (scene : Scene) (state : State) (number : ℕ) (going : ℕ → Going) (past : List PlainItem) (work : AtWork scene state number going past) → OneIn state.sessions → (word : ScriptWord) → NamesTable scene.mine word → (by : Option ℕ) → blocker state number (need state number (asks_of word)) ≡ by
-    → Turned scene (stored (called_unless by state number (asks_of word)).after) (face_of (called_unless by state number (asks_of word)).after.sessions) number (word_given (is_busy number state) word (called_unless by state number (asks_of word)).answer) going past
-call_kept scene state number going past work one word named None is = client_done scene state number going past work word named (granted state number (need state number (asks_of word)) one is)
+call_kept : (scene : Scene) (state : State) (number : ℕ) (going : ℕ → Going) (past : List PlainItem) (work : AtWork scene state number going past) → OneIn state.sessions → (word : ScriptWord) → NamesTable scene.mine word → (by : Option ℕ) → blocker state number (need state number (word_asks word)) ≡ by
+    → Turned scene (stored (called_unless by state number (word_asks word)).after) (face_of (called_unless by state number (word_asks word)).after.sessions) number (word_given (is_busy number state) word (called_unless by state number (word_asks word)).answer) going past
+call_kept scene state number going past work one word named None is = client_done scene state number going past work word named (granted state number (need state number (word_asks word)) one is)
 call_kept scene state number going past work one word named (Some by) is = waited_still scene state number 0 going past work
 
-call_lost : (scene : Scene) (state : State) (number : ℕ) (going : ℕ → Going) (past : List PlainItem) (work : AtWork scene state number going past) → OneIn state.sessions → (word : ScriptWord) → NamesTable scene.mine word → (by : Option ℕ) → blocker state number (need state number (asks_of word)) ≡ by
-    → Turned scene (stored (loses number (called_unless by state number (asks_of word)).after)) (face_of (loses number (called_unless by state number (asks_of word)).after).sessions) number (lost_fate word (called_unless by state number (asks_of word)).answer) going past
+call_lost : (scene : Scene) (state : State) (number : ℕ) (going : ℕ → Going) (past : List PlainItem) (work : AtWork scene state number going past) → OneIn state.sessions → (word : ScriptWord) → NamesTable scene.mine word → (by : Option ℕ) → blocker state number (need state number (word_asks word)) ≡ by
+    → Turned scene (stored (loses number (called_unless by state number (word_asks word)).after)) (face_of (loses number (called_unless by state number (word_asks word)).after).sessions) number (lost_fate word (called_unless by state number (word_asks word)).answer) going past
 unfolding loses
-call_lost scene state number going past work one word named None is = client_lost scene state number going past work word named (granted state number (need state number (asks_of word)) one is)
+call_lost scene state number going past work one word named None is = client_lost scene state number going past work word named (granted state number (need state number (word_asks word)) one is)
 call_lost scene state number going past work one word named (Some by) is = word_undone scene state (with_session number (counting 0) state.sessions) (face_in (Some work.found)) number going past work word named (counted scene state number 0 going past work)
 
 -- a poll
@@ -135,27 +136,27 @@ without_work scene state number going past work = record { holds = work.holds; f
 free_without : (state : State) (number : ℕ) (request : Request) → IsFree state number (need state number request) → IsFree (without_waiting number state) number (need (without_waiting number state) number request)
 free_without state number request free = record { apart = free.apart; names = free.names }
 
-poll_kept : (scene : Scene) (state : State) (number : ℕ) (going : ℕ → Going) (past : List PlainItem) (work : AtWork scene state number going past) → OneIn state.sessions → (word : ScriptWord) → NamesTable scene.mine word → (by : Option ℕ) → blocker state number (need state number (asks_of word)) ≡ by
-    → Turned scene (stored (polled_unless by state number (asks_of word)).after) (face_of (polled_unless by state number (asks_of word)).after.sessions) number (word_given (is_busy number state) word (polled_unless by state number (asks_of word)).answer) going past
+poll_kept : (scene : Scene) (state : State) (number : ℕ) (going : ℕ → Going) (past : List PlainItem) (work : AtWork scene state number going past) → OneIn state.sessions → (word : ScriptWord) → NamesTable scene.mine word → (by : Option ℕ) → blocker state number (need state number (word_asks word)) ≡ by
+    → Turned scene (stored (polled_unless by state number (word_asks word)).after) (face_of (polled_unless by state number (word_asks word)).after.sessions) number (word_given (is_busy number state) word (polled_unless by state number (word_asks word)).answer) going past
 poll_kept scene state number going past work one word named None is =
-    client_done scene (without_waiting number state) number going past (without_work scene state number going past work) word named (free_without state number (asks_of word) (granted state number (need state number (asks_of word)) one is))
+    client_done scene (without_waiting number state) number going past (without_work scene state number going past work) word named (free_without state number (word_asks word) (granted state number (need state number (word_asks word)) one is))
 poll_kept scene state number going past work one word named (Some by) is = at (is_over state number) where
   at : (b : Bool) → Turned scene (stored (polled_over b by state number).after) (face_of (polled_over b by state number).after.sessions) number (word_given (is_busy number state) word (polled_over b by state number).answer) going past
   at true = word_timed_out scene state number going past work word named
   at false = waited_still scene state number (polls_of (session_of number state.sessions) + 1) going past work
 
-poll_lost : (scene : Scene) (state : State) (number : ℕ) (going : ℕ → Going) (past : List PlainItem) (work : AtWork scene state number going past) → OneIn state.sessions → (word : ScriptWord) → NamesTable scene.mine word → (by : Option ℕ) → blocker state number (need state number (asks_of word)) ≡ by
-    → Turned scene (stored (loses number (polled_unless by state number (asks_of word)).after)) (face_of (loses number (polled_unless by state number (asks_of word)).after).sessions) number (lost_fate word (polled_unless by state number (asks_of word)).answer) going past
+poll_lost : (scene : Scene) (state : State) (number : ℕ) (going : ℕ → Going) (past : List PlainItem) (work : AtWork scene state number going past) → OneIn state.sessions → (word : ScriptWord) → NamesTable scene.mine word → (by : Option ℕ) → blocker state number (need state number (word_asks word)) ≡ by
+    → Turned scene (stored (loses number (polled_unless by state number (word_asks word)).after)) (face_of (loses number (polled_unless by state number (word_asks word)).after).sessions) number (lost_fate word (polled_unless by state number (word_asks word)).answer) going past
 unfolding loses
 poll_lost scene state number going past work one word named None is =
-    client_lost scene (without_waiting number state) number going past (without_work scene state number going past work) word named (free_without state number (asks_of word) (granted state number (need state number (asks_of word)) one is))
+    client_lost scene (without_waiting number state) number going past (without_work scene state number going past work) word named (free_without state number (word_asks word) (granted state number (need state number (word_asks word)) one is))
 poll_lost scene state number going past work one word named (Some by) is = at (is_over state number) where
   at : (b : Bool) → Turned scene (stored (loses number (polled_over b by state number).after)) (face_of (loses number (polled_over b by state number).after).sessions) number (lost_fate word (polled_over b by state number).answer) going past
   at true = word_undone scene state (with_session number at_rest state.sessions) no_face number going past work word named (rests_with scene state number going past work)
   at false = word_undone scene state (with_session number (counting (polls_of (session_of number state.sessions) + 1)) state.sessions) (face_in (Some work.found)) number going past work word named (counted scene state number (polls_of (session_of number state.sessions) + 1) going past work)
 
 -- a line of a request that a client may ask
-word_of : (scene : Scene) (request : Request) (P : Request → Type 0) → ClientAsks scene request → ((word : ScriptWord) → NamesTable scene.mine word → P (asks_of word)) → P request
+word_of : (scene : Scene) (request : Request) (P : Request → Type 0) → ClientAsks scene request → ((word : ScriptWord) → NamesTable scene.mine word → P (word_asks word)) → P request
 word_of scene requests.Begin P asks f = f words.Begin asks
 word_of scene requests.Commit P asks f = f words.Commit asks
 word_of scene requests.Rollback P asks f = f words.Rollback asks
@@ -189,7 +190,7 @@ client_polled : (scene : Scene) (state : State) (number : ℕ) (going : ℕ → 
 client_polled scene state number going past work one None asks = turned_still scene (stored state) (face_of state.sessions) (face_of state.sessions) number going past (λ n. refl) work.holds
 client_polled scene state number going past work one (Some waiting) asks =
     word_of scene waiting.request (λ request. Turned scene (stored (polled_of (Some (record { session = waiting.session; request = request })) state number).after) (face_of (polled_of (Some (record { session = waiting.session; request = request })) state number).after.sessions) number (word_asked (is_busy number state) (Some request) (polled_of (Some (record { session = waiting.session; request = request })) state number).answer) going past) asks
-    (λ word named. rw (word_back word) (poll_kept scene state number going past work one word named (blocker state number (need state number (asks_of word))) refl))
+    (λ word named. rw (word_back word) (poll_kept scene state number going past work one word named (blocker state number (need state number (word_asks word))) refl))
 
 client_poll_lost : (scene : Scene) (state : State) (number : ℕ) (going : ℕ → Going) (past : List PlainItem) (work : AtWork scene state number going past) → OneIn state.sessions → (waiting : Option Waiting) → AsksWord scene (request_of waiting)
     → Turned scene (stored (loses number (polled_of waiting state number).after)) (face_of (loses number (polled_of waiting state number).after).sessions) number (word_lost (is_busy number state) (request_of waiting) (Some (polled_of waiting state number).answer)) going past
@@ -199,19 +200,19 @@ client_poll_lost scene state number going past work one None asks = quiet (is_bu
   quiet busy is = lost_before scene state state.sessions (face_in (Some work.found)) number going past work None None refl tt busy is (itself scene state number going past work)
 client_poll_lost scene state number going past work one (Some waiting) asks =
     word_of scene waiting.request (λ request. Turned scene (stored (loses number (polled_of (Some (record { session = waiting.session; request = request })) state number).after)) (face_of (loses number (polled_of (Some (record { session = waiting.session; request = request })) state number).after).sessions) number (word_lost (is_busy number state) (Some request) (Some (polled_of (Some (record { session = waiting.session; request = request })) state number).answer)) going past) asks
-    (λ word named. rw (word_back word) (poll_lost scene state number going past work one word named (blocker state number (need state number (asks_of word))) refl))
+    (λ word named. rw (word_back word) (poll_lost scene state number going past work one word named (blocker state number (need state number (word_asks word))) refl))
 
 client_turn : (scene : Scene) (side : Option Side) (state : State) (number : ℕ) (asked : Asked) (going : ℕ → Going) (past : List PlainItem) (work : AtWork scene state number going past) → OneIn state.sessions → AsksWord scene (about state number asked) → AsksWord scene (request_of (waiting_of number state.waiting)) → TurnsSo true scene side state number asked going past
 unfolding calls polls loses
 client_turn scene None state number (Call request) going past work one asks waits =
-    word_of scene request (λ r. TurnsSo true scene None state number (Call r) going past) asks (λ word named. rw (word_back word) (call_kept scene state number going past work one word named (blocker state number (need state number (asks_of word))) refl))
+    word_of scene request (λ r. TurnsSo true scene None state number (Call r) going past) asks (λ word named. rw (word_back word) (call_kept scene state number going past work one word named (blocker state number (need state number (word_asks word))) refl))
 client_turn scene None state number Poll going past work one asks waits = client_polled scene state number going past work one (waiting_of number state.waiting) waits
 client_turn scene None state number Cut going past work one asks waits =
     lost_before scene state state.sessions (face_in (Some work.found)) number going past work (about state number Cut) None refl waits (is_busy number state) refl (itself scene state number going past work)
 client_turn scene (Some Before) state number asked going past work one asks waits =
     lost_before scene state state.sessions (face_in (Some work.found)) number going past work (about state number asked) None refl asks (is_busy number state) refl (itself scene state number going past work)
 client_turn scene (Some After) state number (Call request) going past work one asks waits =
-    word_of scene request (λ r. TurnsSo true scene (Some After) state number (Call r) going past) asks (λ word named. rw (word_back word) (call_lost scene state number going past work one word named (blocker state number (need state number (asks_of word))) refl))
+    word_of scene request (λ r. TurnsSo true scene (Some After) state number (Call r) going past) asks (λ word named. rw (word_back word) (call_lost scene state number going past work one word named (blocker state number (need state number (word_asks word))) refl))
 client_turn scene (Some After) state number Poll going past work one asks waits = client_poll_lost scene state number going past work one (waiting_of number state.waiting) waits
 client_turn scene None state number (Command word) going past work one asks waits = turned_still scene (stored state) (face_of state.sessions) (face_of state.sessions) number going past (λ n. refl) work.holds
 client_turn scene (Some After) state number (Command word) going past work one asks waits =

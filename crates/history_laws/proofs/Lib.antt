@@ -20,3 +20,4 @@ pub mod Openings
 pub mod Runs
 pub mod Actors
 pub mod Waiting
+pub mod Progress

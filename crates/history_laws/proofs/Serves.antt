@@ -44,7 +44,8 @@ use Rattle.plain_server.specs.Deeds.{all_stand, begins, created, deed_unless, de
 use Rattle.plain_server.specs.declared.need.Need.{Need}
 use Rattle.plain_server.specs.Locking.{need, need_within, blocker}
 use Rattle.plain_server.specs.States.{State, is_in_transaction, locks_held, names_held, pair_names, session_of, tables_named, view, waits_for, writes_of}
-use Rattle.history_laws.specs.Asking.{asks_of, does_word, need_of_word}
+use Rattle.history_laws.specs.Asking.{does_word, need_of_word}
+use Rattle.journal_words.specs.Clients.{word_asks}
 
 -- WHAT A GRANT TELLS
 
@@ -106,14 +107,14 @@ done_one state number request one free = deed_one (is_outside (session_of number
 
 -- A CLIENT'S LINE
 
-word_need : (seen : Database) (word : ScriptWord) → need_within seen (asks_of word) ≡ need_of_word seen word
+word_need : (seen : Database) (word : ScriptWord) → need_within seen (word_asks word) ≡ need_of_word seen word
 word_need seen words.Begin = refl
 word_need seen words.Commit = refl
 word_need seen words.Rollback = refl
 word_need seen (words.Do statement) = refl
 
 word_deed : (state : State) (number : ℕ) (word : ScriptWord)
-    → does (deed_within (is_in_transaction (session_of number state.sessions)) (view number state) state (asks_of word)) state number ≡ record { answer = (line_says (view number state) word).answer; after = does_word (view number state) state number word }
+    → does (deed_within (is_in_transaction (session_of number state.sessions)) (view number state) state (word_asks word)) state number ≡ record { answer = (line_says (view number state) word).answer; after = does_word (view number state) state number word }
 word_deed state number words.Begin = refl
 word_deed state number words.Commit = refl
 word_deed state number words.Rollback = refl
@@ -123,21 +124,21 @@ word_deed state number (words.Do statement) = at (is_in_transaction (session_of 
   at true = refl
   at false = refl
 
-word_apart : (state : State) (number : ℕ) (word : ScriptWord) → IsFree state number (need_within (view number state) (asks_of word)) → (n : ℕ) → (n == number) ≡ false → Apart (need_of_word (view number state) word).locks (face_of state.sessions n).seat.locks
+word_apart : (state : State) (number : ℕ) (word : ScriptWord) → IsFree state number (need_within (view number state) (word_asks word)) → (n : ℕ) → (n == number) ≡ false → Apart (need_of_word (view number state) word).locks (face_of state.sessions n).seat.locks
 word_apart state number word free = subst (λ (need : Need). AreApart state number need.locks) (word_need (view number state) word) free.apart
 
 inside : (scene : Scene) (state : State) (number : ℕ) (going : ℕ → Going) (past : List PlainItem) (work : AtWork scene state number going past) (request : Request) → is_outside (session_of number state.sessions) request ≡ false
 inside scene state number going past work request =
     ap (λ (o : Option Session). is_outside o request) work.is ∙ ap (λ (locked : List (List ℕ)). is_beyond locked (tables_named request)) ((own_fits scene state number going past work).unlocked refl)
 
-pub client_done : (scene : Scene) (state : State) (number : ℕ) (going : ℕ → Going) (past : List PlainItem) (work : AtWork scene state number going past) (word : ScriptWord) → NamesTable scene.mine word → IsFree state number (need state number (asks_of word))
-    → Turned scene (stored (done state number (asks_of word)).after) (face_of (done state number (asks_of word)).after.sessions) number (word_given (is_busy number state) word (done state number (asks_of word)).answer) going past
+pub client_done : (scene : Scene) (state : State) (number : ℕ) (going : ℕ → Going) (past : List PlainItem) (work : AtWork scene state number going past) (word : ScriptWord) → NamesTable scene.mine word → IsFree state number (need state number (word_asks word))
+    → Turned scene (stored (done state number (word_asks word)).after) (face_of (done state number (word_asks word)).after.sessions) number (word_given (is_busy number state) word (done state number (word_asks word)).answer) going past
 unfolding done
-client_done scene state number going past work word named free = at (is_outside (session_of number state.sessions) (asks_of word)) (inside scene state number going past work (asks_of word)) free where
-  at : (b : Bool) → b ≡ false → IsFree state number (need_within (view number state) (asks_of word))
-      → Turned scene (stored (does (deed_unless b (is_in_transaction (session_of number state.sessions)) (view number state) state (asks_of word)) state number).after)
-      (face_of (does (deed_unless b (is_in_transaction (session_of number state.sessions)) (view number state) state (asks_of word)) state number).after.sessions) number
-      (word_given (is_busy number state) word (does (deed_unless b (is_in_transaction (session_of number state.sessions)) (view number state) state (asks_of word)) state number).answer) going past
+client_done scene state number going past work word named free = at (is_outside (session_of number state.sessions) (word_asks word)) (inside scene state number going past work (word_asks word)) free where
+  at : (b : Bool) → b ≡ false → IsFree state number (need_within (view number state) (word_asks word))
+      → Turned scene (stored (does (deed_unless b (is_in_transaction (session_of number state.sessions)) (view number state) state (word_asks word)) state number).after)
+      (face_of (does (deed_unless b (is_in_transaction (session_of number state.sessions)) (view number state) state (word_asks word)) state number).after.sessions) number
+      (word_given (is_busy number state) word (does (deed_unless b (is_in_transaction (session_of number state.sessions)) (view number state) state (word_asks word)) state number).answer) going past
   at true off free = absurd (true≢false off)
   at false off free = rw (word_deed state number word, given_so (is_busy number state) word (line_says (view number state) word).answer (line_replies_so (view number state) word)) (word_answered scene state number going past work word (record { apart = word_apart state number word free; named = named }))
 
@@ -145,15 +146,15 @@ client_done scene state number going past work word named free = at (is_outside 
 abbrev pub lost_fate : ScriptWord → Answer → Fate
 lost_fate word given = fates.Ends word (mark_lost (was_given (Some given))) [] ends.Lost
 
-pub client_lost : (scene : Scene) (state : State) (number : ℕ) (going : ℕ → Going) (past : List PlainItem) (work : AtWork scene state number going past) (word : ScriptWord) → NamesTable scene.mine word → IsFree state number (need state number (asks_of word))
-    → Turned scene (stored (loses number (done state number (asks_of word)).after)) (face_of (loses number (done state number (asks_of word)).after).sessions) number
-    (lost_fate word (done state number (asks_of word)).answer) going past
+pub client_lost : (scene : Scene) (state : State) (number : ℕ) (going : ℕ → Going) (past : List PlainItem) (work : AtWork scene state number going past) (word : ScriptWord) → NamesTable scene.mine word → IsFree state number (need state number (word_asks word))
+    → Turned scene (stored (loses number (done state number (word_asks word)).after)) (face_of (loses number (done state number (word_asks word)).after).sessions) number
+    (lost_fate word (done state number (word_asks word)).answer) going past
 unfolding done
-client_lost scene state number going past work word named free = at (is_outside (session_of number state.sessions) (asks_of word)) (inside scene state number going past work (asks_of word)) free where
-  at : (b : Bool) → b ≡ false → IsFree state number (need_within (view number state) (asks_of word))
-      → Turned scene (stored (loses number (does (deed_unless b (is_in_transaction (session_of number state.sessions)) (view number state) state (asks_of word)) state number).after))
-      (face_of (loses number (does (deed_unless b (is_in_transaction (session_of number state.sessions)) (view number state) state (asks_of word)) state number).after).sessions) number
-      (lost_fate word (does (deed_unless b (is_in_transaction (session_of number state.sessions)) (view number state) state (asks_of word)) state number).answer) going past
+client_lost scene state number going past work word named free = at (is_outside (session_of number state.sessions) (word_asks word)) (inside scene state number going past work (word_asks word)) free where
+  at : (b : Bool) → b ≡ false → IsFree state number (need_within (view number state) (word_asks word))
+      → Turned scene (stored (loses number (does (deed_unless b (is_in_transaction (session_of number state.sessions)) (view number state) state (word_asks word)) state number).after))
+      (face_of (loses number (does (deed_unless b (is_in_transaction (session_of number state.sessions)) (view number state) state (word_asks word)) state number).after).sessions) number
+      (lost_fate word (does (deed_unless b (is_in_transaction (session_of number state.sessions)) (view number state) state (word_asks word)) state number).answer) going past
   at true off free = absurd (true≢false off)
   at false off free = rw (word_deed state number word, done_so (line_says (view number state) word).answer (line_replies_so (view number state) word)) (word_lost scene state number going past work word (record { apart = word_apart state number word free; named = named }))
 

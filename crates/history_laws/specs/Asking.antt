@@ -10,13 +10,7 @@ use Rattle.plain_server.specs.States.{State, session_of, is_in_transaction}
 use Rattle.plain_server.specs.declared.need.Need.{Need}
 use Rattle.plain_server.specs.Serving.{goes_on, commits, forgets}
 
--- the request that a line is, and the line that a request is
-abbrev pub asks_of : ScriptWord → Request
-asks_of words.Begin = requests.Begin
-asks_of words.Commit = requests.Commit
-asks_of words.Rollback = requests.Rollback
-asks_of (words.Do statement) = requests.Do statement
-
+-- the line that a request is
 abbrev pub word_in : Request → Option ScriptWord
 word_in requests.Begin = Some words.Begin
 word_in requests.Commit = Some words.Commit
