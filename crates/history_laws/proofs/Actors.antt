@@ -14,7 +14,8 @@ use Rattle.plain_server.specs.declared.entry.Asked.{Asked}
 use Rattle.plain_server.specs.declared.entry.Asked.TheVariants.{Call, Poll, Command, Cut}
 use Rattle.plain_server.specs.declared.entry.Entry.{Entry}
 use Rattle.plain_server.specs.Entries.{same_actor, is_client, is_command, is_cut}
-use Rattle.journal_words.specs.Sessions.{session_left, session_in, live_session, sessions_named, IsInSession, IsSeated}
+use Rattle.plain_server.specs.Along.{Along, Along-keeps}
+use Rattle.journal_words.specs.Sessions.{session_left, session_in, live_session, sessions_named, IsInSession, IsSeated, KeepsSessions}
 use Rattle.history_laws.specs.Plans.{is_client_session}
 
 are_one : (a b : ℕ) → (a == b) ≡ true → a ≡ b
@@ -150,7 +151,7 @@ or_same false = refl
 
 module _ (journal : List Entry) (entry : Entry) (seats : Seats journal) (at : Placed journal entry) where
   -- sessions that were named keep their kind
-  kinds_stay : (n : ℕ) → n ≤ sessions_named journal → is_client_session (journal ++ entry ∷ []) n ≡ is_client_session journal n
+  pub kinds_stay : (n : ℕ) → n ≤ sessions_named journal → is_client_session (journal ++ entry ∷ []) n ≡ is_client_session journal n
   kinds_stay n is = client_more journal entry n ∙ by at where
     same : (b : Bool) → (entry.session == n) ≡ b → is_command entry.asked ≡ false → live_session journal entry.actor ≡ Some entry.session → (is_client_session journal n || counts_client (is_command entry.asked) (entry.session == n) (is_client entry.actor)) ≡ is_client_session journal n
     same true eq calls live =
@@ -162,7 +163,7 @@ module _ (journal : List Entry) (entry : Entry) (seats : Seats journal) (at : Pl
     by (Begins calls uncut live more) = rw (calls, less_differs (sessions_named journal) entry.session n is more) (or_false (is_client_session journal n))
 
   -- the turn's session is of its actor's kind
-  kind_here : is_command entry.asked ≡ false → is_client_session (journal ++ entry ∷ []) entry.session ≡ is_client entry.actor
+  pub kind_here : is_command entry.asked ≡ false → is_client_session (journal ++ entry ∷ []) entry.session ≡ is_client entry.actor
   kind_here call = client_more journal entry entry.session ∙ rw (call, same_number entry.session) (by at) where
     by : Placed journal entry → (is_client_session journal entry.session || is_client entry.actor) ≡ is_client entry.actor
     by (Commands command zero) = absurd (true≢false (sym command ∙ call))
@@ -177,10 +178,10 @@ module _ (journal : List Entry) (entry : Entry) (seats : Seats journal) (at : Pl
     by (Begins calls uncut live more) = omega arith
 
   -- another actor's live session is another one
-  others_differ : (a : Actor) (n : ℕ) → is_command entry.asked ≡ false → same_actor entry.actor a ≡ false → live_session journal a ≡ Some n → (n == entry.session) ≡ false
-  others_differ a n call differ lives = here (n == entry.session) refl where
+  pub others_differ : (a : Actor) (n : ℕ) → same_actor entry.actor a ≡ false → live_session journal a ≡ Some n → (n == entry.session) ≡ false
+  others_differ a n differ lives = here (n == entry.session) refl where
     by : Placed journal entry → n ≡ entry.session → ⊥
-    by (Commands command zero) is = absurd (true≢false (sym command ∙ call))
+    by (Commands command zero) is = absurd (omega (arith, (seats.own a n lives).0))
     by (GoesOn calls live) is = absurd (true≢false (sym (same_actor_itself a) ∙ ap (λ (b : Actor). same_actor b a) (sym (seats.apart entry.actor a entry.session live (lives ∙ ap Some is))) ∙ differ))
     by (Begins calls uncut live more) is = absurd (omega (arith, (seats.own a n lives).1))
     here : (b : Bool) → (n == entry.session) ≡ b → (n == entry.session) ≡ false
@@ -188,22 +189,22 @@ module _ (journal : List Entry) (entry : Entry) (seats : Seats journal) (at : Pl
     here false is = is
 
   -- the live sessions behind the turn: its actor's is the turn's own, the others' are as they were
-  live_cases : (a : Actor) (n : ℕ) (P : Type 0) → live_session (journal ++ entry ∷ []) a ≡ Some n → (a ≡ entry.actor → is_command entry.asked ≡ false → n ≡ entry.session → P) → (same_actor entry.actor a ≡ false → live_session journal a ≡ Some n → P) → P
+  pub live_cases : (a : Actor) (n : ℕ) (P : Type 0) → live_session (journal ++ entry ∷ []) a ≡ Some n → (a ≡ entry.actor → is_command entry.asked ≡ false → n ≡ entry.session → P) → (same_actor entry.actor a ≡ false → live_session journal a ≡ Some n → P) → P
   live_cases a n P lives here there = by (same_actor entry.actor a) refl (sym (live_more journal entry a) ∙ lives) where
     by : (b : Bool) → same_actor entry.actor a ≡ b → cond b (session_left entry.asked entry.answer entry.session) (live_session journal a) ≡ Some n → P
     by true same left = let own = left_own entry.asked entry.answer entry.session n left in here (sym (same_actor_is entry.actor a same)) own.0 own.1
     by false differ old = there differ old
 
-  named_keeps : (n : ℕ) → n ≤ sessions_named journal → n ≤ sessions_named (journal ++ entry ∷ [])
+  pub named_keeps : (n : ℕ) → n ≤ sessions_named journal → n ≤ sessions_named (journal ++ entry ∷ [])
   named_keeps n is = subst (λ (m : ℕ). n ≤ m) (sym (named_more journal entry)) (below_more (is_command entry.asked) (sessions_named journal) entry.session n is)
 
   named_here : is_command entry.asked ≡ false → entry.session ≤ sessions_named (journal ++ entry ∷ [])
   named_here call = subst (λ (m : ℕ). entry.session ≤ m) (sym (named_more journal entry)) (rw call (own_below (sessions_named journal) entry.session))
 
-  named_less : (n : ℕ) → sessions_named (journal ++ entry ∷ []) < n → sessions_named journal < n
+  pub named_less : (n : ℕ) → sessions_named (journal ++ entry ∷ []) < n → sessions_named journal < n
   named_less n more = above_less (is_command entry.asked) (sessions_named journal) entry.session n (subst (λ (m : ℕ). m < n) (named_more journal entry) more)
 
-  named_differs : (n : ℕ) → sessions_named (journal ++ entry ∷ []) < n → (entry.session == n) ≡ false
+  pub named_differs : (n : ℕ) → sessions_named (journal ++ entry ∷ []) < n → (entry.session == n) ≡ false
   named_differs n more = by at (is_command entry.asked) refl (subst (λ (m : ℕ). m < n) (named_more journal entry) more) where
     by : Placed journal entry → (command : Bool) → is_command entry.asked ≡ command → named_more_if command (sessions_named journal) entry.session < n → (entry.session == n) ≡ false
     by placed false is above = above_own (sessions_named journal) entry.session n above
@@ -219,8 +220,8 @@ module _ (journal : List Entry) (entry : Entry) (seats : Seats journal) (at : Pl
         (λ same call is. (subst (λ (m : ℕ). 1 ≤ m) (sym is) (from_one call), subst (λ (m : ℕ). m ≤ sessions_named (journal ++ entry ∷ [])) (sym is) (named_here call)))
         (λ differ old. ((seats.own a n old).0, named_keeps n (seats.own a n old).1));
     apart = λ a b n one two. live_cases a n (a ≡ b) one
-        (λ same call is. live_cases b n (a ≡ b) two (λ also more here. same ∙ sym also) (λ differ old. absurd (true≢false (sym (same_number entry.session) ∙ ap (λ (m : ℕ). m == entry.session) (sym is) ∙ others_differ b n call differ old))))
-        (λ differ old. live_cases b n (a ≡ b) two (λ also call is. absurd (true≢false (sym (same_number entry.session) ∙ ap (λ (m : ℕ). m == entry.session) (sym is) ∙ others_differ a n call differ old))) (λ more older. seats.apart a b n old older));
+        (λ same call is. live_cases b n (a ≡ b) two (λ also more here. same ∙ sym also) (λ differ old. absurd (true≢false (sym (same_number entry.session) ∙ ap (λ (m : ℕ). m == entry.session) (sym is) ∙ others_differ b n differ old))))
+        (λ differ old. live_cases b n (a ≡ b) two (λ also call is. absurd (true≢false (sym (same_number entry.session) ∙ ap (λ (m : ℕ). m == entry.session) (sym is) ∙ others_differ a n differ old))) (λ more older. seats.apart a b n old older));
     kinds = λ a n lives. live_cases a n (is_client_session (journal ++ entry ∷ []) n ≡ is_client a) lives
         (λ same call is. ap (is_client_session (journal ++ entry ∷ [])) is ∙ kind_here call ∙ ap is_client (sym same))
         (λ differ old. kinds_stay n (seats.own a n old).1 ∙ seats.kinds a n old);
@@ -230,3 +231,34 @@ module _ (journal : List Entry) (entry : Entry) (seats : Seats journal) (at : Pl
     never : (b : Bool) → counts_client b false (is_client entry.actor) ≡ false
     never true = refl
     never false = refl
+
+-- EVERY TURN'S SESSION IS OF ITS ACTOR'S KIND
+
+abbrev pub KindSo : List Entry → Entry → Type 0
+KindSo journal entry = is_command entry.asked ≡ false → (is_client_session journal entry.session ≡ is_client entry.actor) × (entry.session ≤ sessions_named journal)
+
+pub record Kinds (journal : List Entry) : Type 0 where
+  pub seats : Seats journal
+  pub each : AllByRecursion (KindSo journal) journal
+
+kinds_old : (journal : List Entry) (entry : Entry) (seats : Seats journal) (at : Placed journal entry) (some : List Entry) → AllByRecursion (KindSo journal) some → AllByRecursion (KindSo (journal ++ entry ∷ [])) some
+kinds_old journal entry seats at [] all = tt
+kinds_old journal entry seats at (one ∷ some) all =
+    ((λ call. (kinds_stay journal entry seats at one.session (all.0 call).1 ∙ (all.0 call).0, named_keeps journal entry seats at one.session (all.0 call).1)), kinds_old journal entry seats at some all.1)
+
+kinds_last : (P : Entry → Type 0) (some : List Entry) (entry : Entry) → AllByRecursion P some → P entry → AllByRecursion P (some ++ entry ∷ [])
+kinds_last P [] entry all is = (is, tt)
+kinds_last P (one ∷ some) entry all is = (all.0, kinds_last P some entry all.1 is)
+
+kinds_more : (journal : List Entry) (entry : Entry) → IsSeated journal entry → Kinds journal → Kinds (journal ++ entry ∷ [])
+kinds_more journal entry seated kinds =
+    let at : Placed journal entry = placed journal entry seated in
+    record {
+      seats = seats_more journal entry kinds.seats at;
+      each = kinds_last (KindSo (journal ++ entry ∷ [])) journal entry (kinds_old journal entry kinds.seats at journal kinds.each)
+          (λ call. (kind_here journal entry kinds.seats at call, named_here journal entry kinds.seats at call));
+    }
+
+pub all_kinds : (journal : List Entry) → KeepsSessions journal → Kinds journal
+unfolding KeepsSessions
+all_kinds journal kept = Along-keeps IsSeated Kinds (λ all entry seated kinds. kinds_more all entry seated kinds) [] journal kept (record { seats = seats_begin; each = tt })

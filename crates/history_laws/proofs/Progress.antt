@@ -29,6 +29,9 @@ use Rattle.history_laws.specs.Scenes.{PlainItem, Txn, Alter, Going, not_going}
 use Rattle.history_laws.specs.Turns as fates
 use Rattle.history_laws.specs.Turns.{Fate, fate_answered, word_given, was_given, mark_lost, broken, word_lost, word_asked, client_fate, going_on, happens}
 use Rattle.history_laws.proofs.Journals.{word_back}
+use Rattle.journal_words.specs.Sessions.{session_left}
+use Rattle.plain_server.specs.Entries.{is_command}
+use Rattle.std.proofs.Common.{cond}
 
 -- an item of a history, without whose it is
 abbrev pub plain : HistoryItem → PlainItem
@@ -229,3 +232,73 @@ client_alike number client side asked answer missed old waits (Polls held asks) 
   poll_cut : Poll ≡ Cut → ⊥
   poll_cut same = cc
 client_alike number client side asked answer missed old waits (IsCut asks) (LostAt lost called at same is) rests = absurd (called asks)
+
+-- A CLIENT THAT IS LOST HAS NOTHING OPEN
+
+gone_marked : (client : Reached) (line : ScriptLine) (lines : List ScriptLine) → client.left ≡ line ∷ lines → (side : Side) (reply : Option Reply) → going_of (client_after (Marked (marks.Lost side) reply) client) ≡ not_going
+gone_marked client line lines left side reply = ap (λ (l : List ScriptLine). going_of (marked client (marks.Lost side) reply l)) left
+
+gone_cut : (client : Reached) (old : Option Request) → LineWaits client old → (answer : Answer) (missed : Option Answer) → going_of (client_after (became_in client.waits Cut None answer missed) client) ≡ not_going
+gone_cut client old (Free free none) answer missed = ap (λ (b : Bool). going_of (client_after (cut_off b) client)) free
+gone_cut client old (Held line lines held left some) answer missed = ap (λ (b : Bool). going_of (client_after (cut_off b) client)) held ∙ gone_marked client line lines left Before None
+
+left_some : (asked : Asked) (answer : Answer) (session : ℕ) → IsLineAnswer answer → (asked ≡ Cut → ⊥) → is_command asked ≡ false → session_left asked answer session ≡ Some session
+left_some (Call request) (answers.Ok count) session is called call = refl
+left_some (Call request) (answers.Rows rows) session is called call = refl
+left_some (Call request) (answers.Refused refusal column) session is called call = refl
+left_some (Call request) (answers.Waits by) session is called call = refl
+left_some (Call request) (answers.TimedOut waited) session is called call = refl
+left_some (Call request) answers.Lost session is called call = absurd is
+left_some (Call request) other session is called call = refl
+left_some Poll answers.Lost session is called call = absurd is
+left_some Poll other session is called call = refl
+left_some (Command word) answer session is called call = absurd (true≢false call)
+left_some Cut answer session is called call = absurd (called refl)
+
+pub client_gone : (client : Reached) (side : Option Side) (asked : Asked) (answer : Answer) (missed : Option Answer) (old : Option Request) (session : ℕ) → LineWaits client old → AsksNext client asked → HeardSo side asked answer missed → session_left asked answer session ≡ None
+    → going_of (client_after (became_in client.waits asked side answer missed) client) ≡ not_going
+client_gone client side asked answer missed old session waits (IsCut asks) (Heard none is) left = rw (none, asks) (gone_cut client old waits answer missed)
+client_gone client side asked answer missed old session waits (IsCut asks) (CutOff none also) left = rw (none, asks) (gone_cut client old waits answer missed)
+client_gone client side asked answer missed old session waits (IsCut asks) (LostAt lost called at same is) left = absurd (called asks)
+client_gone client side asked answer missed old session waits (Calls line lines free more asks) (LostAt lost called at same is) left = rw (at, asks) (gone_marked client line lines more (lost_side (Some lost) missed) None)
+client_gone client side asked answer missed old session waits (Polls held asks) (LostAt lost called at same is) left =
+    not_waiting client old _ waits held (λ line lines more some. rw (at, asks) (gone_marked client line lines more (lost_side (Some lost) missed) None))
+client_gone client side asked answer missed old session waits (Calls line lines free more asks) (CutOff none also) left = absurd (call_cut (word_asks line.word) (sym asks ∙ also)) where
+  call_cut : (request : Request) → Call request ≡ Cut → ⊥
+  call_cut request same = cc
+client_gone client side asked answer missed old session waits (Polls held asks) (CutOff none also) left = absurd (poll_cut (sym asks ∙ also)) where
+  poll_cut : Poll ≡ Cut → ⊥
+  poll_cut same = cc
+client_gone client side asked answer missed old session waits (Calls line lines free more asks) (Heard none is) left = absurd (some_none (sym (left_some (Call (word_asks line.word)) answer session is (λ same. cc) refl) ∙ ap (λ (a : Asked). session_left a answer session) (sym asks) ∙ left)) where
+  some_none : Some session ≡ None → ⊥
+  some_none same = cc
+client_gone client side asked answer missed old session waits (Polls held asks) (Heard none is) left = absurd (some_none (sym (left_some Poll answer session is (λ same. cc) refl) ∙ ap (λ (a : Asked). session_left a answer session) (sym asks) ∙ left)) where
+  some_none : Some session ≡ None → ⊥
+  some_none same = cc
+
+-- THE SCRIPT THAT IS LEFT
+
+behind_all : (P : ScriptLine → Type 0) (lines : List ScriptLine) → AllByRecursion P lines → AllByRecursion P (behind_transaction lines)
+behind_all P [] all = tt
+behind_all P (line ∷ lines) all = at (closes line.word) (behind_all P lines all.1) where
+  at : (b : Bool) → AllByRecursion P (behind_transaction lines) → AllByRecursion P (cond b lines (behind_transaction lines))
+  at true rest = all.1
+  at false rest = rest
+
+left_all : (P : ScriptLine → Type 0) (inside : Bool) (mark : Mark) (line : ScriptLine) (lines : List ScriptLine) → AllByRecursion P (line ∷ lines) → AllByRecursion P (left_behind inside mark line lines)
+left_all P true marks.Answered line lines all = all.1
+left_all P true marks.TimedOut line lines all = behind_all P (line ∷ lines) all
+left_all P true (marks.Lost side) line lines all = all.1
+left_all P false marks.Answered line lines all = all.1
+left_all P false marks.TimedOut line lines all = all.1
+left_all P false (marks.Lost side) line lines all = all.1
+
+-- what holds of every line that is left holds of those that a turn leaves
+pub lines_stay : (P : ScriptLine → Type 0) (became : Became) (client : Reached) → AllByRecursion P client.left → AllByRecursion P (client_after became client).left
+lines_stay P Nothing client all = all
+lines_stay P Waits client all = all
+lines_stay P Broken client all = all
+lines_stay P (Marked mark reply) client all = at client.left refl all where
+  at : (left : List ScriptLine) → client.left ≡ left → AllByRecursion P left → AllByRecursion P (marked client mark reply left).left
+  at [] is some = all
+  at (line ∷ lines) is some = left_all P (is_inside client.lines) mark line lines some
