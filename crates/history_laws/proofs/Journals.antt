@@ -341,7 +341,7 @@ turn_waits scene None state number asked is proper = served_waits scene state nu
 turn_waits scene (Some Before) state number asked is proper = waits_less scene (λ one. not (one.session == number)) state.waiting proper
 turn_waits scene (Some After) state number asked is proper = waits_less scene (λ one. not (one.session == number)) (serves state number asked).after.waiting (served_waits scene state number asked is proper)
 
-opened_waits : (nothing tool : Bool) (number : ℕ) (state : State) → (opens_if nothing tool number state).waiting ≡ state.waiting
+pub opened_waits : (nothing tool : Bool) (number : ℕ) (state : State) → (opens_if nothing tool number state).waiting ≡ state.waiting
 unfolding opens_if
 opened_waits nothing tool number state = at (nothing || is_some (session_of number state.sessions)) where
   at : (b : Bool) → (cond b state (connected number tool state)).waiting ≡ state.waiting
@@ -472,7 +472,7 @@ unfolding state_behind
 state_more scene state [] entry = refl
 state_more scene state (first ∷ journal) entry = state_more scene (after_entry state first) journal entry
 
-goings_more : (scene : Scene) (state : State) (going : ℕ → Going) (journal : List Entry) (entry : Entry) → goings_from scene state going (journal ++ entry ∷ []) ≡ goings_after entry.session (fate scene (state_behind state journal) entry) (goings_from scene state going journal)
+pub goings_more : (scene : Scene) (state : State) (going : ℕ → Going) (journal : List Entry) (entry : Entry) → goings_from scene state going (journal ++ entry ∷ []) ≡ goings_after entry.session (fate scene (state_behind state journal) entry) (goings_from scene state going journal)
 unfolding goings_from state_behind
 goings_more scene state going [] entry = refl
 goings_more scene state going (first ∷ journal) entry = goings_more scene (after_entry state first) (goings_after first.session (fate scene state first) going) journal entry
@@ -483,13 +483,13 @@ JournalHolds limits scene journal = BookHolds scene (scene_state limits scene jo
 abbrev pub IsGood : Limits → Scene → List Entry → Entry → Type 0
 IsGood limits scene before entry = IsTold limits scene before entry × IsAllowed limits scene before entry
 
-step : (limits : Limits) (scene : Scene) → is_mine scene scene.migrated ≡ true → (journal : List Entry) (entry : Entry) → IsGood limits scene journal entry → JournalHolds limits scene journal → JournalHolds limits scene (journal ++ entry ∷ [])
+pub step : (limits : Limits) (scene : Scene) → is_mine scene scene.migrated ≡ true → (journal : List Entry) (entry : Entry) → IsGood limits scene journal entry → JournalHolds limits scene journal → JournalHolds limits scene (journal ++ entry ∷ [])
 unfolding history
 step limits scene mine journal entry good is =
     rw (state_more scene (opened limits scene.opening) journal entry, goings_more scene (opened limits scene.opening) (λ n. not_going) journal entry, gathered-more (entry_adds limits scene) [] journal entry)
     (entry_kept scene (scene_state limits scene journal) (goings_at limits scene journal) (history limits scene journal) entry mine good.0.answer good.0.missed good.1.may good.1.commands good.1.rests good.1.renames is)
 
-begins : (limits : Limits) (scene : Scene) → IsOrderly scene.opening → JournalHolds limits scene []
+pub begins : (limits : Limits) (scene : Scene) → IsOrderly scene.opening → JournalHolds limits scene []
 unfolding state_behind goings_from history
 begins limits scene is = record {
   holds = record {
@@ -504,7 +504,7 @@ pub journal_holds : (limits : Limits) (scene : Scene) (journal : List Entry) →
 journal_holds limits scene journal is mine faithful allowed =
     Along-keeps (IsGood limits scene) (JournalHolds limits scene) (step limits scene mine) [] journal (Along-both (IsTold limits scene) (IsAllowed limits scene) [] journal faithful allowed) (begins limits scene is)
 
-going_replies : (scene : Scene) (own : Bool) (tables : Database) (seat : Seat) (going : Going) → IsOrderly tables → IsFine scene own tables seat going → (own ≡ false → going ≡ not_going) → (lines_run (tables_left scene.mine tables) nothing_ran going.lines).replies ≡ going.replies
+pub going_replies : (scene : Scene) (own : Bool) (tables : Database) (seat : Seat) (going : Going) → IsOrderly tables → IsFine scene own tables seat going → (own ≡ false → going ≡ not_going) → (lines_run (tables_left scene.mine tables) nothing_ran going.lines).replies ≡ going.replies
 unfolding lines_run
 going_replies scene true tables seat going is fine none =
     let run : RunSo going.lines (record { replies = going.replies; writes = seat.writes }) tables = stable_end seat.names seat.locks going.lines (record { replies = going.replies; writes = seat.writes }) tables is fine.lasting in

@@ -21,3 +21,5 @@ pub mod Runs
 pub mod Actors
 pub mod Waiting
 pub mod Progress
+pub mod Hearing
+pub mod Linking

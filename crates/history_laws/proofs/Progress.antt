@@ -195,7 +195,7 @@ never_lost Cut old = refl
 cut_behind : (answer : Answer) (old : Option Request) → waits_behind Cut answer old ≡ None
 cut_behind answer old = refl
 
-not_waiting : (client : Reached) (old : Option Request) (P : Type 0) → LineWaits client old → client.waits ≡ true → ((line : ScriptLine) (lines : List ScriptLine) → client.left ≡ line ∷ lines → old ≡ Some (word_asks line.word) → P) → P
+pub not_waiting : (client : Reached) (old : Option Request) (P : Type 0) → LineWaits client old → client.waits ≡ true → ((line : ScriptLine) (lines : List ScriptLine) → client.left ≡ line ∷ lines → old ≡ Some (word_asks line.word) → P) → P
 not_waiting client old P (Free free none) held f = absurd (true≢false (sym held ∙ free))
 not_waiting client old P (Held line lines waits left some) held f = f line lines left some
 

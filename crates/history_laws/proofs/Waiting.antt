@@ -132,9 +132,9 @@ filter_there number other (one ∷ waiting) differ = at (one.session == number) 
   at false is true also rest = rw also refl
   at false is false also rest = rw also rest
 
-filter_here : (number : ℕ) (waiting : List Waiting) → waiting_of number (filter (λ one. not (one.session == number)) waiting) ≡ None
-filter_here number [] = refl
-filter_here number (one ∷ waiting) = at (one.session == number) refl (filter_here number waiting) where
+pub filter_gone : (number : ℕ) (waiting : List Waiting) → waiting_of number (filter (λ one. not (one.session == number)) waiting) ≡ None
+filter_gone number [] = refl
+filter_gone number (one ∷ waiting) = at (one.session == number) refl (filter_gone number waiting) where
   at : (b : Bool) → (one.session == number) ≡ b → waiting_of number (filter (λ one. not (one.session == number)) waiting) ≡ None
       → waiting_of number (cond (not b) (one ∷ filter (λ one. not (one.session == number)) waiting) (filter (λ one. not (one.session == number)) waiting)) ≡ None
   at true is rest = rest
@@ -205,11 +205,11 @@ pub waits_polled : (state : State) (number : ℕ) → request_of (waiting_of num
 unfolding polls
 waits_polled state number = at (waiting_of number state.waiting) refl where
   over : (waiting : Waiting) → waiting_of number state.waiting ≡ Some waiting → (b : Bool) (by : ℕ) → request_of (waiting_of number (polled_over b by state number).after.waiting) ≡ waits_behind Poll (polled_over b by state number).answer (Some waiting.request)
-  over waiting is true by = ap request_of (filter_here number state.waiting)
+  over waiting is true by = ap request_of (filter_gone number state.waiting)
   over waiting is false by = ap request_of is
   each : (waiting : Waiting) → waiting_of number state.waiting ≡ Some waiting → (by : Option ℕ) → request_of (waiting_of number (polled_unless by state number waiting.request).after.waiting) ≡ waits_behind Poll (polled_unless by state number waiting.request).answer (Some waiting.request)
   each waiting is None =
-      ap (λ (w : List Waiting). request_of (waiting_of number w)) (done_waits (without_waiting number state) number waiting.request) ∙ ap request_of (filter_here number state.waiting)
+      ap (λ (w : List Waiting). request_of (waiting_of number w)) (done_waits (without_waiting number state) number waiting.request) ∙ ap request_of (filter_gone number state.waiting)
       ∙ sym (poll_behind (done (without_waiting number state) number waiting.request).answer (Some waiting.request) (done_answers (without_waiting number state) number waiting.request))
   each waiting is (Some by) = over waiting is (is_over state number) by
   at : (waiting : Option Waiting) → waiting_of number state.waiting ≡ waiting → request_of (waiting_of number (polled_of waiting state number).after.waiting) ≡ waits_behind Poll (polled_of waiting state number).answer (request_of waiting)
