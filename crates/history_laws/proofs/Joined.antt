@@ -1,7 +1,6 @@
--- A journal whose entries have what was heard and what was missed is faithful; the state at a journal is a fold; and a
--- serial history leads from tables to tables, the log aside.
-use Rattle.std.proofs.Common.{◌≡◌, ℕ, true, List, [], ◌∷◌, ◌++◌, Option, Some, None, refl, sym, ap, ◌∙◌}
-use Rattle.std.specs.Prelude.{fold}
+-- The entries of a faithful journal have the server's answers, heard or missed; and a serial history leads from tables to
+-- tables, the log aside.
+use Rattle.std.proofs.Common.{◌≡◌, ℕ, true, false, List, [], ◌∷◌, ◌++◌, Option, Some, None, refl, sym, ap, ◌∙◌}
 use Rattle.script_text.specs.declared.actor.Side.{Side}
 use Rattle.script_text.specs.declared.actor.Side.TheVariants.{Before, After}
 use Rattle.plain_server.specs.declared.session.Limits.{Limits}
@@ -18,28 +17,9 @@ use Rattle.row_store.specs.Databases.{TableRows, Database, find_table, with_chan
 use Rattle.history_laws.specs.Scenes.{Scene, Stored, PlainItem, Txn, Alter, LeadsTo, SerialHistory}
 use Rattle.plain_server.specs.Alone.{alone}
 use Rattle.history_laws.specs.Turns.{scene_state, inner, answer_at, missed_at, IsTold}
-use Rattle.journal_words.specs.Journals.{after_entry, opens, state_behind}
-
--- an answer is given, unless the session was lost before the call was done, or between calls
-abbrev pub given_at : Option Side → Asked → Answer → Option Answer
-given_at side Cut answer = None
-given_at (Some Before) asked answer = None
-given_at side asked answer = Some answer
-
--- what the actor hears of it, and what it misses
-abbrev pub heard : Option Side → Option Answer → Answer
-heard None (Some answer) = answer
-heard side inner = answers.Lost
-
-abbrev pub missed : Option Side → Option Answer → Option Answer
-missed (Some After) inner = inner
-missed side inner = None
-
--- a loss between calls has no side
-pub record IsHeard (limits : Limits) (scene : Scene) (before : List Entry) (entry : Entry) : Type 0 where
-  pub answer : entry.answer ≡ heard entry.side (given_at entry.side entry.asked (inner (scene_state limits scene before) entry))
-  pub missed : entry.missed ≡ missed entry.side (given_at entry.side entry.asked (inner (scene_state limits scene before) entry))
-  pub cuts : is_cut entry.asked ≡ true → entry.side ≡ None
+use Rattle.plain_server.specs.Serving.{given_at}
+use Rattle.journal_words.specs.Journals.{opens, heard, missed, may_lose, inner_answer, IsAnswered}
+use Rattle.std.proofs.lemmas.Bool.{false≢true}
 
 heard_is : (side : Option Side) (state : State) (number : ℕ) (asked : Asked) → (is_cut asked ≡ true → side ≡ None) → heard side (given_at side asked (serves state number asked).answer) ≡ answer_at side (serves state number asked).answer
 heard_is None state number (Call request) cuts = refl
@@ -65,18 +45,28 @@ missed_is (Some After) state number Cut cuts = absurd (none (cuts refl)) where
   none : Some After ≡ None → ⊥
   none same = cc
 
-pub heard_faithful : (limits : Limits) (scene : Scene) (before journal : List Entry) → Along (IsHeard limits scene) before journal → Along (IsTold limits scene) before journal
-heard_faithful limits scene before [] all = tt
-heard_faithful limits scene before (entry ∷ journal) all =
-    (record {
-      answer = all.0.answer ∙ heard_is entry.side (opens entry (scene_state limits scene before)) entry.session entry.asked all.0.cuts;
-      missed = all.0.missed ∙ missed_is entry.side (opens entry (scene_state limits scene before)) entry.session entry.asked all.0.cuts;
-    }, heard_faithful limits scene (before ++ entry ∷ []) journal all.1)
+cut_sides : (entry : Entry) → (may_lose entry.asked ≡ false → entry.side ≡ None) → is_cut entry.asked ≡ true → entry.side ≡ None
+cut_sides entry sides is = sides (by entry.asked is) where
+  by : (asked : Asked) → is_cut asked ≡ true → may_lose asked ≡ false
+  by Cut is = refl
+  by (Call request) is = absurd (false≢true is)
+  by Poll is = absurd (false≢true is)
+  by (Command word) is = absurd (false≢true is)
 
-pub state_folds : (state : State) (journal : List Entry) → state_behind state journal ≡ fold after_entry state journal
-unfolding state_behind
-state_folds state [] = refl
-state_folds state (entry ∷ journal) = state_folds (after_entry state entry) journal
+-- the entry has the server's answer, heard or missed
+pub told_answer : (state : State) (entry : Entry) → IsAnswered state entry → entry.answer ≡ answer_at entry.side (inner state entry)
+unfolding inner_answer
+told_answer state entry is = is.answer ∙ heard_is entry.side (opens entry state) entry.session entry.asked (cut_sides entry is.sides)
+
+pub told_missed : (state : State) (entry : Entry) → IsAnswered state entry → entry.missed ≡ missed_at entry.side (inner state entry)
+unfolding inner_answer
+told_missed state entry is = is.missed ∙ missed_is entry.side (opens entry state) entry.session entry.asked (cut_sides entry is.sides)
+
+-- a faithful journal's entries have them
+pub faithful_told : (limits : Limits) (scene : Scene) (before journal : List Entry) → Along (λ some entry. IsAnswered (scene_state limits scene some) entry) before journal → Along (IsTold limits scene) before journal
+faithful_told limits scene before [] all = tt
+faithful_told limits scene before (entry ∷ journal) all =
+    (record { answer = told_answer (scene_state limits scene before) entry all.0; missed = told_missed (scene_state limits scene before) entry all.0 }, faithful_told limits scene (before ++ entry ∷ []) journal all.1)
 
 -- SERIAL, OF TABLES ALONE: the ALTER by a function of databases
 
