@@ -24,7 +24,7 @@ use Rattle.plain_server.specs.declared.entry.Asked.TheVariants.{Call, Poll, Cut,
 use Rattle.plain_server.specs.declared.entry.Entry.{Entry}
 use Rattle.plain_server.specs.Entries.{is_command, is_client}
 use Rattle.history_laws.specs.Holdings.{Face, no_face, face_in, face_of, stored, Holds, ProperWaits}
-use Rattle.history_laws.specs.Laws.{IsSerial, JournalsAreSerial, IsPlain, PlainAreSerial}
+use Rattle.history_laws.specs.Laws.{SceneSerial, ScenesAreSerial, IsPlain, PlainScenesAreSerial}
 use Rattle.statement_laws.proofs.Stables.{stable_end}
 use Rattle.history_laws.proofs.Left.{serial_left, left_found, none_alters}
 use Rattle.history_laws.proofs.Bridges.{lines_alike}
@@ -511,14 +511,16 @@ going_replies scene true tables seat going is fine none =
     ap (λ (r : Ran). r.replies) (sym (lines_alike scene.mine tables (tables_left scene.mine tables) nothing_ran going.lines fine.lines (left_found scene tables)) ∙ run.runs)
 going_replies scene false tables seat going is fine none = rw (none refl) refl
 
+-- of each journal behind which all holds
+pub scene_serial : (limits : Limits) (scene : Scene) (journal : List Entry) → is_mine scene scene.migrated ≡ true → JournalHolds limits scene journal → SceneSerial limits scene journal
+scene_serial limits scene journal mine end = record {
+  ended = serial_left scene (record { tables = scene.opening; log = [] }) (seen scene (stored (scene_state limits scene journal))) (history limits scene journal) mine end.holds.kept.serial;
+  going = λ n. going_replies scene (scene.client n) (scene_state limits scene journal).tables (face_of (scene_state limits scene journal).sessions n).seat (goings_at limits scene journal n) end.holds.kept.orderly (end.holds.kept.fine n) (end.holds.fits n).tools;
+}
+
 -- *Journals are serial*
-pub journals_are_serial : JournalsAreSerial
-journals_are_serial limits scene journal is mine faithful allowed =
-    let end : JournalHolds limits scene journal = journal_holds limits scene journal is mine faithful allowed in
-    record {
-      ended = serial_left scene (record { tables = scene.opening; log = [] }) (seen scene (stored (scene_state limits scene journal))) (history limits scene journal) mine end.holds.kept.serial;
-      going = λ n. going_replies scene (scene.client n) (scene_state limits scene journal).tables (face_of (scene_state limits scene journal).sessions n).seat (goings_at limits scene journal n) end.holds.kept.orderly (end.holds.kept.fine n) (end.holds.fits n).tools;
-    }
+pub scenes_are_serial : ScenesAreSerial
+scenes_are_serial limits scene journal is mine faithful allowed = scene_serial limits scene journal mine (journal_holds limits scene journal is mine faithful allowed)
 
 -- plain journals
 plain_allowed : (limits : Limits) (scene : Scene) (before journal : List Entry) → scene.exchanges ≡ false → Along (IsPlain limits scene) before journal → Along (IsAllowed limits scene) before journal
@@ -546,7 +548,7 @@ plain_allowed limits scene before (entry ∷ journal) never plain =
   so (Some (CopyRow from into columns key)) = tt
 
 -- *Plain journals are serial*
-pub plain_are_serial : PlainAreSerial
-plain_are_serial limits scene journal is mine never faithful plain =
-    let serial : IsSerial limits scene journal = journals_are_serial limits scene journal is mine faithful (plain_allowed limits scene [] journal never plain) in
+pub plain_scenes_are_serial : PlainScenesAreSerial
+plain_scenes_are_serial limits scene journal is mine never faithful plain =
+    let serial : SceneSerial limits scene journal = scenes_are_serial limits scene journal is mine faithful (plain_allowed limits scene [] journal never plain) in
     record { serial = serial; plain = none_alters scene (left scene (record { tables = scene.opening; log = [] })) (left scene (stored (scene_state limits scene journal))) (history limits scene journal) never serial.ended }

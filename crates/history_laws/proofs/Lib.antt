@@ -23,3 +23,5 @@ pub mod Waiting
 pub mod Progress
 pub mod Hearing
 pub mod Linking
+pub mod Naming
+pub mod PlanJournals

@@ -1,5 +1,5 @@
 -- What holds of every journal.
-use Rattle.std.specs.Prelude.{◌≡◌, ℕ, true, false, List, [], Some, None}
+use Rattle.std.specs.Prelude.{◌≡◌, ◌≤◌, ℕ, count_by, true, false, List, [], Some, None}
 use Rattle.plain_server.specs.declared.session.Limits.{Limits}
 use Rattle.std.specs.List.{AllByRecursion}
 use Rattle.plain_server.specs.Along.{Along}
@@ -13,18 +13,31 @@ use Rattle.plain_server.specs.declared.entry.Entry.{Entry}
 use Rattle.plain_server.specs.Entries.{is_command}
 use Rattle.history_laws.specs.Holdings.{stored}
 use Rattle.plain_server.specs.declared.request.Request.TheVariants.{Rename}
-use Rattle.journal_words.specs.Journals.{opens}
+use Rattle.journal_words.specs.PlanData.{PlanData}
+use Rattle.journal_words.specs.Journals.{opens, IsFaithful}
+use Rattle.journal_words.specs.Keeping.{KeepsPlan}
+use Rattle.journal_words.specs.Sessions.{KeepsSessions}
+use Rattle.journal_words.specs.Histories as histories
+use Rattle.journal_words.specs.Histories.{is_alter}
+use Rattle.journal_words.specs.Serials.{IsSerial}
+use Rattle.history_laws.specs.Plans.{IsSerialPlan, KeepsAway}
 
 -- the history is serial over the client tables and their log, which are what is left of the tables and the log; and each
 -- client's open transaction has at its lines the
 -- replies that these lines have when they run alone on the client tables as they are
-pub record IsSerial (limits : Limits) (scene : Scene) (journal : List Entry) : Type 0 where
+pub record SceneSerial (limits : Limits) (scene : Scene) (journal : List Entry) : Type 0 where
   pub ended : SerialHistory scene (left scene (record { tables = scene.opening; log = [] })) (history limits scene journal) (left scene (stored (scene_state limits scene journal)))
   pub going : (n : ℕ) → (lines_run (left scene (stored (scene_state limits scene journal))).tables nothing_ran (goings_at limits scene journal n).lines).replies ≡ (goings_at limits scene journal n).replies
 
 -- *Journals are serial*
+abbrev pub ScenesAreSerial : Type 0
+ScenesAreSerial = (limits : Limits) (scene : Scene) (journal : List Entry) → IsOrderly scene.opening → is_mine scene scene.migrated ≡ true → AllTold limits scene journal → Along (IsAllowed limits scene) [] journal → SceneSerial limits scene journal
+
+-- *Journals of plans are serial*: a journal that follows from its plan and is faithful, and in which the tool alters one
+-- table at most, once, and writes no other of the clients', in the journal's own words
 abbrev pub JournalsAreSerial : Type 0
-JournalsAreSerial = (limits : Limits) (scene : Scene) (journal : List Entry) → IsOrderly scene.opening → is_mine scene scene.migrated ≡ true → AllTold limits scene journal → Along (IsAllowed limits scene) [] journal → IsSerial limits scene journal
+JournalsAreSerial = (plan : PlanData) (journal : List Entry) → IsSerialPlan plan → IsFaithful plan journal → KeepsPlan plan journal → KeepsSessions journal → Along (λ before entry. KeepsAway plan before entry entry.actor) [] journal
+    → count_by is_alter (histories.history plan journal) ≤ 1 → IsSerial plan journal
 
 -- *Every list of turns has a faithful journal*
 abbrev pub TurnsHaveJournals : Type 0
@@ -46,9 +59,9 @@ pub record IsPlain (limits : Limits) (scene : Scene) (before : List Entry) (entr
   pub rests : AtRest (is_busy entry.session (opens entry (scene_state limits scene before))) (about (opens entry (scene_state limits scene before)) entry.session entry.asked)
 
 -- *Plain journals are serial*: clients' transactions alone, one after the other
-pub record IsPlainSerial (limits : Limits) (scene : Scene) (journal : List Entry) : Type 0 where
-  pub serial : IsSerial limits scene journal
+pub record PlainSceneSerial (limits : Limits) (scene : Scene) (journal : List Entry) : Type 0 where
+  pub serial : SceneSerial limits scene journal
   pub plain : AllByRecursion IsTxn (history limits scene journal)
 
-abbrev pub PlainAreSerial : Type 0
-PlainAreSerial = (limits : Limits) (scene : Scene) (journal : List Entry) → IsOrderly scene.opening → is_mine scene scene.migrated ≡ true → scene.exchanges ≡ false → AllTold limits scene journal → Along (IsPlain limits scene) [] journal → IsPlainSerial limits scene journal
+abbrev pub PlainScenesAreSerial : Type 0
+PlainScenesAreSerial = (limits : Limits) (scene : Scene) (journal : List Entry) → IsOrderly scene.opening → is_mine scene scene.migrated ≡ true → scene.exchanges ≡ false → AllTold limits scene journal → Along (IsPlain limits scene) [] journal → PlainSceneSerial limits scene journal

@@ -1,6 +1,6 @@
 -- The scene of a plan: which tables are the clients', whose each session is, and what the tool may do among them.
 use Rattle.std.specs.Prelude.{◌≡◌, ℕ, ◌==◌, Bool, true, false, not, ◌&&◌, List, [], ◌∷◌, ◌++◌, map, filter, Some}
-use Rattle.std.specs.List.{list_any, flat_map}
+use Rattle.std.specs.List.{AllByRecursion, list_any, flat_map}
 use Rattle.std.specs.Str.{bytes_eq}
 use Rattle.script_text.specs.declared.actor.Actor.{Actor}
 use Rattle.script_text.specs.declared.actor.Actor.TheVariants.{Client}
@@ -17,6 +17,7 @@ use Rattle.changelog_table.specs.ToolNames.{is_tool_name}
 use Rattle.journal_words.specs.PlanData.{PlanData, plan_altered_table}
 use Rattle.journal_words.specs.Journals.{state_at}
 use Rattle.journal_words.specs.Histories.{about, told_in}
+use Rattle.statement_laws.specs.Covering.{IsOrderlyTable}
 use Rattle.history_laws.specs.Scenes.{Scene}
 use Rattle.history_laws.specs.Turns.{ToolAsks, AtRest, RenamesSo}
 
@@ -74,3 +75,9 @@ pub record IsAway (plan : PlanData) (before : List Entry) (entry : Entry) : Type
 abbrev pub KeepsAway : PlanData → List Entry → Entry → Actor → Type 0
 KeepsAway plan before entry (Client client) = Unit {0}
 KeepsAway plan before entry actor = IsAway plan before entry
+
+-- *Serial plan*: each of its tables is a table with a clustered key, whose defaults fit their columns; and its scripts
+-- name no table of the tool's.
+pub record IsSerialPlan (plan : PlanData) : Type 0 where
+  pub tables : AllByRecursion IsOrderlyTable plan.tables
+  pub scripts : AllByRecursion (λ name. is_tool_name plan.table name ≡ false) (script_names plan)
