@@ -17,7 +17,7 @@ use Rattle.history_laws.specs.Scenes.{PlainItem, Stored, Scene, is_mine, tables_
 use Rattle.plain_server.specs.declared.answer.Answer.{Answer}
 use Rattle.plain_server.specs.declared.answer.Answer.TheVariants as answers
 use Rattle.plain_server.specs.Answers.{ok}
-use Rattle.history_laws.specs.Turns.{scene_state, inner, answer_at, missed_at, told_at, IsTold, AllTold, Fate, Still, word_given, was_given, broken, word_lost, word_asked, fate_renamed, request_of, about, is_busy, fate_if, fate, happens, goings_after, goings_from, goings_at, entry_adds, history, MayAskIf, MayAsk, ClientAsks, ToolAsks, RenamesSo, DefinesSo, AtRest, IsAllowed}
+use Rattle.history_laws.specs.Turns.{scene_state, inner, answer_at, missed_at, told_at, IsTold, AllTold, Fate, Still, word_given, was_given, broken, word_lost, word_asked, fate_renamed, request_of, about, is_busy, fate_if, fate, happens, goings_after, goings_from, goings_at, entry_adds, history, MayAskIf, MayAsk, ClientAsks, ToolAsks, RenamesSo, DefinesSo, AtRest, IsAllowed, IsSceneRun}
 use Rattle.journal_words.specs.Histories.{renames_away}
 use Rattle.plain_server.specs.declared.entry.Asked.{Asked}
 use Rattle.plain_server.specs.declared.entry.Asked.TheVariants.{Call, Poll, Cut, Command}
@@ -500,9 +500,9 @@ begins limits scene is = record {
   one = λ one other p q exclusive differ. absurd p;
 }
 
-pub journal_holds : (limits : Limits) (scene : Scene) (journal : List Entry) → IsOrderly scene.opening → is_mine scene scene.migrated ≡ true → AllTold limits scene journal → Along (IsAllowed limits scene) [] journal → JournalHolds limits scene journal
-journal_holds limits scene journal is mine faithful allowed =
-    Along-keeps (IsGood limits scene) (JournalHolds limits scene) (step limits scene mine) [] journal (Along-both (IsTold limits scene) (IsAllowed limits scene) [] journal faithful allowed) (begins limits scene is)
+pub journal_holds : (limits : Limits) (scene : Scene) (journal : List Entry) → IsSceneRun limits scene journal → JournalHolds limits scene journal
+journal_holds limits scene journal run =
+    Along-keeps (IsGood limits scene) (JournalHolds limits scene) (step limits scene run.migrated) [] journal (Along-both (IsTold limits scene) (IsAllowed limits scene) [] journal run.told run.allowed) (begins limits scene run.orderly)
 
 pub going_replies : (scene : Scene) (own : Bool) (tables : Database) (seat : Seat) (going : Going) → IsOrderly tables → IsFine scene own tables seat going → (own ≡ false → going ≡ not_going) → (lines_run (tables_left scene.mine tables) nothing_ran going.lines).replies ≡ going.replies
 unfolding lines_run
@@ -518,9 +518,9 @@ scene_serial limits scene journal mine end = record {
   going = λ n. going_replies scene (scene.client n) (scene_state limits scene journal).tables (face_of (scene_state limits scene journal).sessions n).seat (goings_at limits scene journal n) end.holds.kept.orderly (end.holds.kept.fine n) (end.holds.fits n).tools;
 }
 
--- *Journals are serial*
+-- *Runs of scenes are serial*
 pub scenes_are_serial : ScenesAreSerial
-scenes_are_serial limits scene journal is mine faithful allowed = scene_serial limits scene journal mine (journal_holds limits scene journal is mine faithful allowed)
+scenes_are_serial limits scene journal run = scene_serial limits scene journal run.migrated (journal_holds limits scene journal run)
 
 -- plain journals
 plain_allowed : (limits : Limits) (scene : Scene) (before journal : List Entry) → scene.exchanges ≡ false → Along (IsPlain limits scene) before journal → Along (IsAllowed limits scene) before journal
@@ -547,8 +547,8 @@ plain_allowed limits scene before (entry ∷ journal) never plain =
   so (Some (BeginSpan table span size)) = tt
   so (Some (CopyRow from into columns key)) = tt
 
--- *Plain journals are serial*
+-- *Plain runs are serial*
 pub plain_scenes_are_serial : PlainScenesAreSerial
 plain_scenes_are_serial limits scene journal is mine never faithful plain =
-    let serial : SceneSerial limits scene journal = scenes_are_serial limits scene journal is mine faithful (plain_allowed limits scene [] journal never plain) in
+    let serial : SceneSerial limits scene journal = scenes_are_serial limits scene journal (record { orderly = is; migrated = mine; told = faithful; allowed = plain_allowed limits scene [] journal never plain }) in
     record { serial = serial; plain = none_alters scene (left scene (record { tables = scene.opening; log = [] })) (left scene (stored (scene_state limits scene journal))) (history limits scene journal) never serial.ended }

@@ -1,11 +1,12 @@
 -- *Journals are serial*: of every plan, in the journal's own words.
 use Rattle.std.proofs.Common.{◌≡◌, ◌≤◌, ℕ, Bool, true, false, List, [], ◌∷◌, ◌++◌, map, Option, Some, None, refl, sym, ap, ◌∙◌, subst}
+use Rattle.std.proofs.Common.{append_assoc, append-nil}
 use Rattle.std.specs.Prelude.{count_by, option_map}
 use Rattle.std.specs.List.{AllByRecursion}
 use Rattle.row_store.specs.Databases.{TableRows, Database, find_table, with_change}
 use Rattle.script_text.specs.declared.actor.Actor.{Actor}
 use Rattle.script_text.specs.declared.actor.Actor.TheVariants.{Client}
-use Rattle.plain_server.specs.Along.{Along, Along-both, Along-keeps, gathered-more}
+use Rattle.plain_server.specs.Along.{Along, gathered-more}
 use Rattle.plain_server.specs.declared.entry.Entry.{Entry}
 use Rattle.plain_server.specs.declared.session.Limits.{Limits}
 use Rattle.plain_server.specs.Entries.{is_command, is_client}
@@ -23,19 +24,16 @@ use Rattle.journal_words.specs.Serials.{altered_in, altered_database, IsSerial}
 use Rattle.history_laws.specs.Scenes.{PlainItem, Txn, Alter, Scene, Stored, Going, not_going, tables_left, SerialHistory, seen, left}
 use Rattle.history_laws.specs.Turns.{scene_state, goings_at, goings_from, entry_adds, history, IsTold, IsAllowed}
 use Rattle.history_laws.specs.Holdings.{face_of, stored}
-use Rattle.history_laws.specs.Laws.{SceneSerial, JournalsAreSerial}
-use Rattle.history_laws.specs.Plans.{client_names, is_client_session, scene_of, KeepsAway, IsSerialPlan}
+use Rattle.history_laws.specs.Laws.{SceneSerial, PlanRunsAreSceneRuns, JournalsAreSerial}
+use Rattle.history_laws.specs.Plans.{client_names, is_client_session, limits_of, scene_of, KeepsAway, IsSerialPlan, IsPlanRun}
 use Rattle.history_laws.proofs.Actors.{Placed, placed, seats_begin, Kinds, KindSo, all_kinds}
 use Rattle.history_laws.proofs.Journals.{JournalHolds, scene_serial, step, begins, state_more, goings_more, going_replies}
-use Rattle.history_laws.proofs.Joined.{told_answer, told_missed, SerialPlain, LeadsPlain, AltersAs, serial_plain}
+use Rattle.history_laws.proofs.Joined.{faithful_told, told_answer, told_missed, SerialPlain, LeadsPlain, AltersAs, serial_plain}
 use Rattle.history_laws.proofs.Left.{serial_left}
 use Rattle.history_laws.proofs.Linking.{Linked, Known, linked_more, allowed_here}
 use Rattle.history_laws.proofs.Naming.{migrated_named, script_lines, extras_open, extras_serial, left_is}
 use Rattle.history_laws.proofs.Openings.{opening_orderly}
 use Rattle.history_laws.proofs.Progress.{plain, going_of, Free}
-
-abbrev pub limits_of : PlanData → Limits
-limits_of plan = record { client_wait = plan.options.client_wait; tool_wait = plan.options.tool_wait }
 
 -- all that holds behind a journal's turns
 pub record PlanHolds (plan : PlanData) (whole journal : List Entry) : Type 0 where
@@ -104,12 +102,28 @@ all_good plan whole before [] faithful planned seated away kinds = tt
 all_good plan whole before (entry ∷ journal) faithful planned seated away kinds =
     (record { answered = faithful.0; planned = planned.0; seated = seated.0; away = away.0; kind = kinds.0 }, all_good plan whole (before ++ entry ∷ []) journal faithful.1 planned.1 seated.1 away.1 kinds.1)
 
-pub plan_holds : (plan : PlanData) (journal : List Entry) → IsSerialPlan plan → IsFaithful plan journal → KeepsPlan plan journal → KeepsSessions journal → Along (λ before entry. KeepsAway plan before entry entry.actor) [] journal → PlanHolds plan journal journal
+-- how far all holds, turn by turn
+goes : (plan : PlanData) (whole before journal : List Entry) → is_client_session whole 0 ≡ false → Along (IsGood plan whole) before journal → PlanHolds plan whole before → PlanHolds plan whole (before ++ journal) × Along (IsAllowed (limits_of plan) (scene_of plan whole)) before journal
+goes plan whole before [] zero good is = (rw (append-nil before) is, tt)
+goes plan whole before (entry ∷ journal) zero good is =
+    let rest = goes plan whole (before ++ entry ∷ []) journal zero good.1 (plan_step plan whole before entry zero good.0 is) in
+    (subst (PlanHolds plan whole) (append_assoc before (entry ∷ []) journal) rest.0
+    , (allowed_here plan whole before entry (goings_at (limits_of plan) (scene_of plan whole) before) (history (limits_of plan) (scene_of plan whole) before) is.linked (known_of plan whole before entry zero good.0 is), rest.1))
+
+plan_goes : (plan : PlanData) (journal : List Entry) → IsPlanRun plan journal → PlanHolds plan journal journal × Along (IsAllowed (limits_of plan) (scene_of plan journal)) [] journal
 unfolding KeepsPlan KeepsSessions
-plan_holds plan journal is faithful planned seated away =
-    let kinds : Kinds journal = all_kinds journal seated in
-    Along-keeps (IsGood plan journal) (PlanHolds plan journal) (λ all entry good holds. plan_step plan journal all entry kinds.seats.none good holds) [] journal
-    (all_good plan journal [] journal faithful planned seated away kinds.each) (plan_begins plan journal is)
+plan_goes plan journal run =
+    let kinds : Kinds journal = all_kinds journal run.seated in
+    goes plan journal [] journal kinds.seats.none (all_good plan journal [] journal run.faithful run.planned run.seated run.away kinds.each) (plan_begins plan journal run.serial)
+
+-- *A plan's run is a scene's*
+pub plan_runs_are_scene_runs : PlanRunsAreSceneRuns
+plan_runs_are_scene_runs plan journal run = record {
+  orderly = opening_orderly plan.tables run.serial.tables;
+  migrated = migrated_named plan;
+  told = faithful_told (limits_of plan) (scene_of plan journal) [] journal run.faithful;
+  allowed = (plan_goes plan journal run).1;
+}
 
 -- SERIAL, IN THE JOURNAL'S WORDS
 
@@ -137,14 +151,14 @@ going_words plan journal live going now closed runs law c = by (live c) refl whe
   by None none = subst Replies (sym (closed c none)) refl
   by (Some n) is = subst Replies (runs c n is) (sym (law n))
 
--- *Journals of plans are serial*
+-- *Journals are serial*
 pub journals_are_serial : JournalsAreSerial
-journals_are_serial plan journal is faithful planned seated away once =
-    let end : PlanHolds plan journal journal = plan_holds plan journal is faithful planned seated away in
+journals_are_serial plan journal run once =
+    let end : PlanHolds plan journal journal = (plan_goes plan journal run).0 in
     let scene : Scene = scene_of plan journal in
     let now : Database = (state_at plan journal).tables in
-    let open_left : tables_left (client_names plan) plan.tables ≡ serials.tables_left plan plan.tables = left_is plan plan.tables (extras_open plan is) in
-    let none = extras_serial plan scene (record { tables = plan.tables; log = [] }) (history (limits_of plan) scene journal) (seen scene (stored (state_at plan journal))) refl end.holds.holds.kept.serial (extras_open plan is) in
+    let open_left : tables_left (client_names plan) plan.tables ≡ serials.tables_left plan plan.tables = left_is plan plan.tables (extras_open plan run.serial) in
+    let none = extras_serial plan scene (record { tables = plan.tables; log = [] }) (history (limits_of plan) scene journal) (seen scene (stored (state_at plan journal))) refl end.holds.holds.kept.serial (extras_open plan run.serial) in
     let now_left : tables_left (client_names plan) now ≡ serials.tables_left plan now = left_is plan now none in
     let law : SceneSerial (limits_of plan) scene journal = scene_serial (limits_of plan) scene journal (migrated_named plan) end.holds in
     let led : SerialPlain (altered_database plan) (tables_left (client_names plan) plan.tables) (map plain (histories.history plan journal)) (tables_left (client_names plan) now) =

@@ -8,19 +8,17 @@ use Rattle.row_store.specs.Databases.{Database}
 use Rattle.statement_laws.specs.Databases.{IsOrderly}
 use Rattle.plain_server.specs.Alone.{lines_run, nothing_ran}
 use Rattle.history_laws.specs.Scenes.{Scene, PlainItem, Txn, Alter, is_mine, SerialHistory, left}
-use Rattle.history_laws.specs.Turns.{Turn, journal_of, AllTold, IsAllowed, MayAsk, AtRest, is_busy, about, IsExchange, RenamesSo, scene_state, goings_at, history}
+use Rattle.history_laws.specs.Turns.{Turn, journal_of, AllTold, IsSceneRun, MayAsk, AtRest, is_busy, about, IsExchange, RenamesSo, scene_state, goings_at, history}
 use Rattle.plain_server.specs.declared.entry.Entry.{Entry}
 use Rattle.plain_server.specs.Entries.{is_command}
 use Rattle.history_laws.specs.Holdings.{stored}
 use Rattle.plain_server.specs.declared.request.Request.TheVariants.{Rename}
 use Rattle.journal_words.specs.PlanData.{PlanData}
-use Rattle.journal_words.specs.Journals.{opens, IsFaithful}
-use Rattle.journal_words.specs.Keeping.{KeepsPlan}
-use Rattle.journal_words.specs.Sessions.{KeepsSessions}
+use Rattle.journal_words.specs.Journals.{opens}
 use Rattle.journal_words.specs.Histories as histories
 use Rattle.journal_words.specs.Histories.{is_alter}
 use Rattle.journal_words.specs.Serials.{IsSerial}
-use Rattle.history_laws.specs.Plans.{IsSerialPlan, KeepsAway}
+use Rattle.history_laws.specs.Plans.{limits_of, scene_of, IsPlanRun}
 
 -- the history is serial over the client tables and their log, which are what is left of the tables and the log; and each
 -- client's open transaction has at its lines the
@@ -29,15 +27,17 @@ pub record SceneSerial (limits : Limits) (scene : Scene) (journal : List Entry) 
   pub ended : SerialHistory scene (left scene (record { tables = scene.opening; log = [] })) (history limits scene journal) (left scene (stored (scene_state limits scene journal)))
   pub going : (n : ℕ) → (lines_run (left scene (stored (scene_state limits scene journal))).tables nothing_ran (goings_at limits scene journal n).lines).replies ≡ (goings_at limits scene journal n).replies
 
--- *Journals are serial*
+-- *Runs of scenes are serial*
 abbrev pub ScenesAreSerial : Type 0
-ScenesAreSerial = (limits : Limits) (scene : Scene) (journal : List Entry) → IsOrderly scene.opening → is_mine scene scene.migrated ≡ true → AllTold limits scene journal → Along (IsAllowed limits scene) [] journal → SceneSerial limits scene journal
+ScenesAreSerial = (limits : Limits) (scene : Scene) (journal : List Entry) → IsSceneRun limits scene journal → SceneSerial limits scene journal
 
--- *Journals of plans are serial*: a journal that follows from its plan and is faithful, and in which the tool alters one
--- table at most, once, and writes no other of the clients', in the journal's own words
+-- *A plan's run is a scene's*, so that all laws of scenes are laws of plans
+abbrev pub PlanRunsAreSceneRuns : Type 0
+PlanRunsAreSceneRuns = (plan : PlanData) (journal : List Entry) → IsPlanRun plan journal → IsSceneRun (limits_of plan) (scene_of plan journal) journal
+
+-- *Journals are serial*, in their own words: each run of a plan in which the tool alters the migrated table once at most
 abbrev pub JournalsAreSerial : Type 0
-JournalsAreSerial = (plan : PlanData) (journal : List Entry) → IsSerialPlan plan → IsFaithful plan journal → KeepsPlan plan journal → KeepsSessions journal → Along (λ before entry. KeepsAway plan before entry entry.actor) [] journal
-    → count_by is_alter (histories.history plan journal) ≤ 1 → IsSerial plan journal
+JournalsAreSerial = (plan : PlanData) (journal : List Entry) → IsPlanRun plan journal → count_by is_alter (histories.history plan journal) ≤ 1 → IsSerial plan journal
 
 -- *Every list of turns has a faithful journal*
 abbrev pub TurnsHaveJournals : Type 0
@@ -58,7 +58,7 @@ pub record IsPlain (limits : Limits) (scene : Scene) (before : List Entry) (entr
   pub commands : is_command entry.asked ≡ true → entry.side ≡ None
   pub rests : AtRest (is_busy entry.session (opens entry (scene_state limits scene before))) (about (opens entry (scene_state limits scene before)) entry.session entry.asked)
 
--- *Plain journals are serial*: clients' transactions alone, one after the other
+-- *Plain runs are serial*: clients' transactions alone, one after the other
 pub record PlainSceneSerial (limits : Limits) (scene : Scene) (journal : List Entry) : Type 0 where
   pub serial : SceneSerial limits scene journal
   pub plain : AllByRecursion IsTxn (history limits scene journal)

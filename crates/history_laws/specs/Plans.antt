@@ -15,7 +15,11 @@ use Rattle.plain_server.specs.Jobs.{table_of}
 use Rattle.plain_server.specs.States.{State, session_of, is_in_transaction, is_waiting}
 use Rattle.changelog_table.specs.ToolNames.{is_tool_name}
 use Rattle.journal_words.specs.PlanData.{PlanData, plan_altered_table}
-use Rattle.journal_words.specs.Journals.{state_at}
+use Rattle.journal_words.specs.Journals.{state_at, IsFaithful}
+use Rattle.journal_words.specs.Keeping.{KeepsPlan}
+use Rattle.journal_words.specs.Sessions.{KeepsSessions}
+use Rattle.plain_server.specs.declared.session.Limits.{Limits}
+use Rattle.plain_server.specs.Along.{Along}
 use Rattle.journal_words.specs.Histories.{about, told_in}
 use Rattle.statement_laws.specs.Covering.{IsOrderlyTable}
 use Rattle.history_laws.specs.Scenes.{Scene}
@@ -41,6 +45,9 @@ client_names plan = client_tables plan ++ filter (λ name. not (list_any (bytes_
 -- the session is a client's
 unfoldable pub is_client_session : List Entry → ℕ → Bool
 is_client_session journal number = list_any (λ entry. not (is_command entry.asked) && ((entry.session == number) && is_client entry.actor)) journal
+
+abbrev pub limits_of : PlanData → Limits
+limits_of plan = record { client_wait = plan.options.client_wait; tool_wait = plan.options.tool_wait }
 
 -- *Scene of a plan*, for all turns of a journal
 abbrev pub scene_of : PlanData → List Entry → Scene
@@ -81,3 +88,11 @@ KeepsAway plan before entry actor = IsAway plan before entry
 pub record IsSerialPlan (plan : PlanData) : Type 0 where
   pub tables : AllByRecursion IsOrderlyTable plan.tables
   pub scripts : AllByRecursion (λ name. is_tool_name plan.table name ≡ false) (script_names plan)
+
+-- *Run of a plan*: a journal that follows from it, in which every answer is the server's and the tool keeps away
+pub record IsPlanRun (plan : PlanData) (journal : List Entry) : Type 0 where
+  pub serial : IsSerialPlan plan
+  pub faithful : IsFaithful plan journal
+  pub planned : KeepsPlan plan journal
+  pub seated : KeepsSessions journal
+  pub away : Along (λ before entry. KeepsAway plan before entry entry.actor) [] journal

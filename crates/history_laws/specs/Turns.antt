@@ -20,6 +20,7 @@ use Rattle.plain_server.specs.declared.session.Limits.{Limits}
 use Rattle.history_laws.specs.Scenes.{Scene, is_mine, AltersTo, NamesTable, PlainItem, Txn, Alter, Going, not_going}
 use Rattle.plain_server.specs.Along.{Along, gathered}
 use Rattle.statement_laws.specs.Covering.{IsOrderlyTable}
+use Rattle.statement_laws.specs.Databases.{IsOrderly}
 use Rattle.plain_server.specs.Jobs.{table_of}
 use Rattle.plain_server.specs.declared.request.Request.TheVariants as requests
 use Rattle.plain_server.specs.declared.request.Request.TheVariants.{CopyRow, Create, Drop, Rename}
@@ -286,3 +287,11 @@ pub record IsAllowed (limits : Limits) (scene : Scene) (before : List Entry) (en
   pub commands : is_command entry.asked ≡ true → entry.side ≡ None
   pub rests : AtRest (is_busy entry.session (opens entry (scene_state limits scene before))) (about (opens entry (scene_state limits scene before)) entry.session entry.asked)
   pub renames : told_at entry.side entry.answer entry.missed ≡ Some ok → RenamesSo scene (scene_state limits scene before).tables (about (opens entry (scene_state limits scene before)) entry.session entry.asked)
+
+-- *Run of a scene*: its tables are tables, and the migrated one is a client's; each entry has the server's answers and asks
+-- what it may
+pub record IsSceneRun (limits : Limits) (scene : Scene) (journal : List Entry) : Type 0 where
+  pub orderly : IsOrderly scene.opening
+  pub migrated : is_mine scene scene.migrated ≡ true
+  pub told : AllTold limits scene journal
+  pub allowed : Along (IsAllowed limits scene) [] journal

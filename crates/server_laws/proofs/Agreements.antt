@@ -18,7 +18,7 @@ use Rattle.statement_laws.specs.Covering.{Apart, IsOrderlyTable}
 use Rattle.statement_laws.specs.Databases.{EventsCovered, WhereFound}
 use Rattle.plain_server.specs.Jobs.{Job, table_of, job_of, says, job_says, job_needs, after_events, copy_job}
 use Rattle.history_laws.specs.Scenes.{Stored, Seat}
-use Rattle.history_laws.specs.Turns.{scene_state, IsTold, IsAllowed, AllTold}
+use Rattle.history_laws.specs.Turns.{scene_state, IsTold, IsAllowed, IsSceneRun}
 use Rattle.plain_server.specs.declared.entry.Asked.{Asked}
 use Rattle.plain_server.specs.declared.entry.Asked.TheVariants.{Call, Poll, Cut, Command}
 use Rattle.plain_server.specs.declared.entry.Entry.{Entry}
@@ -164,13 +164,13 @@ writes_face (Some s) = refl
 
 -- *What a session sees under its locks stays*
 pub others_agree_law : OthersAgree
-others_agree_law limits scene journal entry other is mine faithful allowed differ =
+others_agree_law limits scene journal entry other run differ =
     let state : State = scene_state limits scene journal in
     let number : ℕ = entry.session in
     let nothing : Bool = is_command entry.asked in
     let tool : Bool = not (is_client entry.actor) in
     let now : State = opens entry state in
-    let held : JournalHolds limits scene journal = journal_holds limits scene journal is mine faithful allowed in
+    let held : JournalHolds limits scene journal = journal_holds limits scene journal run in
     let tables : now.tables ≡ state.tables = ap (λ (s : Stored). s.tables) (stored_opened nothing tool number state) in
     let face : (n : ℕ) → face_of now.sessions n ≡ face_of state.sessions n = λ n. faces_opened nothing tool number n state in
     let own : OwnSeat now number = record {
@@ -213,16 +213,15 @@ along_front keeps before (entry ∷ front) behind all = (all.0, along_front keep
 
 -- *What a session holds and sees stays*
 pub others_stay_law : OthersStay
-others_stay_law limits scene journal [] session is mine faithful allowed differ =
+others_stay_law limits scene journal [] session run differ =
     subst (λ (j : List Entry). StaysTo limits scene journal j session) (sym (append-nil journal)) (record { face = refl; agree = agree_itself (face_of (scene_state limits scene journal).sessions session).seat.names (face_of (scene_state limits scene journal).sessions session).seat.locks (scene_state limits scene journal).tables })
-others_stay_law limits scene journal (entry ∷ more) session is mine faithful allowed differ =
-    let faithful_here = along_front (IsTold limits scene) [] journal (entry ∷ more) faithful in
-    let allowed_here = along_front (IsAllowed limits scene) [] journal (entry ∷ more) allowed in
+others_stay_law limits scene journal (entry ∷ more) session run differ =
+    let here : IsSceneRun limits scene journal = record { orderly = run.orderly; migrated = run.migrated; told = along_front (IsTold limits scene) [] journal (entry ∷ more) run.told; allowed = along_front (IsAllowed limits scene) [] journal (entry ∷ more) run.allowed } in
     let regroup : (journal ++ entry ∷ []) ++ more ≡ journal ++ entry ∷ more = append_assoc journal (entry ∷ []) more in
     let face : face_of (scene_state limits scene (journal ++ entry ∷ [])).sessions session ≡ face_of (scene_state limits scene journal).sessions session =
-    rw (state_more scene (opened limits scene.opening) journal entry) (entry_faces limits scene journal entry (journal_holds limits scene journal is mine faithful_here allowed_here) session differ.0) in
-    let agree = others_agree_law limits scene journal entry session is mine faithful_here allowed_here differ.0 in
-    let rest : StaysTo limits scene (journal ++ entry ∷ []) ((journal ++ entry ∷ []) ++ more) session = others_stay_law limits scene (journal ++ entry ∷ []) more session is mine (subst (AllTold limits scene) (sym regroup) faithful) (subst (λ (j : List Entry). Along (IsAllowed limits scene) [] j) (sym regroup) allowed) differ.1 in
+    rw (state_more scene (opened limits scene.opening) journal entry) (entry_faces limits scene journal entry (journal_holds limits scene journal here) session differ.0) in
+    let agree = others_agree_law limits scene journal entry session here differ.0 in
+    let rest : StaysTo limits scene (journal ++ entry ∷ []) ((journal ++ entry ∷ []) ++ more) session = others_stay_law limits scene (journal ++ entry ∷ []) more session (subst (IsSceneRun limits scene) (sym regroup) run) differ.1 in
     subst (λ (j : List Entry). StaysTo limits scene journal j session) regroup (record {
       face = rest.face ∙ face;
       agree = agree_then (face_of (scene_state limits scene journal).sessions session).seat.names (face_of (scene_state limits scene journal).sessions session).seat.locks (scene_state limits scene journal).tables (scene_state limits scene (journal ++ entry ∷ [])).tables (scene_state limits scene ((journal ++ entry ∷ []) ++ more)).tables agree

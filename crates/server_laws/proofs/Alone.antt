@@ -15,7 +15,7 @@ use Rattle.plain_server.specs.declared.entry.Asked.{Asked}
 use Rattle.plain_server.specs.declared.entry.Asked.TheVariants.{Call, Poll, Cut, Command}
 use Rattle.plain_server.specs.Entries.{is_command, is_client}
 use Rattle.history_laws.specs.Holdings.{IsHeld}
-use Rattle.server_laws.specs.Others.{held_at, TurnOf, ExclusiveIsAlone}
+use Rattle.server_laws.specs.Others.{asks_exclusive, held_at, TurnOf, ExclusiveIsAlone}
 use Rattle.statement_laws.proofs.Points.{are_same}
 use Rattle.history_laws.proofs.Kept.{are_one}
 use Rattle.history_laws.proofs.Names.{Free, OneIn, as_held, as_needed, held_joined, opened_one}
@@ -109,15 +109,15 @@ held_opened nothing tool number state = at (nothing || is_some (session_of numbe
 
 -- *What needs its names exclusively, and is done, is alone*
 pub exclusive_is_alone : ExclusiveIsAlone
-exclusive_is_alone limits scene journal entry request is mine faithful allowed answered asks takes was =
+exclusive_is_alone limits scene journal entry request run answered asks takes was =
     let state : State = scene_state limits scene journal in
     let number = entry.session in
     let nothing : Bool = is_command entry.asked in
     let tool : Bool = not (is_client entry.actor) in
     let now : State = opens entry state in
-    let held : JournalHolds limits scene journal = journal_holds limits scene journal is mine faithful allowed in
+    let held : JournalHolds limits scene journal = journal_holds limits scene journal run in
     let given : inner state entry ≡ ok = told_inner entry.side (inner state entry) (sym (ap (λ (g : Answer). told_at entry.side g entry.missed) answered.answer ∙ ap (λ (m : Option Answer). told_at entry.side (answer_at entry.side (inner state entry)) m) answered.missed) ∙ was) in
     let alone : AloneAt now number request = served_alone now number entry.asked request (opened_one nothing tool number state held.one) asks takes given in
     let before : AloneAt state number request = λ n name differ named. ap (λ (h : List grants.HeldName). holds h n name false) (sym (held_opened nothing tool number state)) ∙ alone n name differ named in
-    let turn : TurnOf number state (scene_state limits scene (journal ++ entry ∷ [])) = entries_are_turns limits scene journal entry is mine faithful allowed in
+    let turn : TurnOf (asks_exclusive (about now number entry.asked)) number state (scene_state limits scene (journal ++ entry ∷ [])) = entries_are_turns limits scene journal entry run in
     record { alone = before; alone_after = λ n name differ named. turn.others n name false differ ∙ before n name differ named }

@@ -5,3 +5,4 @@ mod Agreements
 mod Spans
 mod Beginning
 mod Defining
+mod Holding

@@ -22,13 +22,13 @@ use Rattle.plain_server.specs.declared.session.HeldName.{HeldName}
 use Rattle.statement_laws.specs.Databases.{EventsCovered}
 use Rattle.plain_server.specs.Jobs.{Job, table_of, job_of, says, job_says, result_in, events_of, after_events, change_table, copy_job}
 use Rattle.plain_server.specs.Saying.{tells}
-use Rattle.history_laws.specs.Turns.{scene_state}
+use Rattle.history_laws.specs.Turns.{scene_state, about, request_of}
 use Rattle.plain_server.specs.declared.entry.Asked.{Asked}
 use Rattle.plain_server.specs.declared.entry.Asked.TheVariants.{Call, Poll, Cut, Command}
 use Rattle.plain_server.specs.declared.entry.Entry.{Entry}
 use Rattle.plain_server.specs.Entries.{is_command, is_client}
 use Rattle.history_laws.specs.Holdings.{face_of, IsHeld, Face, face_in}
-use Rattle.server_laws.specs.Others.{held_at, waiters_at, waits_on, is_waiting_on, IsGrantedName, MayWrite, TurnOf, EntriesAreTurns}
+use Rattle.server_laws.specs.Others.{asks_exclusive, held_at, waiters_at, waits_on, is_waiting_on, IsGrantedName, MayWrite, TurnOf, EntriesAreTurns}
 use Rattle.statement_laws.proofs.Points.{are_same, same_bytes}
 use Rattle.history_laws.proofs.Faces.{none_of, faces_opened, changed_there, gone_there}
 use Rattle.history_laws.proofs.Names.{Among2, as_held, as_needed, held_with, held_less, held_joined, some_among, both_among, at_number, same_number, bytes_no, Holding, holding_of}
@@ -143,23 +143,24 @@ name_granted held waiters number asked (name ∷ names) one none is = by asked i
   by false (inr more) both rest = rest both.1 more
 
 -- what a turn adds to the names that are held was granted
-pub record More (before : State) (number : ℕ) (after : List Session) : Type 0 where
+pub record More (takes : Bool) (before : State) (number : ℕ) (after : List Session) : Type 0 where
   pub asked : Bool
+  pub so : asked ≡ true → takes ≡ true
   pub names : List (List ℕ)
   pub free : refuser_of_names (held_at before) (waiters_at before) number asked names ≡ None
   pub among : Among2 (names_held after) (held_at before) (as_held number (as_needed asked names))
 
-granted_more : (before : State) (number : ℕ) (after : List Session) → More before number after → (name : List ℕ) → holds (held_at before) number name false ≡ false → holds (names_held after) number name false ≡ true → (asked : Bool) × IsGrantedName before number name asked
-granted_more before number after more name lacked has = at (held_from (names_held after) number name has) where
-  by : (there : Held (names_held after) number name) → IsHeld there.one (held_at before) ⊎ IsHeld there.one (as_held number (as_needed more.asked more.names)) → (asked : Bool) × IsGrantedName before number name asked
+granted_more : (takes : Bool) (before : State) (number : ℕ) (after : List Session) → More takes before number after → (name : List ℕ) → holds (held_at before) number name false ≡ false → holds (names_held after) number name false ≡ true → (asked : Bool) × (asked ≡ true → takes ≡ true) × IsGrantedName before number name asked
+granted_more takes before number after more name lacked has = at (held_from (names_held after) number name has) where
+  by : (there : Held (names_held after) number name) → IsHeld there.one (held_at before) ⊎ IsHeld there.one (as_held number (as_needed more.asked more.names)) → (asked : Bool) × (asked ≡ true → takes ≡ true) × IsGrantedName before number name asked
   by there (inl old) = absurd (false≢true (sym lacked ∙ holds_from (held_at before) number name there.one old there.own there.same))
-  by there (inr new) = (more.asked, subst (λ (m : List ℕ). IsGrantedName before number m more.asked) (are_same there.one.name name there.same) (name_granted (held_at before) (waiters_at before) number more.asked more.names there.one more.free new))
-  at : Held (names_held after) number name → (asked : Bool) × IsGrantedName before number name asked
+  by there (inr new) = (more.asked, more.so, subst (λ (m : List ℕ). IsGrantedName before number m more.asked) (are_same there.one.name name there.same) (name_granted (held_at before) (waiters_at before) number more.asked more.names there.one more.free new))
+  at : Held (names_held after) number name → (asked : Bool) × (asked ≡ true → takes ≡ true) × IsGrantedName before number name asked
   at there = by there (more.among there.one there.is)
 
-no_names : (before : State) (number : ℕ) (after : List Session) → ((one : grants.HeldName) → IsHeld one (names_held after) → IsHeld one (held_at before)) → More before number after
+no_names : (takes : Bool) (before : State) (number : ℕ) (after : List Session) → ((one : grants.HeldName) → IsHeld one (names_held after) → IsHeld one (held_at before)) → More takes before number after
 unfolding refuser_of_names
-no_names before number after fewer = record { asked = false; names = []; free = refl; among = λ one is. inl (fewer one is) }
+no_names takes before number after fewer = record { asked = false; so = λ is. absurd (false≢true is); names = []; free = refl; among = λ one is. inl (fewer one is) }
 
 -- of each deed
 same_names : (number : ℕ) (change : Session → Session) (sessions : List Session) → ((s : Session) → (one : grants.HeldName) → IsHeld one (as_held (change s).number (change s).names) → IsHeld one (as_held s.number s.names)) → (one : grants.HeldName) → IsHeld one (names_held (with_session number change sessions)) → IsHeld one (names_held sessions)
@@ -213,66 +214,66 @@ name_in_granted held waiters number asked (first ∷ names) name none is =
 
 -- WHAT A DEED DOES
 
-pub record Does (before : State) (number : ℕ) (after : State) : Type 0 where
+pub record Does (takes : Bool) (before : State) (number : ℕ) (after : State) : Type 0 where
   pub faces : (n : ℕ) → (n == number) ≡ false → face_of after.sessions n ≡ face_of before.sessions n
-  pub more : More before number after.sessions
+  pub more : More takes before number after.sessions
   pub others : (other : ℕ) (name : List ℕ) (asked : Bool) → (other == number) ≡ false → holds (names_held after.sessions) other name asked ≡ holds (held_at before) other name asked
   pub events : List RowEvent
   pub log : after.log ≡ before.log ++ events
   pub written : AllByRecursion (λ event. MayWrite before number event.table) events
-  pub tables : (name : List ℕ) → (has_table name after.tables ≡ has_table name before.tables) ⊎ IsGrantedName before number name true
+  pub tables : (name : List ℕ) → (has_table name after.tables ≡ has_table name before.tables) ⊎ ((takes ≡ true) × IsGrantedName before number name true)
 
 abbrev pub at_wait : State → List Waiting → State
 at_wait before w = record before { waiting = w }
 
-does_nothing : (before : State) (w : List Waiting) (number : ℕ) → Does before number (at_wait before w)
-does_nothing before w number = record { faces = λ n differ. refl; more = no_names before number before.sessions (λ one is. is); others = λ other name asked differ. refl; events = []; log = sym (append-nil before.log); written = tt; tables = λ name. inl refl }
+does_nothing : (takes : Bool) (before : State) (w : List Waiting) (number : ℕ) → Does takes before number (at_wait before w)
+does_nothing takes before w number = record { faces = λ n differ. refl; more = no_names takes before number before.sessions (λ one is. is); others = λ other name asked differ. refl; events = []; log = sym (append-nil before.log); written = tt; tables = λ name. inl refl }
 
-does_grows : (before : State) (w : List Waiting) (number : ℕ) (need : Need) (events : List RowEvent) → refuser_of_names (held_at before) (waiters_at before) number false need.names ≡ None → Does before number (goes_on number need events (at_wait before w))
-does_grows before w number need events free = record {
+does_grows : (takes : Bool) (before : State) (w : List Waiting) (number : ℕ) (need : Need) (events : List RowEvent) → refuser_of_names (held_at before) (waiters_at before) number false need.names ≡ None → Does takes before number (goes_on number need events (at_wait before w))
+does_grows takes before w number need events free = record {
   faces = λ n differ. ap face_in (changed_there number n (holding need events) before.sessions (λ s. refl) differ);
-  more = record { asked = false; names = need.names; free = free; among = goes_names number need events before.sessions };
+  more = record { asked = false; so = λ is. absurd (false≢true is); names = need.names; free = free; among = goes_names number need events before.sessions };
   others = λ other name asked differ. others_with number other (holding need events) before.sessions name asked (λ s. refl) differ;
   events = []; log = sym (append-nil before.log); written = tt; tables = λ name. inl refl;
 }
 
-does_commits : (before : State) (w : List Waiting) (number : ℕ) (events : List RowEvent) → AllByRecursion (λ event. MayWrite before number event.table) (writes_of (session_of number before.sessions) ++ events) → Does before number (commits number events (at_wait before w))
-does_commits before w number events written = record {
+does_commits : (takes : Bool) (before : State) (w : List Waiting) (number : ℕ) (events : List RowEvent) → AllByRecursion (λ event. MayWrite before number event.table) (writes_of (session_of number before.sessions) ++ events) → Does takes before number (commits number events (at_wait before w))
+does_commits takes before w number events written = record {
   faces = λ n differ. ap face_in (changed_there number n at_rest before.sessions (λ s. refl) differ);
-  more = no_names before number (with_session number at_rest before.sessions) (rests_names number before.sessions);
+  more = no_names takes before number (with_session number at_rest before.sessions) (rests_names number before.sessions);
   others = λ other name asked differ. others_with number other at_rest before.sessions name asked (λ s. refl) differ;
   events = writes_of (session_of number before.sessions) ++ events; log = refl; written = written;
   tables = λ name. inl (stands_after name (writes_of (session_of number before.sessions) ++ events) before.tables);
 }
 
-does_forgets : (before : State) (w : List Waiting) (number : ℕ) → Does before number (forgets number (at_wait before w))
-does_forgets before w number = record {
+does_forgets : (takes : Bool) (before : State) (w : List Waiting) (number : ℕ) → Does takes before number (forgets number (at_wait before w))
+does_forgets takes before w number = record {
   faces = λ n differ. ap face_in (changed_there number n at_rest before.sessions (λ s. refl) differ);
-  more = no_names before number (with_session number at_rest before.sessions) (rests_names number before.sessions);
+  more = no_names takes before number (with_session number at_rest before.sessions) (rests_names number before.sessions);
   others = λ other name asked differ. others_with number other at_rest before.sessions name asked (λ s. refl) differ;
   events = []; log = sym (append-nil before.log); written = tt; tables = λ name. inl refl;
 }
 
-does_counts : (before : State) (w : List Waiting) (number count : ℕ) → Does before number (record (at_wait before w) { sessions = with_session number (counting count) before.sessions })
-does_counts before w number count = record {
+does_counts : (takes : Bool) (before : State) (w : List Waiting) (number count : ℕ) → Does takes before number (record (at_wait before w) { sessions = with_session number (counting count) before.sessions })
+does_counts takes before w number count = record {
   faces = λ n differ. ap face_in (changed_there number n (counting count) before.sessions (λ s. refl) differ);
-  more = no_names before number (with_session number (counting count) before.sessions) (same_names number (counting count) before.sessions (λ s x held. held));
+  more = no_names takes before number (with_session number (counting count) before.sessions) (same_names number (counting count) before.sessions (λ s x held. held));
   others = λ other name asked differ. others_with number other (counting count) before.sessions name asked (λ s. refl) differ;
   events = []; log = sym (append-nil before.log); written = tt; tables = λ name. inl refl;
 }
 
-does_locks : (before : State) (w : List Waiting) (number : ℕ) (names : List (List ℕ)) (given : Answer) → refuser_of_names (held_at before) (waiters_at before) number true names ≡ None → Does before number (does (Locks given names) (at_wait before w) number).after
+does_locks : (before : State) (w : List Waiting) (number : ℕ) (names : List (List ℕ)) (given : Answer) → refuser_of_names (held_at before) (waiters_at before) number true names ≡ None → Does true before number (does (Locks given names) (at_wait before w) number).after
 does_locks before w number names given free = record {
   faces = λ n differ. ap face_in (changed_there number n (locking names) before.sessions (λ s. refl) differ);
-  more = record { asked = true; names = names; free = free; among = locks_names number names before.sessions };
+  more = record { asked = true; so = λ is. refl; names = names; free = free; among = locks_names number names before.sessions };
   others = λ other name asked differ. others_with number other (locking names) before.sessions name asked (λ s. refl) differ;
   events = []; log = sym (append-nil before.log); written = tt; tables = λ name. inl refl;
 }
 
-does_unlocks : (before : State) (w : List Waiting) (number : ℕ) (given : Answer) → Does before number (does (Unlocks given) (at_wait before w) number).after
-does_unlocks before w number given = record {
+does_unlocks : (takes : Bool) (before : State) (w : List Waiting) (number : ℕ) (given : Answer) → Does takes before number (does (Unlocks given) (at_wait before w) number).after
+does_unlocks takes before w number given = record {
   faces = λ n differ. ap face_in (changed_there number n unlocking before.sessions (λ s. refl) differ);
-  more = no_names before number (with_session number unlocking before.sessions) (unlocks_names number before.sessions);
+  more = no_names takes before number (with_session number unlocking before.sessions) (unlocks_names number before.sessions);
   others = λ other name asked differ. others_with number other unlocking before.sessions name asked (λ s. refl) differ;
   events = []; log = sym (append-nil before.log); written = tt; tables = λ name. inl refl;
 }
@@ -281,16 +282,16 @@ none_refused : (before : State) (number : ℕ) (asked : Bool) → refuser_of_nam
 unfolding refuser_of_names
 none_refused before number asked = refl
 
-does_moves : (before : State) (w : List Waiting) (number : ℕ) (names : List (List ℕ)) (tables : Database) → refuser_of_names (held_at before) (waiters_at before) number true names ≡ None → ((name : List ℕ) → list_any (bytes_eq name) names ≡ false → find_table name tables ≡ find_table name before.tables) → Does before number (record (at_wait before w) { tables = tables })
+does_moves : (before : State) (w : List Waiting) (number : ℕ) (names : List (List ℕ)) (tables : Database) → refuser_of_names (held_at before) (waiters_at before) number true names ≡ None → ((name : List ℕ) → list_any (bytes_eq name) names ≡ false → find_table name tables ≡ find_table name before.tables) → Does true before number (record (at_wait before w) { tables = tables })
 does_moves before w number names tables free same = record {
   faces = λ n differ. refl;
-  more = no_names before number before.sessions (λ one is. is);
+  more = no_names true before number before.sessions (λ one is. is);
   others = λ other name asked differ. refl;
   events = []; log = sym (append-nil before.log); written = tt;
   tables = λ name. at name (list_any (bytes_eq name) names) refl;
 } where
-  at : (name : List ℕ) (b : Bool) → list_any (bytes_eq name) names ≡ b → (has_table name tables ≡ has_table name before.tables) ⊎ IsGrantedName before number name true
-  at name true is = inr (name_in_granted (held_at before) (waiters_at before) number true names name free is)
+  at : (name : List ℕ) (b : Bool) → list_any (bytes_eq name) names ≡ b → (has_table name tables ≡ has_table name before.tables) ⊎ ((true ≡ true) × IsGrantedName before number name true)
+  at name true is = inr (refl, name_in_granted (held_at before) (waiters_at before) number true names name free is)
   at name false is = inl (sym (found_where name tables) ∙ ap is_some (same name is) ∙ found_where name before.tables)
 
 -- events of one table
@@ -315,9 +316,9 @@ abbrev pub OwnWrites : State → ℕ → Type 0
 OwnWrites before number = AllByRecursion (λ event. MayWrite before number event.table) (writes_of (session_of number before.sessions))
 
 defined_does : (before : State) (w : List Waiting) (number : ℕ) (names : List (List ℕ)) (tables : Result Database ℕ) → refuser_of_names (held_at before) (waiters_at before) number true names ≡ None
-    → ((after : Database) → tables ≡ Ok after → (name : List ℕ) → list_any (bytes_eq name) names ≡ false → find_table name after ≡ find_table name before.tables) → Does before number (does (defined tables) (at_wait before w) number).after
+    → ((after : Database) → tables ≡ Ok after → (name : List ℕ) → list_any (bytes_eq name) names ≡ false → find_table name after ≡ find_table name before.tables) → Does true before number (does (defined tables) (at_wait before w) number).after
 defined_does before w number names (Ok tables) free same = does_moves before w number names tables free (same tables refl)
-defined_does before w number names (Err refusal) free same = does_nothing before w number
+defined_does before w number names (Err refusal) free same = does_nothing true before w number
 
 pub created_same : (stands : Bool) (schema : _) (tables after : Database) → created stands schema tables ≡ Ok after → (name : List ℕ) → list_any (bytes_eq name) (schema.name ∷ []) ≡ false → find_table name after ≡ find_table name tables
 created_same true schema tables after is name off = absurd (cc)
@@ -332,83 +333,83 @@ renamed_same pairs tables (Err reason) result after is name off = absurd (cc)
 renamed_same pairs tables (Ok renamed) result after is name off = let same : renamed ≡ after = cc in ap (find_table name) (sym same) ∙ (rename_moves pairs tables renamed result).others name off
 
 deed_does : (before : State) (w : List Waiting) (number : ℕ) (outside busy : Bool) (seen : Database) (request : Request) → OwnWrites before number → refuser_of_names (held_at before) (waiters_at before) number (need_within seen request).exclusive (need_within seen request).names ≡ None
-    → Does before number (does (deed_unless outside busy seen (at_wait before w) request) (at_wait before w) number).after
-deed_does before w number true busy seen request own free = does_nothing before w number
-deed_does before w number false busy seen requests.Begin own free = does_grows before w number nothing_needed [] (none_refused before number false)
-deed_does before w number false busy seen requests.Commit own free = does_commits before w number [] (all_both (λ event. MayWrite before number event.table) (writes_of (session_of number before.sessions)) [] own tt)
-deed_does before w number false busy seen requests.Rollback own free = does_forgets before w number
+    → Does (is_exclusive request) before number (does (deed_unless outside busy seen (at_wait before w) request) (at_wait before w) number).after
+deed_does before w number true busy seen request own free = does_nothing (is_exclusive request) before w number
+deed_does before w number false busy seen requests.Begin own free = does_grows false before w number nothing_needed [] (none_refused before number false)
+deed_does before w number false busy seen requests.Commit own free = does_commits false before w number [] (all_both (λ event. MayWrite before number event.table) (writes_of (session_of number before.sessions)) [] own tt)
+deed_does before w number false busy seen requests.Rollback own free = does_forgets false before w number
 deed_does before w number false busy seen (requests.Do statement) own free = at busy where
   one : IsGrantedName before number (table_of statement) false
   one = name_in_granted (held_at before) (waiters_at before) number false (table_of statement ∷ []) (table_of statement) free (rw (same_bytes (table_of statement)) refl)
-  at : (b : Bool) → Does before number (does (result_deed b (need_within seen (requests.Do statement)) (says seen statement)) (at_wait before w) number).after
-  at true = does_grows before w number (need_within seen (requests.Do statement)) (says seen statement).events free
-  at false = does_commits before w number (says seen statement).events (all_both (λ event. MayWrite before number event.table) (writes_of (session_of number before.sessions)) (says seen statement).events own (said_all (λ name. MayWrite before number name) seen (job_of statement) (inr one)))
+  at : (b : Bool) → Does false before number (does (result_deed b (need_within seen (requests.Do statement)) (says seen statement)) (at_wait before w) number).after
+  at true = does_grows false before w number (need_within seen (requests.Do statement)) (says seen statement).events free
+  at false = does_commits false before w number (says seen statement).events (all_both (λ event. MayWrite before number event.table) (writes_of (session_of number before.sessions)) (says seen statement).events own (said_all (λ name. MayWrite before number name) seen (job_of statement) (inr one)))
 deed_does before w number false busy seen (LockTables names) own free = at (all_stand names before.tables) where
-  at : (b : Bool) → Does before number (does (locks_if b names) (at_wait before w) number).after
+  at : (b : Bool) → Does true before number (does (locks_if b names) (at_wait before w) number).after
   at true = does_locks before w number names ok free
-  at false = does_nothing before w number
-deed_does before w number false busy seen Unlock own free = does_unlocks before w number ok
+  at false = does_nothing true before w number
+deed_does before w number false busy seen Unlock own free = does_unlocks false before w number ok
 deed_does before w number false busy seen (Create schema) own free = defined_does before w number (schema.name ∷ []) (created (has_table schema.name before.tables) schema before.tables) free (created_same (has_table schema.name before.tables) schema before.tables)
 deed_does before w number false busy seen (Drop name) own free = defined_does before w number (name ∷ []) (dropped (has_table name before.tables) name before.tables) free (dropped_same (has_table name before.tables) name before.tables)
 deed_does before w number false busy seen (Rename pairs) own free = defined_does before w number (pair_names pairs) (renamed_or (rename_tables pairs before.tables)) free (renamed_same pairs before.tables (rename_tables pairs before.tables) refl)
-deed_does before w number false busy seen ShowTables own free = does_nothing before w number
-deed_does before w number false busy seen ShowWaiting own free = does_nothing before w number
-deed_does before w number false busy seen LogEnd own free = does_nothing before w number
-deed_does before w number false busy seen (ReadLog position limit names) own free = does_nothing before w number
-deed_does before w number false busy seen (Ends table) own free = does_nothing before w number
-deed_does before w number false busy seen (ChunkEnd table low top size) own free = does_nothing before w number
+deed_does before w number false busy seen ShowTables own free = does_nothing false before w number
+deed_does before w number false busy seen ShowWaiting own free = does_nothing false before w number
+deed_does before w number false busy seen LogEnd own free = does_nothing false before w number
+deed_does before w number false busy seen (ReadLog position limit names) own free = does_nothing false before w number
+deed_does before w number false busy seen (Ends table) own free = does_nothing false before w number
+deed_does before w number false busy seen (ChunkEnd table low top size) own free = does_nothing false before w number
 deed_does before w number false busy seen (BeginSpan table span size) own free = at (find_table table before.tables) where
-  at : (found : Option TableRows) → Does before number (does (begins found span size (need_within seen (BeginSpan table span size))) (at_wait before w) number).after
-  at None = does_nothing before w number
-  at (Some t) = does_grows before w number (need_within seen (BeginSpan table span size)) [] free
+  at : (found : Option TableRows) → Does false before number (does (begins found span size (need_within seen (BeginSpan table span size))) (at_wait before w) number).after
+  at None = does_nothing false before w number
+  at (Some t) = does_grows false before w number (need_within seen (BeginSpan table span size)) [] free
 deed_does before w number false busy seen (CopyRow from into columns key) own free = at busy where
   one : IsGrantedName before number into false
   one = name_in_granted (held_at before) (waiters_at before) number false (from ∷ into ∷ []) into free (rw (same_bytes into) (or_true (bytes_eq into from)))
-  at : (b : Bool) → Does before number (does (result_deed b (need_within seen (CopyRow from into columns key)) (job_says seen (copy_job seen from into columns key))) (at_wait before w) number).after
-  at true = does_grows before w number (need_within seen (CopyRow from into columns key)) (job_says seen (copy_job seen from into columns key)).events free
-  at false = does_commits before w number (job_says seen (copy_job seen from into columns key)).events
+  at : (b : Bool) → Does false before number (does (result_deed b (need_within seen (CopyRow from into columns key)) (job_says seen (copy_job seen from into columns key))) (at_wait before w) number).after
+  at true = does_grows false before w number (need_within seen (CopyRow from into columns key)) (job_says seen (copy_job seen from into columns key)).events free
+  at false = does_commits false before w number (job_says seen (copy_job seen from into columns key)).events
       (all_both (λ event. MayWrite before number event.table) (writes_of (session_of number before.sessions)) (job_says seen (copy_job seen from into columns key)).events own (said_all (λ name. MayWrite before number name) seen (copy_job seen from into columns key) (inr one)))
 
-done_does : (before : State) (w : List Waiting) (number : ℕ) (request : Request) → OwnWrites before number → blocker before number (need before number request) ≡ None → Does before number (done (at_wait before w) number request).after
+done_does : (before : State) (w : List Waiting) (number : ℕ) (request : Request) → OwnWrites before number → blocker before number (need before number request) ≡ None → Does (is_exclusive request) before number (done (at_wait before w) number request).after
 unfolding done
 done_does before w number request own free =
     deed_does before w number (is_outside (session_of number before.sessions) request) (is_in_transaction (session_of number before.sessions)) (view number before) request own
     (none_of (refuser_of_names (held_at before) (waiters_at before) number (need before number request).exclusive (need before number request).names) (refuser_of_set (locks_held before.sessions) number (need before number request).locks) free).0
 
 -- where the session is lost afterwards
-lost_does : (before after : State) (number : ℕ) → Does before number after → Does before number (loses number after)
+lost_does : (takes : Bool) (before after : State) (number : ℕ) → Does takes before number after → Does takes before number (loses number after)
 unfolding loses
-lost_does before after number does' = record {
+lost_does takes before after number does' = record {
   faces = λ n differ. ap face_in (gone_there number n after.sessions differ) ∙ does'.faces n differ;
-  more = record { asked = does'.more.asked; names = does'.more.names; free = does'.more.free; among = λ one is. does'.more.among one (held_less (λ session. not (session.number == number)) after.sessions one is) };
+  more = record { asked = does'.more.asked; so = does'.more.so; names = does'.more.names; free = does'.more.free; among = λ one is. does'.more.among one (held_less (λ session. not (session.number == number)) after.sessions one is) };
   others = λ other name asked differ. others_less number other after.sessions name asked differ ∙ does'.others other name asked differ;
   events = does'.events; log = does'.log; written = does'.written; tables = does'.tables;
 }
 
 -- each turn
-served_does : (before : State) (number : ℕ) (asked : Asked) → OwnWrites before number → Does before number (serves before number asked).after
+served_does : (before : State) (number : ℕ) (asked : Asked) → OwnWrites before number → Does (asks_exclusive (about before number asked)) before number (serves before number asked).after
 unfolding calls polls
 served_does before number (Call request) own = at (blocker before number (need before number request)) refl where
-  at : (by : Option ℕ) → blocker before number (need before number request) ≡ by → Does before number (called_unless by before number request).after
+  at : (by : Option ℕ) → blocker before number (need before number request) ≡ by → Does (is_exclusive request) before number (called_unless by before number request).after
   at None is = done_does before before.waiting number request own is
-  at (Some by) is = does_counts before (before.waiting ++ record { session = number; request = request } ∷ []) number 0
+  at (Some by) is = does_counts (is_exclusive request) before (before.waiting ++ record { session = number; request = request } ∷ []) number 0
 served_does before number Poll own = at (waiting_of number before.waiting) where
-  over : (b : Bool) (by : ℕ) → Does before number (polled_over b by before number).after
-  over true by = does_forgets before (without_waiting number before).waiting number
-  over false by = does_counts before before.waiting number (polls_of (session_of number before.sessions) + 1)
-  each : (waiting : Waiting) (by : Option ℕ) → blocker before number (need before number waiting.request) ≡ by → Does before number (polled_unless by before number waiting.request).after
+  over : (takes b : Bool) (by : ℕ) → Does takes before number (polled_over b by before number).after
+  over takes true by = does_forgets takes before (without_waiting number before).waiting number
+  over takes false by = does_counts takes before before.waiting number (polls_of (session_of number before.sessions) + 1)
+  each : (waiting : Waiting) (by : Option ℕ) → blocker before number (need before number waiting.request) ≡ by → Does (is_exclusive waiting.request) before number (polled_unless by before number waiting.request).after
   each waiting None is = done_does before (without_waiting number before).waiting number waiting.request own is
-  each waiting (Some by) is = over (is_over before number) by
-  at : (waiting : Option Waiting) → Does before number (polled_of waiting before number).after
-  at None = does_nothing before before.waiting number
+  each waiting (Some by) is = over (is_exclusive waiting.request) (is_over before number) by
+  at : (waiting : Option Waiting) → Does (asks_exclusive (request_of waiting)) before number (polled_of waiting before number).after
+  at None = does_nothing false before before.waiting number
   at (Some waiting) = each waiting (blocker before number (need before number waiting.request)) refl
-served_does before number (Command word) own = does_nothing before before.waiting number
-served_does before number Cut own = lost_does before before number (does_nothing before before.waiting number)
+served_does before number (Command word) own = does_nothing false before before.waiting number
+served_does before number Cut own = let takes : Bool = asks_exclusive (about before number Cut) in lost_does takes before before number (does_nothing takes before before.waiting number)
 
-turn_does : (side : Option Side) (before : State) (number : ℕ) (asked : Asked) → OwnWrites before number → Does before number (leaves side before number asked)
+turn_does : (side : Option Side) (before : State) (number : ℕ) (asked : Asked) → OwnWrites before number → Does (asks_exclusive (about before number asked)) before number (leaves side before number asked)
 turn_does None before number asked own = served_does before number asked own
-turn_does (Some Before) before number asked own = lost_does before before number (does_nothing before before.waiting number)
-turn_does (Some After) before number asked own = lost_does before (serves before number asked).after number (served_does before number asked own)
+turn_does (Some Before) before number asked own = let takes : Bool = asks_exclusive (about before number asked) in lost_does takes before before number (does_nothing takes before before.waiting number)
+turn_does (Some After) before number asked own = lost_does (asks_exclusive (about before number asked)) before (serves before number asked).after number (served_does before number asked own)
 
 -- REQUESTS OF OTHERS THAT WAIT
 
@@ -465,13 +466,13 @@ turn_waits (Some After) before number other asked name differ = waits_less name 
 pub turn_faces : (side : Option Side) (before : State) (number : ℕ) (asked : Asked) → OwnWrites before number → (n : ℕ) → (n == number) ≡ false → face_of (leaves side before number asked).sessions n ≡ face_of before.sessions n
 turn_faces side before number asked own = (turn_does side before number asked own).faces
 
-pub turn_of : (side : Option Side) (before : State) (number : ℕ) (asked : Asked) → OwnWrites before number → TurnOf number before (leaves side before number asked)
+pub turn_of : (side : Option Side) (before : State) (number : ℕ) (asked : Asked) → OwnWrites before number → TurnOf (asks_exclusive (about before number asked)) number before (leaves side before number asked)
 turn_of side before number asked own =
     let does' = turn_does side before number asked own in
     record {
       others = does'.others;
       waits = λ other name differ. turn_waits side before number other asked name differ;
-      granted = λ name lacked has. granted_more before number (leaves side before number asked).sessions does'.more name lacked has;
+      granted = λ name lacked has. granted_more (asks_exclusive (about before number asked)) before number (leaves side before number asked).sessions does'.more name lacked has;
       events = does'.events;
       log = does'.log;
       written = does'.written;
@@ -479,23 +480,23 @@ turn_of side before number asked own =
     }
 
 -- from the state before its session was opened
-from_joined : (state : State) (count : ℕ) (more : List Session) (number : ℕ) (after : State) → names_held more ≡ names_held state.sessions → TurnOf number (record state { made = count; sessions = more }) after → TurnOf number state after
-from_joined state count more number after same turn = record {
+from_joined : (takes : Bool) (state : State) (count : ℕ) (more : List Session) (number : ℕ) (after : State) → names_held more ≡ names_held state.sessions → TurnOf takes number (record state { made = count; sessions = more }) after → TurnOf takes number state after
+from_joined takes state count more number after same turn = record {
   others = λ other name asked differ. turn.others other name asked differ ∙ ap (λ (h : List grants.HeldName). holds h other name asked) same;
   waits = turn.waits;
-  granted = λ name lacked has. subst (λ (h : List grants.HeldName). (asked : Bool) × (refuser_of_name h (waiters_at state) number name asked ≡ None)) same (turn.granted name (ap (λ (h : List grants.HeldName). holds h number name false) same ∙ lacked) has);
+  granted = λ name lacked has. subst (λ (h : List grants.HeldName). (asked : Bool) × (asked ≡ true → takes ≡ true) × (refuser_of_name h (waiters_at state) number name asked ≡ None)) same (turn.granted name (ap (λ (h : List grants.HeldName). holds h number name false) same ∙ lacked) has);
   events = turn.events;
   log = turn.log;
   written = subst (λ (h : List grants.HeldName). AllByRecursion (λ (event : RowEvent). (holds h number event.table false ≡ true) ⊎ (refuser_of_name h (waiters_at state) number event.table false ≡ None)) turn.events) same turn.written;
-  tables = λ name. subst (λ (h : List grants.HeldName). (has_table name after.tables ≡ has_table name state.tables) ⊎ (refuser_of_name h (waiters_at state) number name true ≡ None)) same (turn.tables name);
+  tables = λ name. subst (λ (h : List grants.HeldName). (has_table name after.tables ≡ has_table name state.tables) ⊎ ((takes ≡ true) × (refuser_of_name h (waiters_at state) number name true ≡ None))) same (turn.tables name);
 }
 
-from_opened : (nothing tool : Bool) (state : State) (number : ℕ) (after : State) → TurnOf number (opens_if nothing tool number state) after → TurnOf number state after
+from_opened : (takes nothing tool : Bool) (state : State) (number : ℕ) (after : State) → TurnOf takes number (opens_if nothing tool number state) after → TurnOf takes number state after
 unfolding opens_if
-from_opened nothing tool state number after turn = at (nothing || is_some (session_of number state.sessions)) turn where
-  at : (b : Bool) → TurnOf number (cond b state (connected number tool state)) after → TurnOf number state after
+from_opened takes nothing tool state number after turn = at (nothing || is_some (session_of number state.sessions)) turn where
+  at : (b : Bool) → TurnOf takes number (cond b state (connected number tool state)) after → TurnOf takes number state after
   at true turn = turn
-  at false turn = from_joined state (connected number tool state).made (state.sessions ++ new_session number tool ∷ []) number after (held_joined state.sessions number tool) turn
+  at false turn = from_joined takes state (connected number tool state).made (state.sessions ++ new_session number tool ∷ []) number after (held_joined state.sessions number tool) turn
 
 -- what a session wrote is of tables that it holds
 writes_face : (o : Option Session) → (face_in o).seat.writes ≡ writes_of o
@@ -524,17 +525,17 @@ own_writes now number tables covered =
 
 -- *Each entry is such a turn*
 pub entries_are_turns : EntriesAreTurns
-entries_are_turns limits scene journal entry is mine faithful allowed =
+entries_are_turns limits scene journal entry run =
     let state : State = scene_state limits scene journal in
     let number : ℕ = entry.session in
     let nothing : Bool = is_command entry.asked in
     let tool : Bool = not (is_client entry.actor) in
     let now : State = opens entry state in
-    let held : JournalHolds limits scene journal = journal_holds limits scene journal is mine faithful allowed in
+    let held : JournalHolds limits scene journal = journal_holds limits scene journal run in
     let covered = (held.holds.kept.fine number).covered in
     let own : OwnWrites now number = own_writes now number state.tables
       (subst (λ (f : Face). EventsCovered f.seat.names f.seat.locks state.tables f.seat.writes) (sym (faces_opened nothing tool number number state)) covered) in
-    rw (state_more scene (opened limits scene.opening) journal entry) (from_opened nothing tool state number (after_entry state entry) (turn_of entry.side now number entry.asked own))
+    rw (state_more scene (opened limits scene.opening) journal entry) (from_opened (asks_exclusive (about now number entry.asked)) nothing tool state number (after_entry state entry) (turn_of entry.side now number entry.asked own))
 
 -- the others' faces stay
 pub entry_faces : (limits : Limits) (scene : Scene) (journal : List Entry) (entry : Entry) → JournalHolds limits scene journal → (n : ℕ) → (n == entry.session) ≡ false → face_of (after_entry (scene_state limits scene journal) entry).sessions n ≡ face_of (scene_state limits scene journal).sessions n

@@ -18,12 +18,13 @@ use Rattle.plain_server.specs.declared.work.Reach.{Reach}
 use Rattle.plain_server.specs.Rows.{rows_met}
 use Rattle.plain_server.specs.Needing.{lock_on}
 use Rattle.statement_laws.specs.Agreeing.{Agree, Among}
-use Rattle.history_laws.specs.Holdings.{face_of}
-use Rattle.statement_laws.specs.Databases.{IsOrderly}
+use Rattle.history_laws.specs.Holdings.{face_of, OneHolder}
+use Rattle.statement_laws.specs.Covering.{Apart}
+use Rattle.statement_laws.specs.Databases.{IsOrderly, EventsCovered}
 use Rattle.history_laws.specs.Scenes.{Scene, is_mine}
 use Rattle.std.specs.Str.{bytes_eq}
 use Rattle.plain_server.specs.declared.answer.Answer.{Answer}
-use Rattle.history_laws.specs.Turns.{AllTold, IsTold, IsAllowed, scene_state, about, told_at}
+use Rattle.history_laws.specs.Turns.{IsTold, IsSceneRun, scene_state, about, told_at}
 use Rattle.plain_server.specs.declared.entry.Entry.{Entry}
 use Rattle.plain_server.specs.declared.request.Request.TheVariants.{BeginSpan, Create, Drop, LockTables, Rename}
 use Rattle.plain_server.specs.declared.request.Request.{Request}
@@ -53,21 +54,27 @@ IsGrantedName state session name exclusive = refuser_of_name (held_at state) (wa
 abbrev pub MayWrite : State → ℕ → List ℕ → Type 0
 MayWrite state session name = (holds (held_at state) session name false ≡ true) ⊎ IsGrantedName state session name false
 
+-- the turn is about a request that needs its names exclusively
+abbrev pub asks_exclusive : Option Request → Bool
+asks_exclusive None = false
+asks_exclusive (Some request) = is_exclusive request
+
 -- *A turn of a session*: what others hold and wait for stays; the session comes to hold a name only where it is granted;
 -- what it commits is of tables that it held, or that were granted; a table comes or goes only where its name is granted
--- exclusively
-pub record TurnOf (session : ℕ) (before after : State) : Type 0 where
+-- exclusively. A name is taken exclusively, and a table comes or goes, only by a turn about a request that asks for that.
+pub record TurnOf (takes : Bool) (session : ℕ) (before after : State) : Type 0 where
   pub others : (other : ℕ) (name : List ℕ) (exclusive : Bool) → (other == session) ≡ false → holds (held_at after) other name exclusive ≡ holds (held_at before) other name exclusive
   pub waits : (other : ℕ) (name : List ℕ) → (other == session) ≡ false → is_waiting_on name other (waiters_at after) ≡ is_waiting_on name other (waiters_at before)
-  pub granted : (name : List ℕ) → holds (held_at before) session name false ≡ false → holds (held_at after) session name false ≡ true → (exclusive : Bool) × IsGrantedName before session name exclusive
+  pub granted : (name : List ℕ) → holds (held_at before) session name false ≡ false → holds (held_at after) session name false ≡ true → (exclusive : Bool) × (exclusive ≡ true → takes ≡ true) × IsGrantedName before session name exclusive
   pub events : List RowEvent
   pub log : after.log ≡ before.log ++ events
   pub written : AllByRecursion (λ event. MayWrite before session event.table) events
-  pub tables : (name : List ℕ) → (has_table name after.tables ≡ has_table name before.tables) ⊎ IsGrantedName before session name true
+  pub tables : (name : List ℕ) → (has_table name after.tables ≡ has_table name before.tables) ⊎ ((takes ≡ true) × IsGrantedName before session name true)
 
 -- *Each entry is such a turn*
 abbrev pub EntriesAreTurns : Type 0
-EntriesAreTurns = (limits : Limits) (scene : Scene) (journal : List Entry) (entry : Entry) → IsOrderly scene.opening → is_mine scene scene.migrated ≡ true → AllTold limits scene journal → Along (IsAllowed limits scene) [] journal → TurnOf entry.session (scene_state limits scene journal) (scene_state limits scene (journal ++ entry ∷ []))
+EntriesAreTurns = (limits : Limits) (scene : Scene) (journal : List Entry) (entry : Entry) → IsSceneRun limits scene journal 
+    → TurnOf (asks_exclusive (about (opens entry (scene_state limits scene journal)) entry.session entry.asked)) entry.session (scene_state limits scene journal) (scene_state limits scene (journal ++ entry ∷ []))
 
 -- the entry's request was done, with ok 0, whether or not the answer was missed
 abbrev pub WasDone : Entry → Type 0
@@ -79,13 +86,13 @@ pub record IsAlone (request : Request) (session : ℕ) (before after : State) : 
   pub alone_after : (other : ℕ) (name : List ℕ) → (other == session) ≡ false → list_any (bytes_eq name) (names_in request) ≡ true → holds (held_at after) other name false ≡ false
 
 abbrev pub ExclusiveIsAlone : Type 0
-ExclusiveIsAlone = (limits : Limits) (scene : Scene) (journal : List Entry) (entry : Entry) (request : Request) → IsOrderly scene.opening → is_mine scene scene.migrated ≡ true → AllTold limits scene journal → Along (IsAllowed limits scene) [] journal
+ExclusiveIsAlone = (limits : Limits) (scene : Scene) (journal : List Entry) (entry : Entry) (request : Request) → IsSceneRun limits scene journal
     → IsTold limits scene journal entry → about (opens entry (scene_state limits scene journal)) entry.session entry.asked ≡ Some request → is_exclusive request ≡ true → WasDone entry → IsAlone request entry.session (scene_state limits scene journal) (scene_state limits scene (journal ++ entry ∷ []))
 
 -- *What a session sees under its locks stays* while others have their turns: the committed tables of its names, and of
 -- their rows those under its row locks
 abbrev pub OthersAgree : Type 0
-OthersAgree = (limits : Limits) (scene : Scene) (journal : List Entry) (entry : Entry) (other : ℕ) → IsOrderly scene.opening → is_mine scene scene.migrated ≡ true → AllTold limits scene journal → Along (IsAllowed limits scene) [] journal → (other == entry.session) ≡ false
+OthersAgree = (limits : Limits) (scene : Scene) (journal : List Entry) (entry : Entry) (other : ℕ) → IsSceneRun limits scene journal → (other == entry.session) ≡ false
     → Agree (face_of (scene_state limits scene journal).sessions other).seat.names (face_of (scene_state limits scene journal).sessions other).seat.locks (scene_state limits scene journal).tables (scene_state limits scene (journal ++ entry ∷ [])).tables
 
 -- *Rows under a lock stay*: where two orderly databases agree under names and locks, a table of these names has the same
@@ -105,7 +112,7 @@ pub record StaysTo (limits : Limits) (scene : Scene) (journal later : List Entry
   pub agree : Agree (face_of (scene_state limits scene journal).sessions session).seat.names (face_of (scene_state limits scene journal).sessions session).seat.locks (scene_state limits scene journal).tables (scene_state limits scene later).tables
 
 abbrev pub OthersStay : Type 0
-OthersStay = (limits : Limits) (scene : Scene) (journal more : List Entry) (session : ℕ) → IsOrderly scene.opening → is_mine scene scene.migrated ≡ true → AllTold limits scene (journal ++ more) → Along (IsAllowed limits scene) [] (journal ++ more) → AllByRecursion (λ entry. (session == entry.session) ≡ false) more
+OthersStay = (limits : Limits) (scene : Scene) (journal more : List Entry) (session : ℕ) → IsSceneRun limits scene (journal ++ more) → AllByRecursion (λ entry. (session == entry.session) ≡ false) more
     → StaysTo limits scene journal (journal ++ more) session
 
 -- *A span under a lock stays*: the rows of a span of the clustered key are the same, where a lock on it is held
@@ -138,3 +145,14 @@ definition request tables = None
 abbrev pub DefinitionsAreDone : Type 0
 DefinitionsAreDone = (limits : Limits) (scene : Scene) (journal : List Entry) (entry : Entry) (request : Request) (result : Result Database ℕ) → IsTold limits scene journal entry → about (opens entry (scene_state limits scene journal)) entry.session entry.asked ≡ Some request
     → definition request (scene_state limits scene journal).tables ≡ Some result → WasDone entry → result ≡ Ok (scene_state limits scene (journal ++ entry ∷ [])).tables
+
+-- *A state holds together*: its tables are tables; what a session wrote in its open transaction is covered by what it holds;
+-- row locks of two sessions stay apart; and a name that one session holds exclusively no other session holds
+pub record StateHolds (state : State) : Type 0 where
+  pub tables : IsOrderly state.tables
+  pub covered : (n : ℕ) → EventsCovered (face_of state.sessions n).seat.names (face_of state.sessions n).seat.locks state.tables (face_of state.sessions n).seat.writes
+  pub apart : (m n : ℕ) → (m == n) ≡ false → Apart (face_of state.sessions m).seat.locks (face_of state.sessions n).seat.locks
+  pub one : OneHolder (held_at state)
+
+abbrev pub StatesHold : Type 0
+StatesHold = (limits : Limits) (scene : Scene) (journal : List Entry) → IsSceneRun limits scene journal → StateHolds (scene_state limits scene journal)
