@@ -10,7 +10,8 @@ use Rattle.statement_laws.specs.Covering.{IsSound}
 use Rattle.statement_laws.specs.Databases.{TaskSound, IsOrderly, WhereFound}
 use Rattle.plain_server.specs.Jobs.{Job, job_says, job_needs, after_events}
 use Rattle.history_laws.specs.Scenes.{IsSafe}
-use Rattle.statement_laws.proofs.Finding.{NamesWithin, agree_events, agree_itself, agree_then, agree_within, SaysAlike, says_alike, says_orderly}
+use Rattle.statement_laws.proofs.Finding.{NamesWithin, agree_events, agree_itself, agree_then, agree_within, says_alike, says_orderly}
+use Rattle.statement_laws.specs.Laws.{SaysAlike}
 use Rattle.statement_laws.proofs.Stables.{after_events-append}
 
 pub safe_begin : (tables : Database) → IsSafe [] [] [] tables

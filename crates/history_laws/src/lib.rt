@@ -1,2 +1,4 @@
 //! What holds of every journal: its history is serial.
 #![tactic(auto)]
+
+pub mod laws;

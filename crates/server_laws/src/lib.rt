@@ -1,2 +1,4 @@
 //! What one turn of a session leaves to the others: names, waits, rows under locks, and the tables that stand.
 #![tactic(auto)]
+
+pub mod laws;

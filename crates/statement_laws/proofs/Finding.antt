@@ -20,6 +20,7 @@ use Rattle.plain_server.specs.Needing.{needs}
 use Rattle.statement_laws.specs.Agreeing.{is_under, SameWhere, TablesAgree, Agree, Within}
 use Rattle.statement_laws.specs.Covering.{IsOrderlyTable, IsSound, RowsCovered, Covered, rows_of}
 use Rattle.statement_laws.specs.Databases.{TaskSound, WhereFound, IsOrderly, EventsCovered}
+use Rattle.statement_laws.specs.Laws.{SaysAlike}
 use Rattle.plain_server.specs.Jobs.{Job, events_of, result_in, job_says, needs_in, job_needs, change_table, after_events}
 use Rattle.statement_laws.proofs.Standing.{same-changed, same-within}
 use Rattle.statement_laws.proofs.Points.{are_same, under-within, within-within}
@@ -91,11 +92,7 @@ NamesWithin some all = (name : List ℕ) → list_any (bytes_eq name) some ≡ t
 pub agree_within : (names more : List (List ℕ)) (some all : List Lock) (a b : Database) → NamesWithin names more → Within some all → Agree more all a b → Agree names some a b
 agree_within names more some all a b named within agree = record { tables = λ name is. tables_within some all (find_table name a) (find_table name b) within (agree.tables name (named name is)) }
 
--- *Footprint law*, on databases
-pub record SaysAlike (task : Job) (a b : Database) : Type 0 where
-  pub said : job_says a task ≡ job_says b task
-  pub needed : job_needs a task ≡ job_needs b task
-
+-- *Locked rows decide*
 alike_in : (task : Job) (locks : List Lock) (one two : Option TableRows) → TablesAgree locks one two → Within (needs_in task one) locks → WhereFound IsOrderlyTable one → WhereFound IsOrderlyTable two
     → (result_in task one ≡ result_in task two) × (needs_in task one ≡ needs_in task two)
 alike_in task locks None None agree within p q = (refl, refl)

@@ -23,6 +23,7 @@ use Rattle.statement_laws.specs.Covering.{IsOrderlyTable, IsSound, RowsCovered, 
 use Rattle.statement_laws.specs.Databases.{TaskSound, WhereFound, IsOrderly, ChangeCovered, EventCovered, EventsCovered}
 use Rattle.plain_server.specs.Jobs.{table_of, job_of, says, row_needs, change_table, after_events}
 use Rattle.plain_server.specs.Alone.{line_says, line_events, line_replies, Ran, lines_run, nothing_ran}
+use Rattle.statement_laws.specs.Laws.{StatementsKeepDatabases}
 use Rattle.statement_laws.specs.Stability.{RunSo, Stable}
 use Rattle.statement_laws.proofs.Points.{are_same, within-itself}
 use Rattle.statement_laws.proofs.Covers.{others_kept}
@@ -58,11 +59,15 @@ sound_in statement (Some table) is = work_sound table.schema statement is.defaul
 pub statement_sound : (tables : Database) (statement : Statement) → IsOrderly tables → TaskSound (job_of statement) tables
 statement_sound tables statement is = sound_in statement (find_table (table_of statement) tables) (is.each (table_of statement))
 
+-- *Statements keep databases*
+pub statements_keep : StatementsKeepDatabases
+statements_keep tables statement is = says_orderly tables (job_of statement) (statement_sound tables statement is) is
+
 -- what a line leaves is orderly
 line_orderly : (tables : Database) (word : ScriptWord) (mark : Mark) → IsOrderly tables → IsOrderly (after_events tables (line_events tables word mark))
 unfolding after_events
-line_orderly tables (words.Do statement) marks.Answered is = says_orderly tables (job_of statement) (statement_sound tables statement is) is
-line_orderly tables (words.Do statement) (marks.Lost After) is = says_orderly tables (job_of statement) (statement_sound tables statement is) is
+line_orderly tables (words.Do statement) marks.Answered is = statements_keep tables statement is
+line_orderly tables (words.Do statement) (marks.Lost After) is = statements_keep tables statement is
 line_orderly tables (words.Do statement) (marks.Lost Before) is = is
 line_orderly tables (words.Do statement) marks.TimedOut is = is
 line_orderly tables words.Begin marks.Answered is = is

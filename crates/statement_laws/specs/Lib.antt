@@ -2,3 +2,4 @@ pub mod Agreeing
 pub mod Covering
 pub mod Databases
 pub mod Stability
+pub mod Laws
