@@ -29,7 +29,7 @@ use Rattle.plain_server.specs.declared.transaction.TxnLine.{TxnLine}
 use Rattle.plain_server.specs.Entries.{same_actor, is_client, is_command, is_cut}
 use Rattle.plain_server.specs.States.{State, opened, session_of, is_in_transaction, waiting_of, is_waiting}
 use Rattle.plain_server.specs.Serving.{serves, leaves, loses, given_at}
-use Rattle.journal_words.specs.PlanData.{PlanData}
+use Rattle.plan_words.specs.PlanData.{PlanData}
 use Rattle.journal_words.specs.Journals.{opening, opens, opens_if, after_entry, state_behind, state_at, inner_answer, heard, missed, may_lose, IsAnswered}
 use Rattle.journal_words.specs.Sessions.{session_left, session_in, live_session, sessions_named, IsSeated}
 use Rattle.journal_words.specs.Clients.{Reached, Became, became, became_in, client_after, after_turn, client_at, new_client, script_of, is_inside, client_asks, line_asks, word_asks}

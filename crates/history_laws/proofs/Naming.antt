@@ -17,7 +17,7 @@ use Rattle.plain_server.specs.Alone.{Ran, outcome_if, alone, stays, lines_run, n
 use Rattle.plain_server.specs.Jobs.{change_table, after_events}
 use Rattle.changelog_table.specs.ToolNames as tool_names
 use Rattle.changelog_table.specs.ToolNames.{is_tool_name, ghost_name, log_name, old_name}
-use Rattle.journal_words.specs.PlanData.{PlanData}
+use Rattle.plan_words.specs.PlanData.{PlanData}
 use Rattle.journal_words.specs.Clients.{script_of}
 use Rattle.journal_words.specs.Serials as serials
 use Rattle.std.proofs.Common.{append_assoc, append-nil}

@@ -12,7 +12,8 @@ use Rattle.plain_server.specs.declared.session.Limits.{Limits}
 use Rattle.plain_server.specs.Entries.{is_command, is_client}
 use Rattle.plain_server.specs.Alone.{alone, lines_run, nothing_ran, Ran}
 use Rattle.plain_server.specs.States.{opened}
-use Rattle.journal_words.specs.PlanData.{PlanData, plan_altered_table}
+use Rattle.plan_words.specs.PlanData.{PlanData}
+use Rattle.journal_words.specs.Altering.{plan_altered_table}
 use Rattle.journal_words.specs.Journals.{state_behind, state_at, IsAnswered, IsFaithful}
 use Rattle.journal_words.specs.Sessions.{live_session, IsSeated, KeepsSessions}
 use Rattle.journal_words.specs.Clients.{client_at}

@@ -13,7 +13,7 @@ use Rattle.plain_server.specs.declared.entry.Entry.{Entry}
 use Rattle.plain_server.specs.Entries.{is_command}
 use Rattle.history_laws.specs.Holdings.{stored}
 use Rattle.plain_server.specs.declared.request.Request.TheVariants.{Rename}
-use Rattle.journal_words.specs.PlanData.{PlanData}
+use Rattle.plan_words.specs.PlanData.{PlanData}
 use Rattle.journal_words.specs.Journals.{opens}
 use Rattle.journal_words.specs.Histories as histories
 use Rattle.journal_words.specs.Histories.{is_alter}

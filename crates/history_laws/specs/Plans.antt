@@ -14,7 +14,8 @@ use Rattle.plain_server.specs.Entries.{is_client, is_command}
 use Rattle.plain_server.specs.Jobs.{table_of}
 use Rattle.plain_server.specs.States.{State, session_of, is_in_transaction, is_waiting}
 use Rattle.changelog_table.specs.ToolNames.{is_tool_name}
-use Rattle.journal_words.specs.PlanData.{PlanData, plan_altered_table}
+use Rattle.plan_words.specs.PlanData.{PlanData}
+use Rattle.journal_words.specs.Altering.{plan_altered_table}
 use Rattle.journal_words.specs.Journals.{state_at, IsFaithful}
 use Rattle.journal_words.specs.Keeping.{KeepsPlan}
 use Rattle.journal_words.specs.Sessions.{KeepsSessions}

@@ -9,6 +9,7 @@ use Rattle.alter_image.specs.declared.map.MapColumn.{MapColumn}
 use Rattle.alter_image.specs.Images.{images}
 use Rattle.alter_schema.specs.Altering.{altered}
 use Rattle.row_store.specs.Databases.{TableRows}
+use Rattle.plan_words.specs.PlanData.{PlanData}
 
 -- a new schema, and for each of its columns where its values come from
 abbrev pub Altered : Type 0
@@ -27,3 +28,7 @@ imaged (Some new) rows = option_map (λ made. record { schema = new.0; rows = ma
 -- image.
 unfoldable pub altered_table : Bool → List Clause → TableRows → Option TableRows
 altered_table approve clauses table = imaged (altered_by approve clauses table.schema) table.rows
+
+-- what the plan's ALTER makes of a table
+abbrev pub plan_altered_table : PlanData → TableRows → Option TableRows
+plan_altered_table plan table = altered_table plan.options.approve_renamed_columns plan.alter table

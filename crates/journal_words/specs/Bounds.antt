@@ -2,7 +2,7 @@
 use Rattle.std.specs.Prelude.{ℕ, ◌+◌, ◌*◌, length, map, sum, unwrap_or}
 use Rattle.std.specs.Option.{option_map}
 use Rattle.row_store.specs.Databases.{find_table}
-use Rattle.journal_words.specs.PlanData.{PlanData}
+use Rattle.plan_words.specs.PlanData.{PlanData}
 use Rattle.journal_words.specs.Keeping.{words_of}
 
 -- what the bound is made of

@@ -23,7 +23,7 @@ use Rattle.plain_server.specs.declared.entry.Asked.TheVariants.{Call, Poll, Cut}
 use Rattle.plain_server.specs.declared.entry.Entry.{Entry}
 use Rattle.plain_server.specs.Alone.{reply_of}
 use Rattle.plain_server.specs.Entries.{same_actor}
-use Rattle.journal_words.specs.PlanData.{PlanData}
+use Rattle.plan_words.specs.PlanData.{PlanData}
 
 -- what became of the client's line in a turn: nothing; it waits; it got a mark and maybe a reply; or the session was lost
 -- between lines

@@ -24,7 +24,7 @@ use Rattle.plain_server.specs.declared.entry.Asked.{Asked}
 use Rattle.plain_server.specs.declared.entry.Asked.TheVariants.{Call, Poll, Command, Cut}
 use Rattle.plain_server.specs.declared.entry.Entry.{Entry}
 use Rattle.plain_server.specs.Entries.{same_actor}
-use Rattle.journal_words.specs.PlanData.{PlanData}
+use Rattle.plan_words.specs.PlanData.{PlanData}
 use Rattle.journal_words.specs.Clients.{Reached, Became, Marked, Broken, became, client_at, is_inside, number_of, ends_with, with_line, with_reply}
 
 -- a transaction of a client that ended, and the replies that the client got

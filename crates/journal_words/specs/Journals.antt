@@ -14,7 +14,7 @@ use Rattle.plain_server.specs.declared.entry.Entry.{Entry}
 use Rattle.plain_server.specs.Entries.{same_actor, is_client, is_command, is_cut}
 use Rattle.plain_server.specs.States.{State, opened, is_live, connected}
 use Rattle.plain_server.specs.Serving.{serves, leaves, given_at}
-use Rattle.journal_words.specs.PlanData.{PlanData}
+use Rattle.plan_words.specs.PlanData.{PlanData}
 
 -- the server at the start of the plan's runs
 abbrev pub opening : PlanData → State

@@ -13,7 +13,7 @@ use Rattle.plain_server.specs.declared.entry.Asked.{Asked}
 use Rattle.plain_server.specs.declared.entry.Asked.TheVariants.{Command, Cut}
 use Rattle.plain_server.specs.declared.entry.Entry.{Entry}
 use Rattle.plain_server.specs.Entries.{same_actor, is_command}
-use Rattle.journal_words.specs.PlanData.{PlanData}
+use Rattle.plan_words.specs.PlanData.{PlanData}
 use Rattle.journal_words.specs.Journals.{turns_of}
 use Rattle.journal_words.specs.Sessions.{live_session}
 use Rattle.journal_words.specs.Clients.{client_asks}

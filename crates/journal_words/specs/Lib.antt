@@ -1,5 +1,4 @@
 pub mod Altering
-pub mod PlanData
 pub mod Journals
 pub mod Sessions
 pub mod Clients

@@ -6,7 +6,8 @@ use Rattle.std.specs.List.{flat_map}
 use Rattle.std.specs.Option.{option_map}
 use Rattle.row_store.specs.Databases.{TableRows, Database, find_table, with_change}
 use Rattle.plain_server.specs.declared.entry.Entry.{Entry}
-use Rattle.journal_words.specs.PlanData.{PlanData, plan_altered_table}
+use Rattle.plan_words.specs.PlanData.{PlanData}
+use Rattle.journal_words.specs.Altering.{plan_altered_table}
 use Rattle.changelog_table.specs.ToolNames.{is_tool_name}
 use Rattle.journal_words.specs.Journals.{state_at}
 use Rattle.journal_words.specs.Clients.{client_at}

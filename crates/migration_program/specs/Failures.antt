@@ -21,7 +21,7 @@ use Rattle.plain_server.specs.declared.outcome.Cause.{Cause}
 use Rattle.plain_server.specs.declared.outcome.Cause.TheVariants as causes
 use Rattle.plain_server.specs.declared.outcome.Task.TheVariants as tasks
 use Rattle.plain_server.specs.States.{has_work}
-use Rattle.journal_words.specs.PlanData.{PlanData, old_schema, new_map}
+use Rattle.plan_words.specs.PlanData.{PlanData, old_schema, new_map}
 use Rattle.event_applier.specs.Appliers as appliers
 use Rattle.cutover_core.specs.declared.cutover.Phase.{Phase}
 use Rattle.cutover_core.specs.declared.cutover.Phase.TheVariants.{Attempting}

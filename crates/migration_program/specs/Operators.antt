@@ -4,7 +4,8 @@ use Rattle.std.specs.Prelude.{ℕ, ◌+◌, nat_lt, Bool, true, false, ◌&&◌,
 use Rattle.script_text.specs.declared.operator.OperatorWord.{OperatorWord}
 use Rattle.script_text.specs.declared.operator.OperatorWord.TheVariants.{Throttle, NoThrottle, ChunkSize, Unpostpone, Panic, Wait}
 use Rattle.plain_server.specs.States.{State, load}
-use Rattle.journal_words.specs.PlanData.{PlanData, Options}
+use Rattle.plan_words.specs.PlanData.{PlanData}
+use Rattle.plan_words.specs.declared.options.Options.{Options}
 use Rattle.journal_words.specs.Keeping.{words_of}
 
 pub record Operator : Type 0 where

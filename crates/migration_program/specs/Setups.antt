@@ -8,7 +8,7 @@ use Rattle.plain_server.specs.declared.answer.Answer.{Answer}
 use Rattle.plain_server.specs.declared.listing.TableName.{TableName}
 use Rattle.plain_server.specs.declared.answer.Answer.TheVariants as answers
 use Rattle.plain_server.specs.declared.answer.KeyRange.{KeyRange}
-use Rattle.journal_words.specs.PlanData.{PlanData, new_schema}
+use Rattle.plan_words.specs.PlanData.{PlanData, new_schema}
 use Rattle.changelog_table.specs.ToolNames.{ghost_name, log_name, old_name}
 use Rattle.changelog_table.specs.ToolTables.{log_schema}
 use Rattle.cutover_core.specs.declared.cutover.Leftovers.{Leftovers}

@@ -18,7 +18,7 @@ use Rattle.plain_server.specs.declared.outcome.Progress.{Progress}
 use Rattle.plain_server.specs.declared.outcome.Progress.TheVariants.{Going, TaskDone, TaskFailed, Unfit}
 use Rattle.plain_server.specs.declared.outcome.Task.TheVariants as tasks
 use Rattle.plain_server.specs.States.{State, has_work}
-use Rattle.journal_words.specs.PlanData.{PlanData, new_schema, new_map}
+use Rattle.plan_words.specs.PlanData.{PlanData, new_schema, new_map}
 use Rattle.changelog_table.specs.ToolNames.{ghost_name}
 use Rattle.journal_words.specs.Journals.{opening, after_entry}
 use Rattle.chunk_copier.specs.declared.copier.Copier.{Copier}

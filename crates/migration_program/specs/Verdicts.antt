@@ -9,7 +9,7 @@ use Rattle.plain_server.specs.declared.outcome.Verdict.{Verdict}
 use Rattle.plain_server.specs.declared.outcome.Cause.TheVariants as causes
 use Rattle.plain_server.specs.declared.outcome.Verdict.TheVariants as verdicts
 use Rattle.plain_server.specs.States.{is_tool_busy}
-use Rattle.journal_words.specs.PlanData.{PlanData, old_schema, new_schema}
+use Rattle.plan_words.specs.PlanData.{PlanData, old_schema, new_schema}
 use Rattle.journal_words.specs.Clients.{clients_over}
 use Rattle.journal_words.specs.Histories.{history, is_alter}
 use Rattle.chunk_copier.specs.Copiers as copiers

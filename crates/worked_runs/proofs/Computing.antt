@@ -19,7 +19,7 @@ use Rattle.plain_server.specs.Entries.{request_in}
 use Rattle.plain_server.specs.States.{State, opened}
 use Rattle.plain_server.specs.Serving.{serves, given_at}
 use Rattle.plain_server.specs.Alone.{alone}
-use Rattle.journal_words.specs.PlanData.{PlanData}
+use Rattle.plan_words.specs.PlanData.{PlanData}
 use Rattle.journal_words.specs.Journals.{opening, opens, after_entry, heard, missed, may_lose, state_at}
 use Rattle.journal_words.specs.Sessions.{live_session, sessions_named}
 use Rattle.journal_words.specs.Clients.{client_asks}
@@ -77,7 +77,7 @@ use Rattle.journal_words.specs.Clients as x41
 use Rattle.journal_words.specs.Histories as x42
 use Rattle.journal_words.specs.Journals as x43
 use Rattle.journal_words.specs.Keeping as x44
-use Rattle.journal_words.specs.PlanData as x45
+use Rattle.plan_words.specs.PlanData as x45
 use Rattle.journal_words.specs.Serials as x46
 use Rattle.journal_words.specs.Sessions as x47
 use Rattle.migration_program.specs.Failures as x48

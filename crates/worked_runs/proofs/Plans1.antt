@@ -25,7 +25,7 @@ use Rattle.plain_server.specs.declared.entry.Entry.{Entry}
 use Rattle.plain_server.specs.declared.entry.Asked.TheVariants.{Call, Poll, Command}
 use Rattle.plain_server.specs.declared.outcome.Cause.TheVariants as causes
 use Rattle.plain_server.specs.declared.outcome.Verdict.TheVariants as verdicts
-use Rattle.journal_words.specs.PlanData.{PlanData}
+use Rattle.plan_words.specs.PlanData.{PlanData}
 use Rattle.worked_runs.proofs.Computing.{computing, Told, IsWorked}
 
 -- Plan 101

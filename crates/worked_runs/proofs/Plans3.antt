@@ -26,7 +26,7 @@ use Rattle.plain_server.specs.declared.entry.Asked.TheVariants.{Call, Poll, Comm
 use Rattle.plain_server.specs.declared.outcome.Task.TheVariants as tasks
 use Rattle.plain_server.specs.declared.outcome.Cause.TheVariants as causes
 use Rattle.plain_server.specs.declared.outcome.Verdict.TheVariants as verdicts
-use Rattle.journal_words.specs.PlanData.{PlanData}
+use Rattle.plan_words.specs.PlanData.{PlanData}
 use Rattle.worked_runs.proofs.Computing.{computing, Told, IsWorked}
 
 -- Plan 157
