@@ -16,14 +16,14 @@ use Rattle.plain_server.specs.declared.listing.TableName.{TableName}
 use Rattle.cutover_core.specs.declared.cutover.Role.{Role}
 use Rattle.cutover_core.specs.declared.cutover.Role.TheVariants.{Inspector, Locker, Renamer}
 use Rattle.cutover_core.specs.declared.cutover.Stage.{Stage}
-use Rattle.cutover_core.specs.declared.cutover.Stage.TheVariants.{Guarding, Locking, Hinting, Draining, Drained, Showing, Dropping, Unlocking, Exchanging}
+use Rattle.cutover_core.specs.declared.cutover.Stage.TheVariants.{Locking, Hinting, Drained, Showing, Dropping, Unlocking}
 use Rattle.cutover_core.specs.declared.cutover.Leftovers.{Leftovers}
 use Rattle.cutover_core.specs.declared.cutover.Clearing.{Clearing}
 use Rattle.cutover_core.specs.declared.cutover.Clearing.TheVariants.{Looking, Drops}
 use Rattle.cutover_core.specs.declared.cutover.Phase.{Phase}
-use Rattle.cutover_core.specs.declared.cutover.Phase.TheVariants.{Resting, Attempting, Ending, Finishing, Finished}
+use Rattle.cutover_core.specs.declared.cutover.Phase.TheVariants.{Resting, Attempting, Ending, Finishing}
 use Rattle.cutover_core.specs.declared.cutover.Hold.{Hold}
-use Rattle.cutover_core.specs.declared.cutover.Hold.TheVariants.{Nothing, WaitsToGuard, WaitsToLock, Locks}
+use Rattle.cutover_core.specs.declared.cutover.Hold.TheVariants.{Nothing, Locks}
 use Rattle.cutover_core.specs.declared.cutover.CutOver.{CutOver}
 use Rattle.changelog_table.specs.ToolNames.{ghost_name, log_name, old_name}
 use Rattle.changelog_table.specs.ToolTables.{sentry_comment, sentry_schema}

@@ -1,7 +1,7 @@
 -- Each actor's turns are in sessions of its own: whose a session is, the journal tells.
 use Rattle.std.proofs.Common.{◌≡◌, ◌≤◌, ◌<◌, ℕ, Bool, true, false, not, ◌&&◌, ◌||◌, max, List, [], ◌∷◌, ◌++◌, cond, Option, Some, None, refl, sym, ap, ◌∙◌, subst, arith}
 use Rattle.std.specs.Prelude.{◌==◌}
-use Rattle.std.specs.List.{list_any, AllByRecursion}
+use Rattle.std.specs.List.{AllByRecursion}
 use Rattle.std.proofs.lemmas.Bool.{false≢true, true≢false}
 use Rattle.std.proofs.lemmas.Bool.Decides.{nat_tests}
 use Rattle.std.proofs.lemmas.List.Sums.{fold-append}
@@ -14,7 +14,7 @@ use Rattle.plain_server.specs.declared.entry.Asked.{Asked}
 use Rattle.plain_server.specs.declared.entry.Asked.TheVariants.{Call, Poll, Command, Cut}
 use Rattle.plain_server.specs.declared.entry.Entry.{Entry}
 use Rattle.plain_server.specs.Entries.{same_actor, is_client, is_command, is_cut}
-use Rattle.plain_server.specs.Along.{Along, Along-keeps}
+use Rattle.plain_server.specs.Along.{Along-keeps}
 use Rattle.journal_words.specs.Sessions.{session_left, session_in, live_session, sessions_named, IsInSession, IsSeated, KeepsSessions}
 use Rattle.history_laws.specs.Plans.{is_client_session}
 
@@ -157,6 +157,7 @@ module _ (journal : List Entry) (entry : Entry) (seats : Seats journal) (at : Pl
     same true eq calls live =
         rw (calls, eq, sym (seats.kinds entry.actor entry.session live), ap (is_client_session journal) (are_one entry.session n eq)) (or_same (is_client_session journal n))
     same false eq calls live = rw (calls, eq) (or_false (is_client_session journal n))
+
     by : Placed journal entry → (is_client_session journal n || counts_client (is_command entry.asked) (entry.session == n) (is_client entry.actor)) ≡ is_client_session journal n
     by (Commands command zero) = rw command (or_false (is_client_session journal n))
     by (GoesOn calls live) = same (entry.session == n) refl calls live
@@ -184,6 +185,7 @@ module _ (journal : List Entry) (entry : Entry) (seats : Seats journal) (at : Pl
     by (Commands command zero) is = absurd (omega (arith, (seats.own a n lives).0))
     by (GoesOn calls live) is = absurd (true≢false (sym (same_actor_itself a) ∙ ap (λ (b : Actor). same_actor b a) (sym (seats.apart entry.actor a entry.session live (lives ∙ ap Some is))) ∙ differ))
     by (Begins calls uncut live more) is = absurd (omega (arith, (seats.own a n lives).1))
+
     here : (b : Bool) → (n == entry.session) ≡ b → (n == entry.session) ≡ false
     here true is = absurd (by at (are_one n entry.session is))
     here false is = is

@@ -30,7 +30,6 @@ use Rattle.history_laws.specs.Turns.{Adds, Ends, Breaks, fate_answered}
 use Rattle.history_laws.specs.Holdings.{Face, no_face, face_in, face_of, stored, Fits, Holds, held_after, lines_after}
 use Rattle.history_laws.proofs.Faces.{faces_with, faces_without}
 use Rattle.history_laws.proofs.Words.{line_fine, line_undone}
-
 use Rattle.history_laws.proofs.Turning.{Turned, besides_then, turned_adds, turned_ends, turned_breaks}
 use Rattle.plain_server.specs.declared.need.Need.{Need}
 use Rattle.plain_server.specs.States.{State, is_in_transaction, locked_names, session_of, view, with_session, writes_of}
@@ -163,8 +162,8 @@ undone_line : (scene : Scene) (state : State) (faces : ℕ → Face) (number : �
 undone_line scene state faces number going past work word mark got ended replies_are events_are named rest never =
     turned_ends scene (stored state) (stored state) (face_of state.sessions) faces number going past (seat_in work.found) word mark got ended work.client work.holds rest
     (let whole = own_whole scene state number going past work in
-      let fine = line_undone state.tables (seat_in work.found) (going number) word mark got replies_are events_are (own_fine scene state number going past work) in
-      record { lasting = fine.stable; covered = fine.covered; named = whole.named; lines = more_lines scene (going number).lines (record { word = word; mark = mark }) whole.lines named })
+    let fine = line_undone state.tables (seat_in work.found) (going number) word mark got replies_are events_are (own_fine scene state number going past work) in
+    record { lasting = fine.stable; covered = fine.covered; named = whole.named; lines = more_lines scene (going number).lines (record { word = word; mark = mark }) whole.lines named })
     (own_apart scene state number going past work)
     (rw never refl) (rw never (sym (append-nil state.log)))
 
@@ -183,7 +182,7 @@ do_answered scene state number going past work statement seen same granted true 
 do_answered scene state number going past work statement seen same granted false busy =
     let none : going number ≡ not_going = ((own_fits scene state number going past work).rests busy).1 in
     rw same (ends_line scene (stored (commits number (says (after_events state.tables work.found.writes) statement).events state)) state (face_of (with_session number at_rest state.sessions)) number going past work (words.Do statement) marks.Answered ends.Single true granted
-      (rests_with scene state number going past work) (ap (λ (g : Going). stays (g.lines ++ record { word = words.Do statement; mark = marks.Answered } ∷ [])) none) (rw work.is refl) (rw work.is refl))
+    (rests_with scene state number going past work) (ap (λ (g : Going). stays (g.lines ++ record { word = words.Do statement; mark = marks.Answered } ∷ [])) none) (rw work.is refl) (rw work.is refl))
 
 seen_is : (scene : Scene) (state : State) (number : ℕ) (going : ℕ → Going) (past : List PlainItem) (work : AtWork scene state number going past) → view number state ≡ after_events state.tables work.found.writes
 seen_is scene state number going past work = ap (λ (o : Option Session). after_events state.tables (writes_of o)) work.is
@@ -238,7 +237,7 @@ do_lost scene state number going past work statement seen same granted true busy
 do_lost scene state number going past work statement seen same granted false busy =
     let none : going number ≡ not_going = ((own_fits scene state number going past work).rests busy).1 in
     rw same (commits_lost scene state number going past work (words.Do statement) (says (after_events state.tables work.found.writes) statement).events true granted
-      (ap (λ (g : Going). stays (g.lines ++ record { word = words.Do statement; mark = marks.Lost After } ∷ [])) none) (rw work.is refl) (rw work.is refl))
+    (ap (λ (g : Going). stays (g.lines ++ record { word = words.Do statement; mark = marks.Lost After } ∷ [])) none) (rw work.is refl) (rw work.is refl))
 
 -- a COMMIT that is done, and then its session is lost
 commit_lost : (scene : Scene) (state : State) (number : ℕ) (going : ℕ → Going) (past : List PlainItem) (work : AtWork scene state number going past) → IsGranted scene state number words.Commit → (busy : Bool) → work.found.in_transaction ≡ busy

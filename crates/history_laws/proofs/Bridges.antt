@@ -56,17 +56,18 @@ pub same_removal : (places : List ℕ) (row : Row) (rows : List Row) → Ascends
 same_removal places row rows ascends stood =
     one_list places (without_key places (key_of places row) rows) (without_row row rows) (ascends-filter places (λ other. not (is_at places (key_of places row) other)) rows ascends) (ascends-filter places (λ other. not (same_row row other)) rows ascends)
     (λ other. stands-filter (λ r. not (is_at places (key_of places row) r)) other rows ∙ each other (stands other rows) refl ∙ sym (stands-filter (λ r. not (same_row row r)) other rows)) where
-  tests : (other : Row) → stands other rows ≡ true → (b c : Bool) → is_at places (key_of places row) other ≡ b → same_row row other ≡ c → b ≡ c
-  tests other there true true p q = refl
-  tests other there true false p q =
-      let keys : key_of places row ≡ key_of places other = tied_keys (key_of places row) (key_of places other) (is_Equal (compare_keys (key_of places row) (key_of places other)) p) in
-      let same : row ≡ other = one_of_key places row other rows ascends stood there keys in
-      sym (same_itself row) ∙ ap (same_row row) same ∙ q
-  tests other there false true p q = sym p ∙ ap (is_at places (key_of places row)) (sym (one_row row other q)) ∙ ap is_eq (tied_itself keys_total (key_of places row))
-  tests other there false false p q = refl
-  each : (other : Row) (s : Bool) → stands other rows ≡ s → (s && not (is_at places (key_of places row) other)) ≡ (s && not (same_row row other))
-  each other true there = ap not (tests other there (is_at places (key_of places row) other) (same_row row other) refl refl)
-  each other false there = refl
+      tests : (other : Row) → stands other rows ≡ true → (b c : Bool) → is_at places (key_of places row) other ≡ b → same_row row other ≡ c → b ≡ c
+      tests other there true true p q = refl
+      tests other there true false p q =
+          let keys : key_of places row ≡ key_of places other = tied_keys (key_of places row) (key_of places other) (is_Equal (compare_keys (key_of places row) (key_of places other)) p) in
+          let same : row ≡ other = one_of_key places row other rows ascends stood there keys in
+          sym (same_itself row) ∙ ap (same_row row) same ∙ q
+      tests other there false true p q = sym p ∙ ap (is_at places (key_of places row)) (sym (one_row row other q)) ∙ ap is_eq (tied_itself keys_total (key_of places row))
+      tests other there false false p q = refl
+
+      each : (other : Row) (s : Bool) → stands other rows ≡ s → (s && not (is_at places (key_of places row) other)) ≡ (s && not (same_row row other))
+      each other true there = ap not (tests other there (is_at places (key_of places row) other) (same_row row other) refl refl)
+      each other false there = refl
 
 pub alike_events : (names : List (List ℕ)) (a b : Database) (events : List RowEvent) → FoundAlike names a b → FoundAlike names (after_events a events) (after_events b events)
 unfolding after_events

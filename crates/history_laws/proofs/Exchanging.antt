@@ -47,13 +47,13 @@ exchanged scene tables after pairs mine is both =
       made = is.made;
       is = ap (find_table t) (sym both.is) ∙ renamed_new is.ghost t (with_name t is.kept tables) both.second ∙ ap (option_map (name_table t)) (still ∙ is.stands);
       others = λ name own off.
-        ap (find_table name) (sym both.is)
-        ∙ renamed_other is.ghost t name (with_name t is.kept tables) (bytes_no is.ghost name (unfound scene is.ghost name is.ghost_other own)) off
-        ∙ renamed_other t is.kept name tables off (bytes_no is.kept name (unfound scene is.kept name is.kept_other own));
+          ap (find_table name) (sym both.is)
+          ∙ renamed_other is.ghost t name (with_name t is.kept tables) (bytes_no is.ghost name (unfound scene is.ghost name is.ghost_other own)) off
+          ∙ renamed_other t is.kept name tables off (bytes_no is.kept name (unfound scene is.kept name is.kept_other own));
     } where
-  differ : (b : Bool) → bytes_eq is.ghost is.kept ≡ b → b ≡ false
-  differ true same = absurd (false≢true (sym both.first ∙ ap (λ (n : List ℕ). has_table n tables) (sym (are_same is.ghost is.kept same)) ∙ found_has is.ghost tables is.new is.stands))
-  differ false same = refl
+      differ : (b : Bool) → bytes_eq is.ghost is.kept ≡ b → b ≡ false
+      differ true same = absurd (false≢true (sym both.first ∙ ap (λ (n : List ℕ). has_table n tables) (sym (are_same is.ghost is.kept same)) ∙ found_has is.ghost tables is.new is.stands))
+      differ false same = refl
 
 -- *The exchange alters the table*
 pub exchange_alters : ExchangeAlters

@@ -135,10 +135,10 @@ lock_apart [] number n lock other is differ one = absurd one
 lock_apart (first ∷ sessions) number n lock other is differ one =
     let both = lock_parts (map (held_by first.number) first.row_locks) (locks_held sessions) number lock is in
     at (first.number == n) refl both.0 one (lock_apart sessions number n lock other both.1 differ) where
-  at : (b : Bool) → (first.number == n) ≡ b → refuser_of_lock (map (held_by first.number) first.row_locks) number lock ≡ None → Among other (face_in (cond b (Some first) (session_of n sessions))).seat.locks
-      → (Among other (face_of sessions n).seat.locks → conflict other lock ≡ false) → conflict other lock ≡ false
-  at true here none there rest = own_apart first.number first.row_locks number lock other none (ap (λ (m : ℕ). m == number) (are_one first.number n here) ∙ differ) there
-  at false here none there rest = rest there
+      at : (b : Bool) → (first.number == n) ≡ b → refuser_of_lock (map (held_by first.number) first.row_locks) number lock ≡ None → Among other (face_in (cond b (Some first) (session_of n sessions))).seat.locks
+          → (Among other (face_of sessions n).seat.locks → conflict other lock ≡ false) → conflict other lock ≡ false
+      at true here none there rest = own_apart first.number first.row_locks number lock other none (ap (λ (m : ℕ). m == number) (are_one first.number n here) ∙ differ) there
+      at false here none there rest = rest there
 
 set_none : (held : List HeldLock) (number : ℕ) (set : List Lock) (lock : Lock) → refuser_of_set held number set ≡ None → Among lock set → refuser_of_lock held number lock ≡ None
 unfolding refuser_of_set

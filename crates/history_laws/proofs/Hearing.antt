@@ -1,20 +1,17 @@
 -- What a client's session hears is an answer of a line; what its entry has is so.
-use Rattle.std.proofs.Common.{◌≡◌, ℕ, Bool, true, false, List, [], ◌∷◌, Option, Some, None, refl, sym, ap, ◌∙◌, subst}
+use Rattle.std.proofs.Common.{◌≡◌, ℕ, Bool, true, false, Option, Some, None, refl, sym, ap, ◌∙◌, subst}
 use Rattle.script_text.specs.declared.actor.Side.{Side}
 use Rattle.script_text.specs.declared.actor.Side.TheVariants.{Before, After}
-use Rattle.script_text.specs.declared.script.ScriptLine.{ScriptLine}
 use Rattle.script_text.specs.declared.script.ScriptWord.{ScriptWord}
 use Rattle.script_text.specs.declared.script.ScriptWord.TheVariants as words
 use Rattle.plain_server.specs.declared.answer.Answer.{Answer}
 use Rattle.plain_server.specs.declared.answer.Answer.TheVariants as answers
 use Rattle.plain_server.specs.declared.entry.Asked.{Asked}
 use Rattle.plain_server.specs.declared.entry.Asked.TheVariants.{Call, Poll, Command, Cut}
-use Rattle.plain_server.specs.declared.entry.Entry.{Entry}
 use Rattle.plain_server.specs.declared.need.Need.{Need}
 use Rattle.plain_server.specs.declared.request.Request.{Request}
 use Rattle.plain_server.specs.declared.request.Request.TheVariants as requests
 use Rattle.plain_server.specs.declared.session.Waiting.{Waiting}
-use Rattle.plain_server.specs.declared.transaction.Mark.{Mark}
 use Rattle.plain_server.specs.declared.transaction.Mark.TheVariants as marks
 use Rattle.plain_server.specs.declared.work.StatementResult.{StatementResult}
 use Rattle.plain_server.specs.Jobs.{says}
@@ -26,7 +23,7 @@ use Rattle.journal_words.specs.Journals.{may_lose}
 use Rattle.journal_words.specs.Clients.{Reached, lost_side, word_asks}
 use Rattle.history_laws.specs.Turns.{answer_at, missed_at, was_given, mark_lost, request_of}
 use Rattle.history_laws.proofs.Replies.{IsReply, line_replies_so}
-use Rattle.history_laws.proofs.Progress.{IsLineAnswer, HeardSo, Heard, CutOff, LostAt, Missed, AsksNext, Calls, Polls, IsCut, LineWaits, not_waiting}
+use Rattle.history_laws.proofs.Progress.{IsLineAnswer, HeardSo, Heard, CutOff, LostAt, AsksNext, Calls, Polls, IsCut, LineWaits, not_waiting}
 
 reply_line : (answer : Answer) → IsReply answer → IsLineAnswer answer
 reply_line (answers.Ok count) is = tt
@@ -65,9 +62,11 @@ polled_line state number word is = at (waiting_of number state.waiting) is where
   over : (b : Bool) (by : ℕ) → IsLineAnswer (polled_over b by state number).answer
   over true by = tt
   over false by = tt
+
   each : (request : Request) → request ≡ word_asks word → (by : Option ℕ) → IsLineAnswer (polled_unless by state number request).answer
   each request same None = subst (λ (r : Request). IsLineAnswer (done (without_waiting number state) number r).answer) (sym same) (reply_line (done (without_waiting number state) number (word_asks word)).answer (done_reply (without_waiting number state) number word))
   each request same (Some by) = over (is_over state number) by
+
   at : (waiting : Option Waiting) → request_of waiting ≡ Some (word_asks word) → IsLineAnswer (polled_of waiting state number).answer
   at None none = absurd (cc)
   at (Some waiting) some = each waiting.request (cc) (blocker state number (need state number waiting.request))
@@ -99,6 +98,7 @@ pub heard_so : (state : State) (number : ℕ) (client : Reached) (side : Option 
 heard_so state number client side asked answer missed sides is also waits asks = by asked refl side refl where
   line : (asked ≡ Cut → ⊥) → IsLineAnswer (serves state number asked).answer
   line called = given_line state number client asked called waits asks
+
   side_by : (asked ≡ Cut → ⊥) → (s : Option Side) → side ≡ s → HeardSo side asked answer missed
   side_by called None none = Heard none (subst IsLineAnswer (sym (is ∙ ap (λ (s : Option Side). answer_at s (serves state number asked).answer) none)) (line called))
   side_by called (Some Before) some =
@@ -107,6 +107,7 @@ heard_so state number client side asked answer missed sides is also waits asks =
   side_by called (Some After) some =
       LostAt After called some (is ∙ ap (λ (s : Option Side). answer_at s (serves state number asked).answer) some)
       (record { same = subst (λ (m : Option Answer). mark_lost (was_given m) ≡ marks.Lost (lost_side (Some After) m)) (sym (also ∙ ap (λ (s : Option Side). missed_at s (serves state number asked).answer) some)) (missed_so (serves state number asked).answer (line called)) })
+
   by : (a : Asked) → asked ≡ a → (s : Option Side) → side ≡ s → HeardSo side asked answer missed
   by Cut cut s same = CutOff (sides (ap may_lose cut)) cut
   by (Call request) call s same = side_by (λ cut. not_cut (Call request) refl (sym call ∙ cut)) s same

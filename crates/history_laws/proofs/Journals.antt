@@ -17,7 +17,7 @@ use Rattle.history_laws.specs.Scenes.{PlainItem, Stored, Scene, is_mine, tables_
 use Rattle.plain_server.specs.declared.answer.Answer.{Answer}
 use Rattle.plain_server.specs.declared.answer.Answer.TheVariants as answers
 use Rattle.plain_server.specs.Answers.{ok}
-use Rattle.history_laws.specs.Turns.{scene_state, inner, answer_at, missed_at, told_at, IsTold, AllTold, Fate, Still, word_given, was_given, broken, word_lost, word_asked, fate_renamed, request_of, about, is_busy, fate_if, fate, happens, goings_after, goings_from, goings_at, entry_adds, history, MayAskIf, MayAsk, ClientAsks, ToolAsks, RenamesSo, DefinesSo, AtRest, IsAllowed, IsSceneRun}
+use Rattle.history_laws.specs.Turns.{scene_state, inner, answer_at, missed_at, told_at, IsTold, Fate, Still, word_given, was_given, broken, word_lost, word_asked, fate_renamed, request_of, about, is_busy, fate_if, fate, happens, goings_after, goings_from, goings_at, entry_adds, history, MayAskIf, MayAsk, ClientAsks, ToolAsks, RenamesSo, DefinesSo, AtRest, IsAllowed, IsSceneRun}
 use Rattle.journal_words.specs.Histories.{renames_away}
 use Rattle.plain_server.specs.declared.entry.Asked.{Asked}
 use Rattle.plain_server.specs.declared.entry.Asked.TheVariants.{Call, Poll, Cut, Command}
@@ -63,12 +63,13 @@ same_faces scene state number going past work new besides n = at (n == number) r
 rest_same : (scene : Scene) (state : State) (number : ℕ) (going : ℕ → Going) (past : List PlainItem) (work : AtWork scene state number going past) (new : ℕ → Face) → is_busy number state ≡ false → Besides number (face_of state.sessions) new no_face → (n : ℕ) → new n ≡ face_of state.sessions n
 rest_same scene state number going past work new rests besides =
     same_faces scene state number going past work new (record { there = besides.there; here = besides.here ∙ sym none }) where
-  busy : work.found.in_transaction ≡ false
-  busy = sym (ap is_in_transaction work.is) ∙ rests
-  none : face_in (Some work.found) ≡ no_face
-  none = ap (λ (seat : Seat). let f : Face = record { seat = seat; locked = (face_in (Some work.found)).locked; busy = work.found.in_transaction } in f) ((own_fits scene state number going past work).rests busy).0
-      ∙ ap (λ (l : List (List ℕ)). let f : Face = record { seat = no_seat; locked = l; busy = work.found.in_transaction } in f) ((own_fits scene state number going past work).unlocked refl)
-      ∙ ap (λ (b : Bool). let f : Face = record { seat = no_seat; locked = []; busy = b } in f) busy
+      busy : work.found.in_transaction ≡ false
+      busy = sym (ap is_in_transaction work.is) ∙ rests
+
+      none : face_in (Some work.found) ≡ no_face
+      none = ap (λ (seat : Seat). let f : Face = record { seat = seat; locked = (face_in (Some work.found)).locked; busy = work.found.in_transaction } in f) ((own_fits scene state number going past work).rests busy).0
+          ∙ ap (λ (l : List (List ℕ)). let f : Face = record { seat = no_seat; locked = l; busy = work.found.in_transaction } in f) ((own_fits scene state number going past work).unlocked refl)
+          ∙ ap (λ (b : Bool). let f : Face = record { seat = no_seat; locked = []; busy = b } in f) busy
 
 -- what the client asks is a line
 abbrev pub AsksIf : Bool → Scene → Option Request → Type 0
@@ -323,12 +324,15 @@ served_waits scene state number (Call request) is proper = at (blocker state num
 served_waits scene state number Poll is proper = at (waiting_of number state.waiting) where
   less : ProperWaits scene (filter (λ one. not (one.session == number)) state.waiting)
   less = waits_less scene (λ one. not (one.session == number)) state.waiting proper
+
   over : (b : Bool) (by : ℕ) → ProperWaits scene (polled_over b by state number).after.waiting
   over true by = less
   over false by = proper
+
   one : (waiting : Waiting) (by : Option ℕ) → ProperWaits scene (polled_unless by state number waiting.request).after.waiting
   one waiting None = rw (done_waits (without_waiting number state) number waiting.request) less
   one waiting (Some by) = over (is_over state number) by
+
   at : (waiting : Option Waiting) → ProperWaits scene (polled_of waiting state number).after.waiting
   at None = proper
   at (Some waiting) = one waiting (blocker state number (need state number waiting.request))
@@ -360,9 +364,11 @@ served_one state number Poll one = at (waiting_of number state.waiting) where
   over : (b : Bool) (by : ℕ) → OneIn (polled_over b by state number).after.sessions
   over true by = one_rests number state.sessions one
   over false by = one_counts number (polls_of (session_of number state.sessions) + 1) state.sessions one
+
   each : (waiting : Waiting) (by : Option ℕ) → blocker state number (need state number waiting.request) ≡ by → OneIn (polled_unless by state number waiting.request).after.sessions
   each waiting None is = done_one (without_waiting number state) number waiting.request one (free_without state number waiting.request (granted state number (need state number waiting.request) one is))
   each waiting (Some by) is = over (is_over state number) by
+
   at : (waiting : Option Waiting) → OneIn (polled_of waiting state number).after.sessions
   at None = one
   at (Some waiting) = each waiting (blocker state number (need state number waiting.request)) refl
@@ -448,9 +454,9 @@ entry_kept scene state going past entry mine answer missed may commands rest so 
     let asks = waits_found scene number now.waiting waits in
     let tables : now.tables ≡ state.tables = ap (λ (s : Stored). s.tables) (stored_opened nothing tool number state) in
     let told : told_at entry.side entry.answer entry.missed ≡ told_at entry.side (answer_at entry.side (inner state entry)) (missed_at entry.side (inner state entry)) =
-        ap (λ (g : Answer). told_at entry.side g entry.missed) answer ∙ ap (λ (m : Option Answer). told_at entry.side (answer_at entry.side (inner state entry)) m) missed in
+    ap (λ (g : Answer). told_at entry.side g entry.missed) answer ∙ ap (λ (m : Option Answer). told_at entry.side (answer_at entry.side (inner state entry)) m) missed in
     let renames : told_at entry.side (answer_at entry.side (inner state entry)) (missed_at entry.side (inner state entry)) ≡ Some ok → RenamesSo scene now.tables (about now number entry.asked) =
-        λ done. subst (λ (d : Database). RenamesSo scene d (about now number entry.asked)) (sym tables) (so (told ∙ done)) in
+    λ done. subst (λ (d : Database). RenamesSo scene d (about now number entry.asked)) (sym tables) (so (told ∙ done)) in
     let turned : TurnsSo (scene.client number) scene entry.side now number entry.asked going past =
     live_turn scene entry.side now number entry.asked going past mine holds one (opened_live nothing tool number state) commands (rest, renames) (asks_about scene now number entry.asked may asks) asks in
     record {
@@ -527,25 +533,25 @@ plain_allowed : (limits : Limits) (scene : Scene) (before journal : List Entry) 
 plain_allowed limits scene before [] never plain = tt
 plain_allowed limits scene before (entry ∷ journal) never plain =
     (record { may = plain.0.may; commands = plain.0.commands; rests = plain.0.rests; renames = λ told. so (about (opens entry (scene_state limits scene before)) entry.session entry.asked) }, plain_allowed limits scene (before ++ entry ∷ []) journal never plain.1) where
-  so : (asks : Option Request) → RenamesSo scene (scene_state limits scene before).tables asks
-  so None = tt
-  so (Some (Rename pairs)) = λ may takes after is. absurd (false≢true (sym never ∙ may))
-  so (Some requests.Begin) = tt
-  so (Some requests.Commit) = tt
-  so (Some requests.Rollback) = tt
-  so (Some (requests.Do statement)) = tt
-  so (Some (LockTables names)) = tt
-  so (Some Unlock) = tt
-  so (Some (Create schema)) = tt
-  so (Some (Drop name)) = tt
-  so (Some ShowTables) = tt
-  so (Some ShowWaiting) = tt
-  so (Some LogEnd) = tt
-  so (Some (ReadLog position limit names)) = tt
-  so (Some (Ends table)) = tt
-  so (Some (ChunkEnd table low top size)) = tt
-  so (Some (BeginSpan table span size)) = tt
-  so (Some (CopyRow from into columns key)) = tt
+      so : (asks : Option Request) → RenamesSo scene (scene_state limits scene before).tables asks
+      so None = tt
+      so (Some (Rename pairs)) = λ may takes after is. absurd (false≢true (sym never ∙ may))
+      so (Some requests.Begin) = tt
+      so (Some requests.Commit) = tt
+      so (Some requests.Rollback) = tt
+      so (Some (requests.Do statement)) = tt
+      so (Some (LockTables names)) = tt
+      so (Some Unlock) = tt
+      so (Some (Create schema)) = tt
+      so (Some (Drop name)) = tt
+      so (Some ShowTables) = tt
+      so (Some ShowWaiting) = tt
+      so (Some LogEnd) = tt
+      so (Some (ReadLog position limit names)) = tt
+      so (Some (Ends table)) = tt
+      so (Some (ChunkEnd table low top size)) = tt
+      so (Some (BeginSpan table span size)) = tt
+      so (Some (CopyRow from into columns key)) = tt
 
 -- *Plain runs are serial*
 pub plain_scenes_are_serial : PlainScenesAreSerial

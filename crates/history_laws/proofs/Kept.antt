@@ -20,7 +20,6 @@ use Rattle.statement_laws.specs.Stability.{RunSo}
 use Rattle.history_laws.specs.Scenes.{PlainItem, Txn, Stored, Scene, is_mine, logged, seen, FoundAlike, Alike, NamesTable, Leads, Serial, Seat, Going, no_seat, not_going, IsLasting, EventsMine, IsFine, IsKept, Besides}
 use Rattle.statement_laws.proofs.Finding.{agree_itself, tables_itself, found_after, change_if}
 use Rattle.statement_laws.proofs.Stables.{stable_begin, stable_others, stable_end, covered_others, others_agree}
-
 use Rattle.event_codec.specs.declared.event.Change.{Change}
 use Rattle.statement_laws.proofs.Points.{are_same}
 use Rattle.history_laws.proofs.Tools.{safe_begin, safe_others}
@@ -181,21 +180,25 @@ kept_ends scene now after seat seats going goings past number own line ended kep
       fine = others_fine scene now after.tables seat seats going goings past number kept is besides lines (λ n differ. subst (λ (d : Database). Agree (seat n).names (seat n).locks now.tables d) (sym tables) (others n (stays line.lines) differ));
       apart = two_seats number seat seats no_seat besides (λ n differ. none_apart (seat n).locks) kept.apart;
     } where
-  left : (b : Bool) → IsOrderly (after_events now.tables own.writes) → IsOrderly (cond b (after_events now.tables own.writes) now.tables)
-  left true written = written
-  left false written = kept.orderly
-  own_log : (b : Bool) → logged scene (cond b own.writes []) ≡ cond b own.writes []
-  own_log true = logged_own scene own.writes fine.named
-  own_log false = refl
-  seen_log : (b : Bool) → after.log ≡ now.log ++ cond b own.writes [] → logged scene after.log ≡ logged scene now.log ++ cond b own.writes []
-  seen_log b is = ap (logged scene) is ∙ logged-append scene now.log (cond b own.writes []) ∙ ap (λ (l : List RowEvent). logged scene now.log ++ l) (own_log b)
-  leads : (b : Bool) → lines_run now.tables nothing_ran line.lines ≡ record { replies = line.replies; writes = own.writes } → after.tables ≡ cond b (after_events now.tables own.writes) now.tables → logged scene after.log ≡ logged scene now.log ++ cond b own.writes []
-      → (line.replies ≡ (outcome_if b now.tables (lines_run now.tables nothing_ran line.lines)).replies) × (after.tables ≡ (outcome_if b now.tables (lines_run now.tables nothing_ran line.lines)).tables) × (logged scene after.log ≡ logged scene now.log ++ (outcome_if b now.tables (lines_run now.tables nothing_ran line.lines)).committed) × AllByRecursion (λ l. NamesTable scene.mine l.word) line.lines
-  leads true runs t l = rw runs (refl, t, l, fine.lines)
-  leads false runs t l = rw runs (refl, t, l, fine.lines)
-  others : (n : ℕ) (b : Bool) → (n == number) ≡ false → Agree (seat n).names (seat n).locks now.tables (cond b (after_events now.tables own.writes) now.tables)
-  others n true is = others_agree (seat n).names own.names own.locks (seat n).locks now.tables own.writes (apart n is) fine.covered
-  others n false is = agree_itself (seat n).names (seat n).locks now.tables
+      left : (b : Bool) → IsOrderly (after_events now.tables own.writes) → IsOrderly (cond b (after_events now.tables own.writes) now.tables)
+      left true written = written
+      left false written = kept.orderly
+
+      own_log : (b : Bool) → logged scene (cond b own.writes []) ≡ cond b own.writes []
+      own_log true = logged_own scene own.writes fine.named
+      own_log false = refl
+
+      seen_log : (b : Bool) → after.log ≡ now.log ++ cond b own.writes [] → logged scene after.log ≡ logged scene now.log ++ cond b own.writes []
+      seen_log b is = ap (logged scene) is ∙ logged-append scene now.log (cond b own.writes []) ∙ ap (λ (l : List RowEvent). logged scene now.log ++ l) (own_log b)
+
+      leads : (b : Bool) → lines_run now.tables nothing_ran line.lines ≡ record { replies = line.replies; writes = own.writes } → after.tables ≡ cond b (after_events now.tables own.writes) now.tables → logged scene after.log ≡ logged scene now.log ++ cond b own.writes []
+          → (line.replies ≡ (outcome_if b now.tables (lines_run now.tables nothing_ran line.lines)).replies) × (after.tables ≡ (outcome_if b now.tables (lines_run now.tables nothing_ran line.lines)).tables) × (logged scene after.log ≡ logged scene now.log ++ (outcome_if b now.tables (lines_run now.tables nothing_ran line.lines)).committed) × AllByRecursion (λ l. NamesTable scene.mine l.word) line.lines
+      leads true runs t l = rw runs (refl, t, l, fine.lines)
+      leads false runs t l = rw runs (refl, t, l, fine.lines)
+
+      others : (n : ℕ) (b : Bool) → (n == number) ≡ false → Agree (seat n).names (seat n).locks now.tables (cond b (after_events now.tables own.writes) now.tables)
+      others n true is = others_agree (seat n).names own.names own.locks (seat n).locks now.tables own.writes (apart n is) fine.covered
+      others n false is = agree_itself (seat n).names (seat n).locks now.tables
 
 -- nothing is kept less where nothing that is spoken of changes
 pub kept_same : (scene : Scene) (now : Stored) (seat seats : ℕ → Seat) (going goings : ℕ → Going) (past : List PlainItem) → ((n : ℕ) → seats n ≡ seat n) → ((n : ℕ) → goings n ≡ going n) → IsKept scene now seat going past → IsKept scene now seats goings past

@@ -58,11 +58,12 @@ left_same names (first ∷ some) a b within alike =
     let here : find_table first a ≡ find_table first b = alike.each first (within first (or_here (list_any (bytes_eq first) some) (same_bytes first))) in
     let rest : tables_left some a ≡ tables_left some b = left_same names some a b (λ name is. within name (or_there (bytes_eq name first) is)) alike in
     ap (λ (found : Option TableRows). option_to_list found ++ tables_left some a) here ∙ ap (λ (more : Database). option_to_list (find_table first b) ++ more) rest where
-  or_here : (more : Bool) → bytes_eq first first ≡ true → (bytes_eq first first || more) ≡ true
-  or_here more is = rw is refl
-  or_there : (one : Bool) {more : Bool} → more ≡ true → (one || more) ≡ true
-  or_there true is = refl
-  or_there false is = is
+      or_here : (more : Bool) → bytes_eq first first ≡ true → (bytes_eq first first || more) ≡ true
+      or_here more is = rw is refl
+
+      or_there : (one : Bool) {more : Bool} → more ≡ true → (one || more) ≡ true
+      or_there true is = refl
+      or_there false is = is
 
 pub left_alike : (scene : Scene) (a b : Database) → FoundAlike scene.mine a b → tables_left scene.mine a ≡ tables_left scene.mine b
 left_alike scene a b alike = left_same scene.mine scene.mine a b (λ name is. is) alike
@@ -85,19 +86,22 @@ change_left (first ∷ names) event change tables =
     ap (λ (found : Option TableRows). option_to_list found ++ tables_left names (with_change event (change_table change) tables)) (found_after event first change tables)
     ∙ ap (λ (more : Database). option_to_list (change_if (bytes_eq event first) change (find_table first tables)) ++ more) (change_left names event change tables)
     ∙ at (find_table first tables) refl where
-  none : (b : Bool) → change_if b change None ≡ None
-  none true = refl
-  none false = refl
-  by : (table : TableRows) (b c : Bool) → b ≡ c → option_to_list (change_if b change (Some table)) ++ with_change event (change_table change) (tables_left names tables) ≡ cond c (change_table change table) table ∷ with_change event (change_table change) (tables_left names tables)
-  by table true true is = refl
-  by table false false is = refl
-  by table true false is = absurd (true≢false is)
-  by table false true is = absurd (false≢true is)
-  both : (table : TableRows) → find_table first tables ≡ Some table → bytes_eq event first ≡ is_named event table
-  both table is = turned_test event first ∙ ap (λ (n : List ℕ). bytes_eq n event) (sym (are_same table.schema.name first (found_named first tables table is)))
-  at : (found : Option TableRows) → find_table first tables ≡ found → option_to_list (change_if (bytes_eq event first) change found) ++ with_change event (change_table change) (tables_left names tables) ≡ with_change event (change_table change) (option_to_list found ++ tables_left names tables)
-  at None is = ap (λ (o : Option TableRows). option_to_list o ++ with_change event (change_table change) (tables_left names tables)) (none (bytes_eq event first))
-  at (Some table) is = by table (bytes_eq event first) (is_named event table) (both table is)
+      none : (b : Bool) → change_if b change None ≡ None
+      none true = refl
+      none false = refl
+
+      by : (table : TableRows) (b c : Bool) → b ≡ c → option_to_list (change_if b change (Some table)) ++ with_change event (change_table change) (tables_left names tables) ≡ cond c (change_table change table) table ∷ with_change event (change_table change) (tables_left names tables)
+      by table true true is = refl
+      by table false false is = refl
+      by table true false is = absurd (true≢false is)
+      by table false true is = absurd (false≢true is)
+
+      both : (table : TableRows) → find_table first tables ≡ Some table → bytes_eq event first ≡ is_named event table
+      both table is = turned_test event first ∙ ap (λ (n : List ℕ). bytes_eq n event) (sym (are_same table.schema.name first (found_named first tables table is)))
+
+      at : (found : Option TableRows) → find_table first tables ≡ found → option_to_list (change_if (bytes_eq event first) change found) ++ with_change event (change_table change) (tables_left names tables) ≡ with_change event (change_table change) (option_to_list found ++ tables_left names tables)
+      at None is = ap (λ (o : Option TableRows). option_to_list o ++ with_change event (change_table change) (tables_left names tables)) (none (bytes_eq event first))
+      at (Some table) is = by table (bytes_eq event first) (is_named event table) (both table is)
 
 events_left : (names : List (List ℕ)) (events : List RowEvent) (tables : Database) → tables_left names (after_events tables events) ≡ after_events (tables_left names tables) events
 unfolding after_events
@@ -129,20 +133,23 @@ unfolding tables_left
 alter_each scene before after alters [] within = refl
 alter_each scene before after alters (first ∷ some) within =
     at (bytes_eq first scene.migrated) refl (alter_each scene before after alters some (λ name is. within name (or_there (bytes_eq name first) is))) where
-  or_there : (one : Bool) {more : Bool} → more ≡ true → (one || more) ≡ true
-  or_there true is = refl
-  or_there false is = is
-  rest' : Database
-  rest' = with_change scene.migrated (λ table. alters.new) (tables_left some before)
-  other : (found : Option TableRows) → find_table first before ≡ found → bytes_eq first scene.migrated ≡ false → option_to_list found ++ rest' ≡ with_change scene.migrated (λ table. alters.new) (option_to_list found ++ tables_left some before)
-  other None is off = refl
-  other (Some table) is off = let not_it : is_named scene.migrated table ≡ false = ap (λ (n : List ℕ). bytes_eq n scene.migrated) (are_same table.schema.name first (found_named first before table is)) ∙ off in rw not_it refl
-  at : (b : Bool) → bytes_eq first scene.migrated ≡ b → tables_left some after ≡ rest' → option_to_list (find_table first after) ++ tables_left some after ≡ with_change scene.migrated (λ table. alters.new) (option_to_list (find_table first before) ++ tables_left some before)
-  at true same more =
-      let name : first ≡ scene.migrated = are_same first scene.migrated same in
-      let old_named : is_named scene.migrated alters.old ≡ true = found_named scene.migrated before alters.old alters.was in
-      rw (ap (λ (n : List ℕ). find_table n after) name ∙ alters.is, ap (λ (n : List ℕ). find_table n before) name ∙ alters.was, more) (rw old_named refl)
-  at false off more = rw more (ap (λ (found : Option TableRows). option_to_list found ++ rest') (alters.others first (within first (rw (same_bytes first) refl)) off) ∙ other (find_table first before) refl off)
+      or_there : (one : Bool) {more : Bool} → more ≡ true → (one || more) ≡ true
+      or_there true is = refl
+      or_there false is = is
+
+      rest' : Database
+      rest' = with_change scene.migrated (λ table. alters.new) (tables_left some before)
+
+      other : (found : Option TableRows) → find_table first before ≡ found → bytes_eq first scene.migrated ≡ false → option_to_list found ++ rest' ≡ with_change scene.migrated (λ table. alters.new) (option_to_list found ++ tables_left some before)
+      other None is off = refl
+      other (Some table) is off = let not_it : is_named scene.migrated table ≡ false = ap (λ (n : List ℕ). bytes_eq n scene.migrated) (are_same table.schema.name first (found_named first before table is)) ∙ off in rw not_it refl
+
+      at : (b : Bool) → bytes_eq first scene.migrated ≡ b → tables_left some after ≡ rest' → option_to_list (find_table first after) ++ tables_left some after ≡ with_change scene.migrated (λ table. alters.new) (option_to_list (find_table first before) ++ tables_left some before)
+      at true same more =
+          let name : first ≡ scene.migrated = are_same first scene.migrated same in
+          let old_named : is_named scene.migrated alters.old ≡ true = found_named scene.migrated before alters.old alters.was in
+          rw (ap (λ (n : List ℕ). find_table n after) name ∙ alters.is, ap (λ (n : List ℕ). find_table n before) name ∙ alters.was, more) (rw old_named refl)
+      at false off more = rw more (ap (λ (found : Option TableRows). option_to_list found ++ rest') (alters.others first (within first (rw (same_bytes first) refl)) off) ∙ other (find_table first before) refl off)
 
 alter_left : (scene : Scene) (before after : Stored) → is_mine scene scene.migrated ≡ true → Leads scene Alter before after → LeadsTo scene Alter (record { tables = tables_left scene.mine before.tables; log = before.log }) (record { tables = tables_left scene.mine after.tables; log = after.log })
 alter_left scene before after mine leads =

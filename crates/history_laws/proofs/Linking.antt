@@ -1,7 +1,7 @@
 -- What the journal tells of a plan's clients and what the law of scenes tells of their sessions go together.
-use Rattle.std.proofs.Common.{◌≡◌, ◌≢◌, ◌≤◌, ◌<◌, ℕ, ◌+◌, Bool, true, false, not, ◌||◌, List, [], ◌∷◌, ◌++◌, map, cond, Option, Some, None, refl, sym, ap, ◌∙◌, subst, arith}
-use Rattle.std.specs.Prelude.{◌==◌, is_some, unwrap_or}
-use Rattle.std.specs.List.{list_any, AllByRecursion}
+use Rattle.std.proofs.Common.{◌≡◌, ◌≢◌, ◌<◌, ℕ, Bool, true, false, not, List, [], ◌∷◌, ◌++◌, map, cond, Option, Some, None, refl, sym, ap, ◌∙◌, subst, arith}
+use Rattle.std.specs.Prelude.{◌==◌, unwrap_or}
+use Rattle.std.specs.List.{AllByRecursion}
 use Rattle.std.proofs.lemmas.Bool.{false≢true, true≢false}
 use Rattle.std.proofs.lemmas.Bool.Decides.{nat_tests}
 use Rattle.std.proofs.lemmas.List.Sums.{fold-append}
@@ -15,7 +15,7 @@ use Rattle.script_text.specs.declared.script.ScriptWord.TheVariants as words
 use Rattle.std.proofs.lemmas.List.{map-append}
 use Rattle.std.proofs.Common.{◌⊎◌, inl, inr}
 use Rattle.row_store.specs.Databases.{Database}
-use Rattle.plain_server.specs.Along.{Along, gathered-more}
+use Rattle.plain_server.specs.Along.{gathered-more}
 use Rattle.plain_server.specs.declared.answer.Answer.{Answer}
 use Rattle.plain_server.specs.declared.answer.Answer.TheVariants as answers
 use Rattle.plain_server.specs.declared.entry.Asked.{Asked}
@@ -27,16 +27,16 @@ use Rattle.plain_server.specs.declared.session.Waiting.{Waiting}
 use Rattle.plain_server.specs.Answers.{ok}
 use Rattle.plain_server.specs.declared.transaction.TxnLine.{TxnLine}
 use Rattle.plain_server.specs.Entries.{same_actor, is_client, is_command, is_cut}
-use Rattle.plain_server.specs.States.{State, opened, session_of, is_in_transaction, waiting_of, is_waiting}
-use Rattle.plain_server.specs.Serving.{serves, leaves, loses, given_at}
+use Rattle.plain_server.specs.States.{State, session_of, is_in_transaction, waiting_of}
+use Rattle.plain_server.specs.Serving.{serves, leaves, loses}
 use Rattle.plan_words.specs.PlanData.{PlanData}
-use Rattle.journal_words.specs.Journals.{opening, opens, opens_if, after_entry, state_behind, state_at, inner_answer, heard, missed, may_lose, IsAnswered}
-use Rattle.journal_words.specs.Sessions.{session_left, session_in, live_session, sessions_named, IsSeated}
-use Rattle.journal_words.specs.Clients.{Reached, Became, became, became_in, client_after, after_turn, client_at, new_client, script_of, is_inside, client_asks, line_asks, word_asks}
+use Rattle.journal_words.specs.Journals.{opening, opens, after_entry, state_at, missed, may_lose}
+use Rattle.journal_words.specs.Sessions.{session_left, live_session, sessions_named}
+use Rattle.journal_words.specs.Clients.{Reached, became, client_after, after_turn, client_at, new_client, script_of, is_inside, client_asks, line_asks, word_asks}
 use Rattle.journal_words.specs.Keeping.{TakesNext}
 use Rattle.journal_words.specs.Histories as histories
 use Rattle.journal_words.specs.Histories.{HistoryItem, waits_behind, waits_in, request_waiting, asked_about, told_in, renames_away, alters, adds, client_ends}
-use Rattle.history_laws.specs.Scenes.{PlainItem, Txn, Alter, AltersTo, Scene, NamesTable, Going, not_going}
+use Rattle.history_laws.specs.Scenes.{PlainItem, AltersTo, Scene, NamesTable, Going, not_going}
 use Rattle.history_laws.specs.Turns.{request_of, Fate, fate_renamed, fate_if, client_fate, going_on, goings_after, happens, told_at, is_busy, inner, fate, ClientAsks, LineOf, MayAsk, MayAskIf, AtRest, RenamesSo, IsAllowed, answer_at, missed_at}
 use Rattle.history_laws.specs.Turns as law
 use Rattle.history_laws.specs.Holdings.{Face, Fits, face_in, face_of}
@@ -197,7 +197,7 @@ module _ (plan : PlanData) (whole journal : List Entry) (entry : Entry) (going :
   own_fits c is =
       subst (λ (g : Going). Fits true (face_of open_now.sessions entry.session) g) (going_here c is)
       (subst (λ (own : Bool). Fits own (face_of open_now.sessions entry.session) (going entry.session)) (own_kind c is)
-        (rw (faces_opened (is_command entry.asked) (not (is_client entry.actor)) entry.session entry.session now) (known.fits entry.session)))
+      (rw (faces_opened (is_command entry.asked) (not (is_client entry.actor)) entry.session entry.session now) (known.fits entry.session)))
 
   face_busy : (number : ℕ) (state : State) → is_busy number state ≡ (face_of state.sessions number).busy
   face_busy number state = by (session_of number state.sessions) where
@@ -229,13 +229,13 @@ module _ (plan : PlanData) (whole journal : List Entry) (entry : Entry) (going :
       ap (λ (own : Bool). fate_if own (scene_of plan whole) open_now entry.session entry.asked entry.side entry.answer entry.missed) (own_kind c is)
       ∙ ap (λ (b : Bool). client_fate entry.side b entry.asked (law.about open_now entry.session entry.asked) entry.answer entry.missed) (own_busy c is)
       ∙ ap (λ (asks : Option Request). client_fate entry.side (is_inside (client_at plan journal c).lines) entry.asked asks entry.answer entry.missed)
-        (about_here entry.asked (request_waiting journal (Client c)) (waits_here (no_command (client_at plan journal c) (asks_next c is)) ∙ ap (request_waiting journal) is))
+      (about_here entry.asked (request_waiting journal (Client c)) (waits_here (no_command (client_at plan journal c) (asks_next c is)) ∙ ap (request_waiting journal) is))
 
   own_alike : (c : ℕ) → entry.actor ≡ Client c → Alike c (client_at plan journal c) (became (client_at plan journal c) entry) fate_now (waits_behind entry.asked entry.answer (request_waiting journal (Client c)))
   own_alike c is =
       subst (λ (f : Fate). Alike c (client_at plan journal c) (became (client_at plan journal c) entry) f (waits_behind entry.asked entry.answer (request_waiting journal (Client c)))) (sym (own_fate c is))
       (client_alike c (client_at plan journal c) entry.side entry.asked entry.answer entry.missed (request_waiting journal (Client c)) (linked.lines c) (asks_next c is) (own_heard c is)
-        (λ b. ((own_fits c is).rests (sym (face_busy entry.session open_now) ∙ own_busy c is ∙ b)).1))
+      (λ b. ((own_fits c is).rests (sym (face_busy entry.session open_now) ∙ own_busy c is ∙ b)).1))
 
   -- A TURN OF THE TOOL
 
@@ -280,8 +280,10 @@ module _ (plan : PlanData) (whole journal : List Entry) (entry : Entry) (going :
     free c is (Held line lines held left some) (IsCut cut) = absurd (call_cut (sym asks ∙ cut)) where
       call_cut : Call request ≡ Cut → ⊥
       call_cut same = cc
+
     own : (c : ℕ) → entry.actor ≡ Client c → waiting_of entry.session open_now.waiting ≡ None
     own c is = free c is (own_line c is) (asks_next c is)
+
     tool : is_client entry.actor ≡ false → IsAway plan journal entry → waiting_of entry.session open_now.waiting ≡ None
     tool no_client away = ap (waiting_of entry.session) opened_waiting ∙ none_waits entry.session now.waiting (subst (λ (a : Asked). AsksIdle now entry.session a) asks away.idle)
 
@@ -306,6 +308,7 @@ module _ (plan : PlanData) (whole journal : List Entry) (entry : Entry) (going :
         subst (λ (b : Actor). request_of (waiting_of n (after_entry now entry).waiting) ≡ waits_in b (request_waiting journal b) entry) (sym same)
         (ap (λ (m : ℕ). request_of (waiting_of m (after_entry now entry).waiting)) is ∙ waits_now call
         ∙ sym (ap (λ (b : Bool). cond b (waits_behind entry.asked entry.answer (request_waiting journal entry.actor)) (request_waiting journal entry.actor)) (same_actor_itself entry.actor)))
+
     there : same_actor entry.actor a ≡ false → live_session journal a ≡ Some n → request_of (waiting_of n (after_entry now entry).waiting) ≡ waits_in a (request_waiting journal a) entry
     there differ old = ap request_of (other_waits n (others_differ journal entry linked.seats known.placed a n differ old)) ∙ linked.waiting a n old ∙ sym (ap (λ (b : Bool). cond b (waits_behind entry.asked entry.answer (request_waiting journal a)) (request_waiting journal a)) differ)
 
@@ -357,7 +360,7 @@ module _ (plan : PlanData) (whole journal : List Entry) (entry : Entry) (going :
   closed_after : (c : ℕ) → live_session more (Client c) ≡ None → going_of (client_at plan more c) ≡ not_going
   closed_after c none = none_cases (Client c) (going_of (client_at plan more c) ≡ not_going) none
       (λ same left. let is : entry.actor ≡ Client c = same_actor_is entry.actor (Client c) same in
-        ap going_of (client_same c is) ∙ client_gone (client_at plan journal c) entry.side entry.asked entry.answer entry.missed (request_waiting journal (Client c)) entry.session (linked.lines c) (asks_next c is) (own_heard c is) left)
+      ap going_of (client_same c is) ∙ client_gone (client_at plan journal c) entry.side entry.asked entry.answer entry.missed (request_waiting journal (Client c)) entry.session (linked.lines c) (asks_next c is) (own_heard c is) left)
       (λ differ old. ap going_of (client_other c differ) ∙ linked.closed c old)
 
   same_cases : (c : ℕ) (P : Type 0) → (entry.actor ≡ Client c → P) → (same_actor entry.actor (Client c) ≡ false → P) → P
@@ -370,8 +373,10 @@ module _ (plan : PlanData) (whole journal : List Entry) (entry : Entry) (going :
   lines_after c = same_cases c (LineWaits (client_at plan more c) (request_waiting more (Client c))) here there where
     waits_is : (b : Bool) → same_actor entry.actor (Client c) ≡ b → request_waiting more (Client c) ≡ cond b (waits_behind entry.asked entry.answer (request_waiting journal (Client c))) (request_waiting journal (Client c))
     waits_is b is = waiting_more journal entry (Client c) ∙ ap (λ (b : Bool). cond b (waits_behind entry.asked entry.answer (request_waiting journal (Client c))) (request_waiting journal (Client c))) is
+
     here : entry.actor ≡ Client c → LineWaits (client_at plan more c) (request_waiting more (Client c))
     here is = rw (client_same c is, waits_is true (ap (λ (a : Actor). same_actor a (Client c)) is ∙ same_number c)) (own_alike c is).waits
+
     there : same_actor entry.actor (Client c) ≡ false → LineWaits (client_at plan more c) (request_waiting more (Client c))
     there differ = rw (client_other c differ, waits_is false differ) (linked.lines c)
 
@@ -422,15 +427,18 @@ module _ (plan : PlanData) (whole journal : List Entry) (entry : Entry) (going :
   tool_told Cut asks g =
       ap (λ (t : Option Answer). happens (fate_renamed (renames_away plan.table (histories.about journal entry)) t) g) lost_told ∙ never (renames_away plan.table (histories.about journal entry))
       ∙ ap (λ (a : Asked). map plain (alters plan (histories.about journal entry) (told_in a entry.side entry.answer entry.missed))) (sym asks) where
-    no_side : entry.side ≡ None
-    no_side = known.sides (ap may_lose asks)
-    lost : entry.answer ≡ answers.Lost
-    lost = known.answer ∙ ap (λ (s : Option Side). answer_at s (inner now entry)) no_side ∙ ap (λ (a : Asked). (serves open_now entry.session a).answer) asks
-    lost_told : told_at entry.side entry.answer entry.missed ≡ Some answers.Lost
-    lost_told = ap (λ (s : Option Side). told_at s entry.answer entry.missed) no_side ∙ ap Some lost
-    never : (b : Bool) → happens (fate_renamed b (Some answers.Lost)) g ≡ []
-    never true = refl
-    never false = refl
+        no_side : entry.side ≡ None
+        no_side = known.sides (ap may_lose asks)
+
+        lost : entry.answer ≡ answers.Lost
+        lost = known.answer ∙ ap (λ (s : Option Side). answer_at s (inner now entry)) no_side ∙ ap (λ (a : Asked). (serves open_now entry.session a).answer) asks
+
+        lost_told : told_at entry.side entry.answer entry.missed ≡ Some answers.Lost
+        lost_told = ap (λ (s : Option Side). told_at s entry.answer entry.missed) no_side ∙ ap Some lost
+
+        never : (b : Bool) → happens (fate_renamed b (Some answers.Lost)) g ≡ []
+        never true = refl
+        never false = refl
   tool_told (Call request) asks g = called_told (not_cut (Call request) asks refl) g
   tool_told Poll asks g = called_told (not_cut Poll asks refl) g
   tool_told (Command word) asks g = called_told (not_cut (Command word) asks refl) g
@@ -444,6 +452,7 @@ module _ (plan : PlanData) (whole journal : List Entry) (entry : Entry) (going :
   adds_same = by_actor (happens fate_now (going entry.session) ≡ map plain (adds plan journal entry entry.actor)) own tool where
     own : (c : ℕ) → entry.actor ≡ Client c → happens fate_now (going entry.session) ≡ map plain (adds plan journal entry entry.actor)
     own c is = ap (happens fate_now) (going_here c is) ∙ (own_alike c is).items ∙ ap (λ (a : Actor). map plain (adds plan journal entry a)) (sym is)
+
     tool : is_client entry.actor ≡ false → IsAway plan journal entry → happens fate_now (going entry.session) ≡ map plain (adds plan journal entry entry.actor)
     tool no_client away =
         ap (λ (own : Bool). happens (fate_if own (scene_of plan whole) open_now entry.session entry.asked entry.side entry.answer entry.missed) (going entry.session)) (tool_kind no_client)
@@ -486,8 +495,8 @@ module _ (plan : PlanData) (whole journal : List Entry) (entry : Entry) (going :
     by (Calls line lines free left also) =
         subst (λ (r : Request). ClientAsks (scene_of plan whole) r) (call_same (sym also ∙ asks))
         (subst (λ (w : Option ScriptWord). LineOf (scene_of plan whole) w) (sym (word_back line.word)) (subst (AllByRecursion (λ line. NamesTable (client_names plan) line.word)) left (linked.named c)).0) where
-      call_same : Call (word_asks line.word) ≡ Call request → word_asks line.word ≡ request
-      call_same same = cc
+          call_same : Call (word_asks line.word) ≡ Call request → word_asks line.word ≡ request
+          call_same same = cc
     by (Polls held polled) = absurd (call_poll (sym asks ∙ polled)) where
       call_poll : Call request ≡ Poll → ⊥
       call_poll same = cc
@@ -530,8 +539,10 @@ module _ (plan : PlanData) (whole journal : List Entry) (entry : Entry) (going :
   no_cut_told cut told = lost_ok (sym lost_told ∙ told) where
     no_side : entry.side ≡ None
     no_side = known.sides (ap may_lose cut)
+
     lost_told : told_at entry.side entry.answer entry.missed ≡ Some answers.Lost
     lost_told = ap (λ (s : Option Side). told_at s entry.answer entry.missed) no_side ∙ ap Some (known.answer ∙ ap (λ (s : Option Side). answer_at s (inner now entry)) no_side ∙ ap (λ (a : Asked). (serves open_now entry.session a).answer) cut)
+
     lost_ok : Some answers.Lost ≡ Some ok → ⊥
     lost_ok same = cc
 

@@ -128,9 +128,9 @@ rename_moves (pair ∷ pairs) tables after is = at (has_table pair.new tables) (
       let moved = rest is in
       record {
         others = λ name off.
-          let one : bytes_eq name pair.old ≡ false = or_first (bytes_eq name pair.old) (bytes_eq name pair.new || list_any (bytes_eq name) (pair_names pairs)) off in
-          let more = or_rest (bytes_eq name pair.old) (bytes_eq name pair.new || list_any (bytes_eq name) (pair_names pairs)) off in
-          let two : bytes_eq name pair.new ≡ false = or_first (bytes_eq name pair.new) (list_any (bytes_eq name) (pair_names pairs)) more in
-          moved.others name (or_rest (bytes_eq name pair.new) (list_any (bytes_eq name) (pair_names pairs)) more) ∙ renamed_other pair.old pair.new name tables one two;
+            let one : bytes_eq name pair.old ≡ false = or_first (bytes_eq name pair.old) (bytes_eq name pair.new || list_any (bytes_eq name) (pair_names pairs)) off in
+            let more = or_rest (bytes_eq name pair.old) (bytes_eq name pair.new || list_any (bytes_eq name) (pair_names pairs)) off in
+            let two : bytes_eq name pair.new ≡ false = or_first (bytes_eq name pair.new) (list_any (bytes_eq name) (pair_names pairs)) more in
+            moved.others name (or_rest (bytes_eq name pair.new) (list_any (bytes_eq name) (pair_names pairs)) more) ∙ renamed_other pair.old pair.new name tables one two;
         orderly = λ all. moved.orderly (renamed_orderly pair.old pair.new tables none all);
       }

@@ -81,15 +81,19 @@ held_with number change (first ∷ sessions) added grows one is = at (first.numb
   front : (more : List grants.HeldName) → IsHeld one (as_held first.number first.names) ⊎ IsHeld one (as_held number added) → IsHeld one (as_held first.number first.names ++ more) ⊎ IsHeld one (as_held number added)
   front more (inl here) = inl (held_left one (as_held first.number first.names) more here)
   front more (inr new) = inr new
+
   behind : IsHeld one (names_held sessions) ⊎ IsHeld one (as_held number added) → IsHeld one (names_held (first ∷ sessions)) ⊎ IsHeld one (as_held number added)
   behind (inl there) = inl (held_right one (as_held first.number first.names) (names_held sessions) there)
   behind (inr new) = inr new
+
   changed : (first.number == number) ≡ true → IsHeld one (as_held (change first).number (change first).names) ⊎ IsHeld one (names_held sessions) → IsHeld one (names_held (first ∷ sessions)) ⊎ IsHeld one (as_held number added)
   changed here (inl mine) = front (names_held sessions) (grows first here one mine)
   changed here (inr rest) = behind (inl rest)
+
   passed : IsHeld one (as_held first.number first.names) ⊎ IsHeld one (names_held (with_session number change sessions)) → (IsHeld one (names_held (with_session number change sessions)) → IsHeld one (names_held sessions) ⊎ IsHeld one (as_held number added)) → IsHeld one (names_held (first ∷ sessions)) ⊎ IsHeld one (as_held number added)
   passed (inl mine) rest = front (names_held sessions) (inl mine)
   passed (inr more) rest = behind (rest more)
+
   at : (b : Bool) → (first.number == number) ≡ b → IsHeld one (names_held (cond b (change first ∷ sessions) (first ∷ with_session number change sessions))) → (IsHeld one (names_held (with_session number change sessions)) → IsHeld one (names_held sessions) ⊎ IsHeld one (as_held number added)) → IsHeld one (names_held (first ∷ sessions)) ⊎ IsHeld one (as_held number added)
   at true here is rest = changed here (held_parts one (as_held (change first).number (change first).names) (names_held sessions) is)
   at false here is rest = passed (held_parts one (as_held first.number first.names) (names_held (with_session number change sessions)) is) rest
@@ -154,17 +158,17 @@ pub one_goes : (number : ℕ) (need : Need) (events : _) (sessions : List Sessio
 one_goes number need events sessions is free =
     one_more (names_held sessions) (names_held (with_session number (holding need events) sessions)) number (map shared need.names) is
     (held_with number (holding need events) sessions (map shared need.names) (λ s here one held. at s here one (both_among s.number s.names (map shared need.names) one held))) free where
-  at : (s : Session) → (s.number == number) ≡ true → (one : grants.HeldName) → IsHeld one (as_held s.number s.names) ⊎ IsHeld one (as_held s.number (map shared need.names)) → IsHeld one (as_held s.number s.names) ⊎ IsHeld one (as_held number (map shared need.names))
-  at s here one (inl old) = inl old
-  at s here one (inr new) = inr (at_number number s (map shared need.names) one here new)
+      at : (s : Session) → (s.number == number) ≡ true → (one : grants.HeldName) → IsHeld one (as_held s.number s.names) ⊎ IsHeld one (as_held s.number (map shared need.names)) → IsHeld one (as_held s.number s.names) ⊎ IsHeld one (as_held number (map shared need.names))
+      at s here one (inl old) = inl old
+      at s here one (inr new) = inr (at_number number s (map shared need.names) one here new)
 
 pub one_locks : (number : ℕ) (names : List (List ℕ)) (sessions : List Session) → OneIn sessions → Free (names_held sessions) number (map exclusive names) → OneIn (with_session number (locking names) sessions)
 one_locks number names sessions is free =
     one_more (names_held sessions) (names_held (with_session number (locking names) sessions)) number (map exclusive names) is
     (held_with number (locking names) sessions (map exclusive names) (λ s here one held. at s here one (both_among s.number s.names (map exclusive names) one held))) free where
-  at : (s : Session) → (s.number == number) ≡ true → (one : grants.HeldName) → IsHeld one (as_held s.number s.names) ⊎ IsHeld one (as_held s.number (map exclusive names)) → IsHeld one (as_held s.number s.names) ⊎ IsHeld one (as_held number (map exclusive names))
-  at s here one (inl old) = inl old
-  at s here one (inr new) = inr (at_number number s (map exclusive names) one here new)
+      at : (s : Session) → (s.number == number) ≡ true → (one : grants.HeldName) → IsHeld one (as_held s.number s.names) ⊎ IsHeld one (as_held s.number (map exclusive names)) → IsHeld one (as_held s.number s.names) ⊎ IsHeld one (as_held number (map exclusive names))
+      at s here one (inl old) = inl old
+      at s here one (inr new) = inr (at_number number s (map exclusive names) one here new)
 
 pub one_unlocks : (number : ℕ) (sessions : List Session) → OneIn sessions → OneIn (with_session number unlocking sessions)
 one_unlocks number sessions is =
@@ -176,9 +180,11 @@ held_less test [] one is = is
 held_less test (first ∷ sessions) one is = at (test first) is (held_less test sessions one) where
   behind : IsHeld one (names_held sessions) → IsHeld one (names_held (first ∷ sessions))
   behind there = held_right one (as_held first.number first.names) (names_held sessions) there
+
   parts : IsHeld one (as_held first.number first.names) ⊎ IsHeld one (names_held (filter test sessions)) → (IsHeld one (names_held (filter test sessions)) → IsHeld one (names_held sessions)) → IsHeld one (names_held (first ∷ sessions))
   parts (inl here) rest = held_left one (as_held first.number first.names) (names_held sessions) here
   parts (inr more) rest = behind (rest more)
+
   at : (b : Bool) → IsHeld one (names_held (cond b (first ∷ filter test sessions) (filter test sessions))) → (IsHeld one (names_held (filter test sessions)) → IsHeld one (names_held sessions)) → IsHeld one (names_held (first ∷ sessions))
   at true is rest = parts (held_parts one (as_held first.number first.names) (names_held (filter test sessions)) is) rest
   at false is rest = behind (rest is)
@@ -216,10 +222,10 @@ unfolding least_holder
 holder_off [] number name asked other none is differ may = absurd is
 holder_off (h ∷ held) number name asked other none is differ may =
     at is (none_of (holding_session number name asked h) (least_holder held number name asked) none) (λ left more. holder_off held number name asked other left more differ may) where
-  at : IsHeld other (h ∷ held) → (holding_session number name asked h ≡ None) × (least_holder held number name asked ≡ None) → (least_holder held number name asked ≡ None → IsHeld other held → bytes_eq other.name name ≡ false) → bytes_eq other.name name ≡ false
-  at (inl same) both rest = subst (λ (x : grants.HeldName). bytes_eq x.name name ≡ false) (sym same)
-      (not_on (h.session == number) (bytes_eq h.name name) h.exclusive asked h.session both.0 (ap (λ (x : grants.HeldName). x.session == number) (sym same) ∙ differ) (ap (λ (x : grants.HeldName). x.exclusive || not asked) (sym same) ∙ may))
-  at (inr more) both rest = rest both.1 more
+      at : IsHeld other (h ∷ held) → (holding_session number name asked h ≡ None) × (least_holder held number name asked ≡ None) → (least_holder held number name asked ≡ None → IsHeld other held → bytes_eq other.name name ≡ false) → bytes_eq other.name name ≡ false
+      at (inl same) both rest = subst (λ (x : grants.HeldName). bytes_eq x.name name ≡ false) (sym same)
+          (not_on (h.session == number) (bytes_eq h.name name) h.exclusive asked h.session both.0 (ap (λ (x : grants.HeldName). x.session == number) (sym same) ∙ differ) (ap (λ (x : grants.HeldName). x.exclusive || not asked) (sym same) ∙ may))
+      at (inr more) both rest = rest both.1 more
 
 pub record Holder (held : List grants.HeldName) (number : ℕ) (name : List ℕ) : Type 0 where
   pub one : grants.HeldName
@@ -234,6 +240,7 @@ holder_from [] number name is = absurd (false≢true is)
 holder_from (h ∷ held) number name is = at (h.session == number) (bytes_eq h.name name) h.exclusive refl refl refl is (holder_from held number name) where
   deeper : Holder held number name → Holder (h ∷ held) number name
   deeper there = record { one = there.one; is = inr there.is; own = there.own; exclusive = there.exclusive; same = there.same }
+
   at : (a b c : Bool) → (h.session == number) ≡ a → bytes_eq h.name name ≡ b → h.exclusive ≡ c → ((a && (b && (c || false))) || holds held number name true) ≡ true → (holds held number name true ≡ true → Holder held number name) → Holder (h ∷ held) number name
   at true true true one two three is rest = record { one = h; is = inl refl; own = one; exclusive = three; same = two }
   at true true false one two three is rest = deeper (rest is)
@@ -249,6 +256,7 @@ name_free held waiting number true name other is none there differ may = at (hol
   any : (b : Bool) → (b || true) ≡ true
   any true = refl
   any false = refl
+
   at : (b : Bool) → holds held number name true ≡ b → cond b None (grants.least (least_holder held number name false) (least_waiter (ahead_of number waiting) number name)) ≡ None → bytes_eq other.name name ≡ false
   at true own none =
       let mine : Holder held number name = holder_from held number name own in
@@ -265,6 +273,7 @@ granted_free held waiting number asked [] is none new other p q differ may = abs
 granted_free held waiting number asked (name ∷ names) is none new other p q differ may = by asked p (none_of (refuser_of_name held waiting number name asked) (refuser_of_names held waiting number asked names) none) (granted_free held waiting number asked names is) where
   free : (b : Bool) → refuser_of_name held waiting number name b ≡ None → (b || other.exclusive) ≡ true → bytes_eq other.name name ≡ false
   free b one may = name_free held waiting number b name other is one q differ may
+
   by : (b : Bool) → IsHeld new (as_held number (as_needed b (name ∷ names))) → (refuser_of_name held waiting number name b ≡ None) × (refuser_of_names held waiting number b names ≡ None) → (refuser_of_names held waiting number b names ≡ None → Free held number (as_needed b names)) → bytes_eq other.name new.name ≡ false
   by true (inl same) both rest = subst (λ (x : grants.HeldName). bytes_eq other.name x.name ≡ false) (sym same) (free true both.0 refl)
   by true (inr more) both rest = rest both.1 new other more q differ may
@@ -283,10 +292,12 @@ own_holding number [] name is = absurd (false≢true is)
 own_holding number (h ∷ held) name is = at (not h.exclusive) is (own_holding number held name) where
   deeper : (one : grants.HeldName) × IsHeld one (as_held number held) × (one.session ≡ number) × (bytes_eq name one.name ≡ true) → (one : grants.HeldName) × IsHeld one (as_held number (h ∷ held)) × (one.session ≡ number) × (bytes_eq name one.name ≡ true)
   deeper there = (there.0, inr there.1, there.2, there.3)
+
   here : (b : Bool) → bytes_eq name h.name ≡ b → (b || list_any (bytes_eq name) (names_of (shared_names held))) ≡ true → (list_any (bytes_eq name) (names_of (shared_names held)) ≡ true → (one : grants.HeldName) × IsHeld one (as_held number held) × (one.session ≡ number) × (bytes_eq name one.name ≡ true))
       → (one : grants.HeldName) × IsHeld one (as_held number (h ∷ held)) × (one.session ≡ number) × (bytes_eq name one.name ≡ true)
   here true same is rest = (name_held number h, inl refl, refl, same)
   here false same is rest = deeper (rest is)
+
   at : (b : Bool) → list_any (bytes_eq name) (names_of (cond b (h ∷ shared_names held) (shared_names held))) ≡ true → (list_any (bytes_eq name) (names_of (shared_names held)) ≡ true → (one : grants.HeldName) × IsHeld one (as_held number held) × (one.session ≡ number) × (bytes_eq name one.name ≡ true))
       → (one : grants.HeldName) × IsHeld one (as_held number (h ∷ held)) × (one.session ≡ number) × (bytes_eq name one.name ≡ true)
   at true is rest = here (bytes_eq name h.name) refl is rest

@@ -15,13 +15,12 @@ use Rattle.script_text.specs.declared.script.ScriptWord.{ScriptWord}
 use Rattle.script_text.specs.declared.script.ScriptWord.TheVariants as words
 use Rattle.plain_server.specs.Alone.{Ran, outcome_if, alone, stays, lines_run, nothing_ran}
 use Rattle.plain_server.specs.Jobs.{change_table, after_events}
-use Rattle.changelog_table.specs.ToolNames as tool_names
 use Rattle.changelog_table.specs.ToolNames.{is_tool_name, ghost_name, log_name, old_name}
 use Rattle.plan_words.specs.PlanData.{PlanData}
 use Rattle.journal_words.specs.Clients.{script_of}
 use Rattle.journal_words.specs.Serials as serials
 use Rattle.std.proofs.Common.{append_assoc, append-nil}
-use Rattle.history_laws.specs.Scenes.{PlainItem, Txn, Alter, Stored, Scene, is_mine, NamesTable, Alike, Leads, Serial, tables_left}
+use Rattle.history_laws.specs.Scenes.{PlainItem, Txn, Alter, Stored, Scene, is_mine, NamesTable, Leads, Serial, tables_left}
 use Rattle.history_laws.specs.Plans.{client_tables, names_of, script_names, client_names, IsSerialPlan}
 use Rattle.statement_laws.proofs.Points.{are_same, same_bytes}
 
@@ -45,9 +44,11 @@ filter_has test name (first ∷ names) is passes = at (bytes_eq name first) refl
   keep : (b : Bool) → b ≡ true → bytes_eq name first ≡ true → list_any (bytes_eq name) (cond b (first ∷ filter test names) (filter test names)) ≡ true
   keep true b same = or_left (bytes_eq name first) (list_any (bytes_eq name) (filter test names)) same
   keep false b same = absurd (false≢true b)
+
   skip : (b : Bool) → list_any (bytes_eq name) (filter test names) ≡ true → list_any (bytes_eq name) (cond b (first ∷ filter test names) (filter test names)) ≡ true
   skip true rest = or_right (bytes_eq name first) (list_any (bytes_eq name) (filter test names)) rest
   skip false rest = rest
+
   at : (b : Bool) → bytes_eq name first ≡ b → (b || list_any (bytes_eq name) names) ≡ true → (list_any (bytes_eq name) names ≡ true → test name ≡ true → list_any (bytes_eq name) (filter test names) ≡ true)
       → list_any (bytes_eq name) (cond (test first) (first ∷ filter test names) (filter test names)) ≡ true
   at true same is rest = keep (test first) (ap test (sym (are_same name first same)) ∙ passes) same
@@ -88,6 +89,7 @@ lines_in (line ∷ lines) all is = (first_part (names_of line.word) (flat_map (�
   first_part : (a b : List (List ℕ)) → IsIn (a ++ b) all → IsIn a all
   first_part [] b is = tt
   first_part (name ∷ a) b is = (is.0, first_part a b is.1)
+
   second_part : (a b : List (List ℕ)) → IsIn (a ++ b) all → IsIn b all
   second_part [] b is = is
   second_part (name ∷ a) b is = second_part a b is.1
@@ -97,8 +99,8 @@ scripts_in [] i script is = absurd (cc)
 scripts_in (first ∷ scripts) zero script is =
     subst (λ (s : List ScriptLine). IsIn (flat_map (λ line. names_of line.word) s) (flat_map (λ script. flat_map (λ line. names_of line.word) script) (first ∷ scripts))) (some_same is)
     (in_front (flat_map (λ line. names_of line.word) first) (flat_map (λ line. names_of line.word) first) (flat_map (λ script. flat_map (λ line. names_of line.word) script) scripts) (in_itself (flat_map (λ line. names_of line.word) first))) where
-  some_same : Some first ≡ Some script → first ≡ script
-  some_same same = cc
+      some_same : Some first ≡ Some script → first ≡ script
+      some_same same = cc
 scripts_in (first ∷ scripts) (suc i) script is = behind (flat_map (λ line. names_of line.word) script) (flat_map (λ line. names_of line.word) first) (flat_map (λ script. flat_map (λ line. names_of line.word) script) scripts) (scripts_in scripts i script is)
 
 word_named : (plan : PlanData) (word : ScriptWord) → IsIn (names_of word) (script_names plan) → NamesTable (client_names plan) word
@@ -117,9 +119,11 @@ unfolding script_names
 script_lines plan c = at (c == 0) where
   scripts_all : (script : List ScriptLine) → slice_get plan.clients (c - 1) ≡ Some script → AllByRecursion (λ line. NamesTable (client_names plan) line.word) script
   scripts_all script is = each_named plan script (lines_in script (script_names plan) (scripts_in plan.clients (c - 1) script is))
+
   found : (some : Option (List ScriptLine)) → slice_get plan.clients (c - 1) ≡ some → AllByRecursion (λ line. NamesTable (client_names plan) line.word) (unwrap_or some [])
   found None is = tt
   found (Some script) is = scripts_all script is
+
   at : (b : Bool) → AllByRecursion (λ line. NamesTable (client_names plan) line.word) (unwrap_or (cond b None (slice_get plan.clients (c - 1))) [])
   at true = tt
   at false = found (slice_get plan.clients (c - 1)) refl
@@ -224,6 +228,7 @@ pub extras_serial : (plan : PlanData) (scene : Scene) (before : Stored) (items :
 extras_serial plan scene before items after mine serial none = each (extra_names plan) (extras_named plan) none where
   one : (name : List ℕ) → list_any (bytes_eq name) (client_names plan) ≡ true → find_table name before.tables ≡ None → find_table name after.tables ≡ None
   one name named missing = none_serial scene before items after name (ap (list_any (bytes_eq name)) mine ∙ named) serial missing
+
   each : (names : List (List ℕ)) → IsIn names (client_names plan) → AllByRecursion (λ name. find_table name before.tables ≡ None) names → AllByRecursion (λ name. find_table name after.tables ≡ None) names
   each [] named missing = tt
   each (name ∷ names) named missing = (one name named.0 missing.0, each names named.1 missing.1)

@@ -1,20 +1,16 @@
 -- *Journals are serial*: of every plan, in the journal's own words.
-use Rattle.std.proofs.Common.{◌≡◌, ◌≤◌, ℕ, Bool, true, false, List, [], ◌∷◌, ◌++◌, map, Option, Some, None, refl, sym, ap, ◌∙◌, subst}
+use Rattle.std.proofs.Common.{◌≡◌, ℕ, false, List, [], ◌∷◌, ◌++◌, map, Option, Some, None, refl, sym, ap, ◌∙◌, subst}
 use Rattle.std.proofs.Common.{append_assoc, append-nil}
-use Rattle.std.specs.Prelude.{count_by, option_map}
+use Rattle.std.specs.Prelude.{option_map}
 use Rattle.std.specs.List.{AllByRecursion}
-use Rattle.row_store.specs.Databases.{TableRows, Database, find_table, with_change}
-use Rattle.script_text.specs.declared.actor.Actor.{Actor}
+use Rattle.row_store.specs.Databases.{TableRows, Database, with_change}
 use Rattle.script_text.specs.declared.actor.Actor.TheVariants.{Client}
 use Rattle.plain_server.specs.Along.{Along, gathered-more}
 use Rattle.plain_server.specs.declared.entry.Entry.{Entry}
-use Rattle.plain_server.specs.declared.session.Limits.{Limits}
-use Rattle.plain_server.specs.Entries.{is_command, is_client}
-use Rattle.plain_server.specs.Alone.{alone, lines_run, nothing_ran, Ran}
+use Rattle.plain_server.specs.Alone.{lines_run, nothing_ran}
 use Rattle.plain_server.specs.States.{opened}
 use Rattle.plan_words.specs.PlanData.{PlanData}
-use Rattle.journal_words.specs.Altering.{plan_altered_table}
-use Rattle.journal_words.specs.Journals.{state_behind, state_at, IsAnswered, IsFaithful}
+use Rattle.journal_words.specs.Journals.{state_behind, state_at, IsAnswered}
 use Rattle.journal_words.specs.Sessions.{live_session, IsSeated, KeepsSessions}
 use Rattle.journal_words.specs.Clients.{client_at}
 use Rattle.journal_words.specs.Keeping.{IsPlanned, KeepsPlan}
@@ -22,15 +18,14 @@ use Rattle.journal_words.specs.Histories as histories
 use Rattle.journal_words.specs.Histories.{HistoryItem, request_waiting}
 use Rattle.journal_words.specs.Serials as serials
 use Rattle.journal_words.specs.Serials.{altered_in, altered_database, IsSerial}
-use Rattle.history_laws.specs.Scenes.{PlainItem, Txn, Alter, Scene, Stored, Going, not_going, tables_left, SerialHistory, seen, left}
-use Rattle.history_laws.specs.Turns.{scene_state, goings_at, goings_from, entry_adds, history, IsTold, IsAllowed}
-use Rattle.history_laws.specs.Holdings.{face_of, stored}
+use Rattle.history_laws.specs.Scenes.{PlainItem, Scene, Going, not_going, tables_left, seen, left}
+use Rattle.history_laws.specs.Turns.{goings_at, goings_from, entry_adds, history, IsAllowed}
+use Rattle.history_laws.specs.Holdings.{stored}
 use Rattle.history_laws.specs.Laws.{SceneSerial, PlanRunsAreSceneRuns, JournalsAreSerial}
 use Rattle.history_laws.specs.Plans.{client_names, is_client_session, limits_of, scene_of, KeepsAway, IsSerialPlan, IsPlanRun}
-use Rattle.history_laws.proofs.Actors.{Placed, placed, seats_begin, Kinds, KindSo, all_kinds}
-use Rattle.history_laws.proofs.Journals.{JournalHolds, scene_serial, step, begins, state_more, goings_more, going_replies}
+use Rattle.history_laws.proofs.Actors.{placed, seats_begin, Kinds, KindSo, all_kinds}
+use Rattle.history_laws.proofs.Journals.{JournalHolds, scene_serial, step, begins, goings_more}
 use Rattle.history_laws.proofs.Joined.{faithful_told, told_answer, told_missed, SerialPlain, LeadsPlain, AltersAs, serial_plain}
-use Rattle.history_laws.proofs.Left.{serial_left}
 use Rattle.history_laws.proofs.Linking.{Linked, Known, linked_more, allowed_here}
 use Rattle.history_laws.proofs.Naming.{migrated_named, script_lines, extras_open, extras_serial, left_is}
 use Rattle.history_laws.proofs.Openings.{opening_orderly}
@@ -107,9 +102,10 @@ all_good plan whole before (entry ∷ journal) faithful planned seated away kind
 goes : (plan : PlanData) (whole before journal : List Entry) → is_client_session whole 0 ≡ false → Along (IsGood plan whole) before journal → PlanHolds plan whole before → PlanHolds plan whole (before ++ journal) × Along (IsAllowed (limits_of plan) (scene_of plan whole)) before journal
 goes plan whole before [] zero good is = (rw (append-nil before) is, tt)
 goes plan whole before (entry ∷ journal) zero good is =
-    let rest = goes plan whole (before ++ entry ∷ []) journal zero good.1 (plan_step plan whole before entry zero good.0 is) in
-    (subst (PlanHolds plan whole) (append_assoc before (entry ∷ []) journal) rest.0
-    , (allowed_here plan whole before entry (goings_at (limits_of plan) (scene_of plan whole) before) (history (limits_of plan) (scene_of plan whole) before) is.linked (known_of plan whole before entry zero good.0 is), rest.1))
+    let rest = goes plan whole (before ++ entry ∷ []) journal zero good.1 (plan_step plan whole before entry zero good.0 is) in (
+      subst (PlanHolds plan whole) (append_assoc before (entry ∷ []) journal) rest.0,
+      (allowed_here plan whole before entry (goings_at (limits_of plan) (scene_of plan whole) before) (history (limits_of plan) (scene_of plan whole) before) is.linked (known_of plan whole before entry zero good.0 is), rest.1),
+    )
 
 plan_goes : (plan : PlanData) (journal : List Entry) → IsPlanRun plan journal → PlanHolds plan journal journal × Along (IsAllowed (limits_of plan) (scene_of plan journal)) [] journal
 unfolding KeepsPlan KeepsSessions
@@ -148,6 +144,7 @@ unfolding lines_run
 going_words plan journal live going now closed runs law c = by (live c) refl where
   Replies : Going → Type 0
   Replies g = g.replies ≡ (lines_run now nothing_ran g.lines).replies
+
   by : (o : Option ℕ) → live c ≡ o → Replies (going_of (client_at plan journal c))
   by None none = subst Replies (sym (closed c none)) refl
   by (Some n) is = subst Replies (runs c n is) (sym (law n))
@@ -163,13 +160,13 @@ journals_are_serial plan journal run once =
     let now_left : tables_left (client_names plan) now ≡ serials.tables_left plan now = left_is plan now none in
     let law : SceneSerial (limits_of plan) scene journal = scene_serial (limits_of plan) scene journal (migrated_named plan) end.holds in
     let led : SerialPlain (altered_database plan) (tables_left (client_names plan) plan.tables) (map plain (histories.history plan journal)) (tables_left (client_names plan) now) =
-        subst (λ (items : List PlainItem). SerialPlain (altered_database plan) (tables_left (client_names plan) plan.tables) items (tables_left (client_names plan) now)) end.linked.items
-        (serial_plain scene (altered_database plan) (alters_as plan journal) (left scene (record { tables = plan.tables; log = [] })) (history (limits_of plan) scene journal) (left scene (stored (state_at plan journal))) law.ended) in
+    subst (λ (items : List PlainItem). SerialPlain (altered_database plan) (tables_left (client_names plan) plan.tables) items (tables_left (client_names plan) now)) end.linked.items
+    (serial_plain scene (altered_database plan) (alters_as plan journal) (left scene (record { tables = plan.tables; log = [] })) (history (limits_of plan) scene journal) (left scene (stored (state_at plan journal))) law.ended) in
     record {
       once = once;
       leads = serial_words plan (serials.tables_left plan plan.tables) (histories.history plan journal) (serials.tables_left plan now)
           (subst (λ (d : Database). SerialPlain (altered_database plan) (serials.tables_left plan plan.tables) (map plain (histories.history plan journal)) d) now_left
-            (subst (λ (d : Database). SerialPlain (altered_database plan) d (map plain (histories.history plan journal)) (tables_left (client_names plan) now)) open_left led));
+          (subst (λ (d : Database). SerialPlain (altered_database plan) d (map plain (histories.history plan journal)) (tables_left (client_names plan) now)) open_left led));
       going = subst (λ (d : Database). (c : ℕ) → (client_at plan journal c).replies ≡ (lines_run d nothing_ran (client_at plan journal c).lines).replies) now_left
           (going_words plan journal (λ c. live_session journal (Client c)) (goings_at (limits_of plan) scene journal) (tables_left (client_names plan) now) end.linked.closed end.linked.runs law.going);
     }

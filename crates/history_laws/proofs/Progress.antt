@@ -1,11 +1,11 @@
 -- What a client's turn does to its open transaction and adds to the history is the same by how far the client is in its
 -- script, and by what the server's state says of its session.
-use Rattle.std.proofs.Common.{◌≡◌, ℕ, Bool, true, false, List, [], ◌∷◌, ◌++◌, map, Option, Some, None, refl, sym, ap, ◌∙◌, subst}
+use Rattle.std.proofs.Common.{◌≡◌, ℕ, Bool, true, false, List, [], ◌∷◌, map, Option, Some, None, refl, sym, ap, ◌∙◌, subst}
 use Rattle.std.specs.Prelude.{option_to_list}
 use Rattle.std.specs.List.{AllByRecursion}
-use Rattle.std.proofs.lemmas.Bool.{false≢true, true≢false}
+use Rattle.std.proofs.lemmas.Bool.{true≢false}
 use Rattle.script_text.specs.declared.actor.Side.{Side}
-use Rattle.script_text.specs.declared.actor.Side.TheVariants.{Before, After}
+use Rattle.script_text.specs.declared.actor.Side.TheVariants.{Before}
 use Rattle.script_text.specs.declared.script.ScriptLine.{ScriptLine}
 use Rattle.script_text.specs.declared.script.ScriptWord.{ScriptWord}
 use Rattle.script_text.specs.declared.script.ScriptWord.TheVariants as words
@@ -20,9 +20,8 @@ use Rattle.plain_server.specs.declared.transaction.Reply.{Reply}
 use Rattle.plain_server.specs.declared.transaction.Reply.TheVariants as replies
 use Rattle.plain_server.specs.declared.transaction.TxnEnd.{TxnEnd}
 use Rattle.plain_server.specs.declared.transaction.TxnEnd.TheVariants as ends
-use Rattle.plain_server.specs.declared.transaction.TxnLine.{TxnLine}
 use Rattle.plain_server.specs.Alone.{reply_of}
-use Rattle.journal_words.specs.Clients.{Reached, Became, Nothing, Waits, Marked, Broken, became_of, was_done, lost_side, cut_off, became_in, is_inside, answered_ends, ends_with, closes, behind_transaction, left_behind, kept_unless, with_line, with_reply, marked, client_after, word_asks}
+use Rattle.journal_words.specs.Clients.{Reached, Became, Nothing, Waits, Marked, Broken, became_of, lost_side, cut_off, became_in, is_inside, answered_ends, ends_with, closes, behind_transaction, left_behind, kept_unless, with_line, with_reply, marked, client_after, word_asks}
 use Rattle.journal_words.specs.Histories as histories
 use Rattle.journal_words.specs.Histories.{HistoryItem, waits_behind, asked_about, ends_so, line_ends, breaks, client_ends}
 use Rattle.history_laws.specs.Scenes.{PlainItem, Txn, Alter, Going, not_going}

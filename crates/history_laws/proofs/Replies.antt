@@ -180,10 +180,10 @@ updates_reply schema sets (old ∷ met) rows =
     at (same_row old (with_sets sets old)) (clashes_besides schema (with_sets sets old) old rows) (updates schema sets met rows)
     (change_first (changes.Update old (with_sets sets old)) (updates schema sets met (change_rows (key_places schema) (changes.Update old (with_sets sets old)) rows)))
     (updates_reply schema sets met rows) (first_replies (changes.Update old (with_sets sets old)) (updates schema sets met (change_rows (key_places schema) (changes.Update old (with_sets sets old)) rows)) (updates_reply schema sets met (change_rows (key_places schema) (changes.Update old (with_sets sets old)) rows))) where
-  at : (same clashes : Bool) (r s : Result (List Change) Answer) → ErrReplies r → ErrReplies s → ErrReplies (cond same r (cond clashes (Err (refuses 1062)) s))
-  at true clashes r s one two = one
-  at false true r s one two = tt
-  at false false r s one two = two
+      at : (same clashes : Bool) (r s : Result (List Change) Answer) → ErrReplies r → ErrReplies s → ErrReplies (cond same r (cond clashes (Err (refuses 1062)) s))
+      at true clashes r s one two = one
+      at false true r s one two = tt
+      at false false r s one two = two
 
 told_replies : (r : Result (List Change) Answer) → ErrReplies r → IsReply (result_or_refusal r).answer
 told_replies (Ok all) is = tt

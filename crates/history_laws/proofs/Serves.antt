@@ -186,7 +186,7 @@ moved_left : (scene : Scene) (state : State) (number : ℕ) (going : ℕ → Goi
 moved_left scene state number going past work lost names tables rests others free moved =
     tool_redefines scene state number going past work tables false lost rests
     (rw (append-nil past) (serial-alike scene (record { tables = scene.opening; log = [] }) (seen scene (stored state)) (seen scene (record { tables = tables; log = state.log })) past work.holds.kept.serial
-      (record { tables = record { each = λ name mine. sym (moved.others name (not_among scene names name others mine)) }; log = refl })))
+    (record { tables = record { each = λ name mine. sym (moved.others name (not_among scene names name others mine)) }; log = refl })))
     (moved.orderly work.holds.kept.orderly) (others_found scene state number names tables free moved)
 
 -- the migrated table is altered
@@ -215,12 +215,14 @@ rename_left scene state number going past work lost pairs mine asks free away is
 rename_left scene state number going past work lost pairs mine asks free true is takes (Ok tables) result so = at asks where
   moved : Moved (pair_names pairs) state.tables tables
   moved = rename_moves pairs state.tables tables result
+
   never : (ps : List Pair) → takes_away scene.migrated ps ≡ true → AllOther scene (pair_names ps) → is_mine scene scene.migrated ≡ false
   never [] takes others = absurd (false≢true takes)
   never (pair ∷ ps) takes others = here (bytes_eq pair.old scene.migrated) refl takes (λ rest. never ps rest others.1.1) where
     here : (b : Bool) → bytes_eq pair.old scene.migrated ≡ b → (b || takes_away scene.migrated ps) ≡ true → (takes_away scene.migrated ps ≡ true → is_mine scene scene.migrated ≡ false) → is_mine scene scene.migrated ≡ false
     here true is takes more = ap (is_mine scene) (sym (are_same pair.old scene.migrated is)) ∙ others.0
     here false is takes more = more takes
+
   at : AllOther scene (pair_names pairs) ⊎ ((scene.exchanges ≡ true) × (takes_away scene.migrated pairs ≡ true)) → Left scene state number going past lost true (does (defined (renamed_or (Ok tables))) state number)
   at (inr both) = altered_left scene state number going past work lost (pair_names pairs) tables is both.0 (so refl both.0 takes tables result) free moved
   at (inl others) = absurd (false≢true (sym (never pairs takes others) ∙ mine))
@@ -258,16 +260,20 @@ within_left scene state number going past work lost (ChunkEnd table low top size
 within_left scene state number going past work lost (BeginSpan table span size) mine asks so free = at (find_table table state.tables) where
   need' : Need
   need' = need_within (view number state) (BeginSpan table span size)
+
   at : (found : Option TableRows) → Left scene state number going past lost false (does (begins found span size need') state number)
   at None = refused_left scene state number going past work lost false 1146
   at (Some t) = tool_goes_on scene state number going past work need' [] lost free.apart (quiet_fine scene state.tables (seat_in work.found) need' (own_fine scene state number going past work))
 within_left scene state number going past work lost (CopyRow from into columns key) mine asks so free = at (is_in_transaction (session_of number state.sessions)) where
   need' : Need
   need' = need_within (view number state) (CopyRow from into columns key)
+
   said' : StatementResult
   said' = job_says (view number state) (copy_job (view number state) from into columns key)
+
   fine : IsFine scene false state.tables (record { names = (seat_in work.found).names ++ need'.names; locks = (seat_in work.found).locks ++ need'.locks; writes = (seat_in work.found).writes ++ said'.events }) not_going
   fine = tool_copies scene state number going past work need' from into columns key (view number state) (seen_is scene state number going past work) asks refl refl free.apart
+
   at : (b : Bool) → Left scene state number going past lost false (does (result_deed b need' said') state number)
   at true = tool_goes_on scene state number going past work need' said'.events lost free.apart fine
   at false = tool_commits scene state number going past work need' said'.events lost free.apart fine

@@ -64,8 +64,10 @@ grown seat need events = record { names = seat.names ++ need.names; locks = seat
 -- nothing is written
 pub quiet_fine : (scene : Scene) (tables : Database) (seat : Seat) (need : Need) → IsFine scene false tables seat not_going → IsFine scene false tables (grown seat need []) not_going
 quiet_fine scene tables seat need fine = record {
-  lasting = record { each = λ other is agree. subst (λ (w : List RowEvent). IsOrderly (after_events other w)) (sym (append-nil seat.writes))
-      (fine.lasting.each other is (agree_within seat.names (seat.names ++ need.names) seat.locks (seat.locks ++ need.locks) tables other (names_left seat.names need.names) (within-left seat.locks seat.locks need.locks (within-itself seat.locks)) agree)) };
+  lasting = record {
+    each = λ other is agree. subst (λ (w : List RowEvent). IsOrderly (after_events other w)) (sym (append-nil seat.writes))
+        (fine.lasting.each other is (agree_within seat.names (seat.names ++ need.names) seat.locks (seat.locks ++ need.locks) tables other (names_left seat.names need.names) (within-left seat.locks seat.locks need.locks (within-itself seat.locks)) agree));
+  };
   covered = quiet_covered tables seat need.names need.locks fine.covered;
   named = mine_both scene false seat.writes [] fine.named tt;
   lines = tt;
@@ -166,10 +168,10 @@ pub tool_counts : (scene : Scene) (state : State) (number count : ℕ) (going : 
 unfolding loses
 tool_counts scene state number count going past work false state' tables log sessions =
     rw (tables, log, sessions) (tool_locks scene (stored state) (face_of state.sessions) (face_of (with_session number (counting count) state.sessions)) number going past (locked_names work.found.names) work.tool work.holds
-      (subst (λ (f : Face). Besides number (face_of state.sessions) (face_of (with_session number (counting count) state.sessions)) (record { seat = f.seat; locked = locked_names work.found.names; busy = f.busy })) (sym (ap face_in work.is)) (faces_with number (counting count) state.sessions work.found (λ s. refl) work.is)))
+    (subst (λ (f : Face). Besides number (face_of state.sessions) (face_of (with_session number (counting count) state.sessions)) (record { seat = f.seat; locked = locked_names work.found.names; busy = f.busy })) (sym (ap face_in work.is)) (faces_with number (counting count) state.sessions work.found (λ s. refl) work.is)))
 tool_counts scene state number count going past work true state' tables log sessions =
     rw (tables, log, sessions) (tool_rests scene (stored state) (face_of state.sessions) (face_of (filter (λ session. not (session.number == number)) (with_session number (counting count) state.sessions))) number going past [] work.tool work.holds
-      (gone_faces number (counting count) state.sessions work.found (λ s. refl) work.is))
+    (gone_faces number (counting count) state.sessions work.found (λ s. refl) work.is))
 
 -- it locks tables
 pub tool_locks_names : (scene : Scene) (state : State) (number : ℕ) (going : ℕ → Going) (past : List PlainItem) (work : ToolWork scene state number going past) (names : List (List ℕ)) (lost : Bool)
@@ -178,7 +180,7 @@ unfolding loses
 tool_locks_names scene state number going past work names false =
     tool_locks scene (stored state) (face_of state.sessions) (face_of (with_session number (locking names) state.sessions)) number going past (locked_names work.found.names ++ names) work.tool work.holds
     (subst (λ (f : Face). Besides number (face_of state.sessions) (face_of (with_session number (locking names) state.sessions)) (record { seat = f.seat; locked = locked_names work.found.names ++ names; busy = f.busy })) (sym (ap face_in work.is))
-      (subst (λ (f : Face). Besides number (face_of state.sessions) (face_of (with_session number (locking names) state.sessions)) f) (locking_face names work.found) (faces_with number (locking names) state.sessions work.found (λ s. refl) work.is)))
+    (subst (λ (f : Face). Besides number (face_of state.sessions) (face_of (with_session number (locking names) state.sessions)) f) (locking_face names work.found) (faces_with number (locking names) state.sessions work.found (λ s. refl) work.is)))
 tool_locks_names scene state number going past work names true =
     tool_rests scene (stored state) (face_of state.sessions) (face_of (filter (λ session. not (session.number == number)) (with_session number (locking names) state.sessions))) number going past [] work.tool work.holds (gone_faces number (locking names) state.sessions work.found (λ s. refl) work.is)
 
@@ -189,7 +191,7 @@ unfolding loses
 tool_unlocks_names scene state number going past work false =
     tool_locks scene (stored state) (face_of state.sessions) (face_of (with_session number unlocking state.sessions)) number going past [] work.tool work.holds
     (subst (λ (f : Face). Besides number (face_of state.sessions) (face_of (with_session number unlocking state.sessions)) (record { seat = f.seat; locked = []; busy = f.busy })) (sym (ap face_in work.is))
-      (subst (λ (f : Face). Besides number (face_of state.sessions) (face_of (with_session number unlocking state.sessions)) f) (unlocking_face work.found) (faces_with number unlocking state.sessions work.found (λ s. refl) work.is)))
+    (subst (λ (f : Face). Besides number (face_of state.sessions) (face_of (with_session number unlocking state.sessions)) f) (unlocking_face work.found) (faces_with number unlocking state.sessions work.found (λ s. refl) work.is)))
 tool_unlocks_names scene state number going past work true =
     tool_rests scene (stored state) (face_of state.sessions) (face_of (filter (λ session. not (session.number == number)) (with_session number unlocking state.sessions))) number going past [] work.tool work.holds (gone_faces number unlocking state.sessions work.found (λ s. refl) work.is)
 
@@ -201,12 +203,14 @@ pub tool_redefines : (scene : Scene) (state : State) (number : ℕ) (going : ℕ
 unfolding loses
 tool_redefines scene state number going past work tables alters false rests serial is others =
     tool_moves scene (stored state) (record { tables = tables; log = state.log }) (face_of state.sessions) (face_of state.sessions) number going past (locked_names work.found.names) alters work.tool work.holds (record { there = λ n differ. refl; here = ap face_in work.is ∙ none }) serial is others where
-  busy : work.found.in_transaction ≡ false
-  busy = sym (ap is_in_transaction work.is) ∙ rests
-  seat : seat_in work.found ≡ no_seat
-  seat = (subst (λ (f : Face). f.busy ≡ false → (f.seat ≡ no_seat) × (going number ≡ not_going)) (ap face_in work.is) (work.holds.fits number).rests busy).0
-  none : face_in (Some work.found) ≡ record { seat = no_seat; locked = locked_names work.found.names; busy = false }
-  none = ap (λ (s : Seat). let f : Face = record { seat = s; locked = locked_names work.found.names; busy = work.found.in_transaction } in f) seat ∙ ap (λ (b : Bool). let f : Face = record { seat = no_seat; locked = locked_names work.found.names; busy = b } in f) busy
+      busy : work.found.in_transaction ≡ false
+      busy = sym (ap is_in_transaction work.is) ∙ rests
+
+      seat : seat_in work.found ≡ no_seat
+      seat = (subst (λ (f : Face). f.busy ≡ false → (f.seat ≡ no_seat) × (going number ≡ not_going)) (ap face_in work.is) (work.holds.fits number).rests busy).0
+
+      none : face_in (Some work.found) ≡ record { seat = no_seat; locked = locked_names work.found.names; busy = false }
+      none = ap (λ (s : Seat). let f : Face = record { seat = s; locked = locked_names work.found.names; busy = work.found.in_transaction } in f) seat ∙ ap (λ (b : Bool). let f : Face = record { seat = no_seat; locked = locked_names work.found.names; busy = b } in f) busy
 tool_redefines scene state number going past work tables alters true rests serial is others =
     tool_moves scene (stored state) (record { tables = tables; log = state.log }) (face_of state.sessions) (face_of (filter (λ session. not (session.number == number)) state.sessions)) number going past [] alters work.tool work.holds (faces_without number state.sessions) serial is others
 
@@ -228,9 +232,11 @@ pub tool_do : (scene : Scene) (state : State) (number : ℕ) (going : ℕ → Go
 tool_do scene state number going past work statement seen same off apart busy lost = at busy where
   seat : Seat
   seat = seat_in work.found
+
   fine : IsFine scene false state.tables (grown seat (need_of_word seen (words.Do statement)) (says seen statement).events) not_going
   fine = rw same (task_fine scene state.tables seat (need_of_word (after_events state.tables work.found.writes) (words.Do statement)) (job_of statement) work.holds.kept.orderly (own_fine scene state number going past work)
       (statement_sound (after_events state.tables work.found.writes) statement ((own_fine scene state number going past work).lasting.each state.tables work.holds.kept.orderly (agree_itself seat.names seat.locks state.tables))) off (names_last2 seat.names (table_of statement)) refl)
+
   at : (b : Bool) → Turned scene (stored (final lost number (cond b (goes_on number (need_of_word seen (words.Do statement)) (says seen statement).events state) (commits number (says seen statement).events state))))
       (face_of (final lost number (cond b (goes_on number (need_of_word seen (words.Do statement)) (says seen statement).events state) (commits number (says seen statement).events state))).sessions) number Still going past
   at true = tool_goes_on scene state number going past work (need_of_word seen (words.Do statement)) (says seen statement).events lost apart fine
@@ -261,4 +267,4 @@ tool_copies scene state number going past work need from into columns key seen s
     let orderly = (own_fine scene state number going past work).lasting.each state.tables work.holds.kept.orderly (agree_itself seat.names seat.locks state.tables) in
     let locks_are : need.locks ≡ job_needs (after_events state.tables work.found.writes) (copy_job (after_events state.tables work.found.writes) from into columns key) = locks ∙ ap (λ (d : Database). job_needs d (copy_job d from into columns key)) same in
     rw same (task_fine scene state.tables seat need (copy_job (after_events state.tables work.found.writes) from into columns key) work.holds.kept.orderly (own_fine scene state number going past work)
-      (copies_sound (after_events state.tables work.found.writes) from into columns key orderly) off (rw names (names_two seat.names from into)) locks_are)
+    (copies_sound (after_events state.tables work.found.writes) from into columns key orderly) off (rw names (names_two seat.names from into)) locks_are)

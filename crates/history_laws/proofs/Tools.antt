@@ -32,10 +32,10 @@ pub safe_task : (names more : List (List ℕ)) (locks all : List Lock) (writes :
     → list_any (bytes_eq task.table) more ≡ true → Within (job_needs (after_events tables writes) task) all → IsSafe more all (writes ++ (job_says (after_events tables writes) task).events) tables
 safe_task names more locks all writes tables task safe orderly sound named within mine needed = record {
   each = λ other is agree.
-    let here : IsOrderly (after_events tables writes) = safe.each tables orderly (agree_itself names locks tables) in
-    let there : IsOrderly (after_events other writes) = safe.each other is (agree_within names more locks all tables other named within agree) in
-    let both = agree_events more all tables other writes agree in
-    let alike : SaysAlike task (after_events tables writes) (after_events other writes) = says_alike more all (after_events tables writes) (after_events other writes) task both mine needed here there in
-    let sound_there : TaskSound task (after_events other writes) = sound_alike task all (find_table task.table (after_events tables writes)) (find_table task.table (after_events other writes)) (both.tables task.table mine) sound in
-    rw (alike.said, after_events-append other writes (job_says (after_events other writes) task).events) (says_orderly (after_events other writes) task sound_there there)
+      let here : IsOrderly (after_events tables writes) = safe.each tables orderly (agree_itself names locks tables) in
+      let there : IsOrderly (after_events other writes) = safe.each other is (agree_within names more locks all tables other named within agree) in
+      let both = agree_events more all tables other writes agree in
+      let alike : SaysAlike task (after_events tables writes) (after_events other writes) = says_alike more all (after_events tables writes) (after_events other writes) task both mine needed here there in
+      let sound_there : TaskSound task (after_events other writes) = sound_alike task all (find_table task.table (after_events tables writes)) (find_table task.table (after_events other writes)) (both.tables task.table mine) sound in
+      rw (alike.said, after_events-append other writes (job_says (after_events other writes) task).events) (says_orderly (after_events other writes) task sound_there there);
 }

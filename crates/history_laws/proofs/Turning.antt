@@ -71,12 +71,13 @@ turned_adds scene now old new number going past own word got client holds faces 
       fits = fits_each scene number old new going (goings_after number (Adds word marks.Answered got) going) (record { seat = own; locked = []; busy = true }) (lines_after (going number) word marks.Answered got) faces lines
           (record { rests = λ is. absurd (true≢false is); goes = λ own is. some (going number).lines; answered = more (going number).lines (holds.fits number).answered; unended = never; tools = λ is. absurd (true≢false (sym client ∙ is)); unlocked = λ is. refl }) holds.fits;
     } where
-  some : (lines : List TxnLine) → (lines ++ record { word = word; mark = marks.Answered } ∷ []) ≢ []
-  some [] is = cc
-  some (line ∷ lines) is = cc
-  more : (lines : List TxnLine) → AllByRecursion (λ line. line.mark ≡ marks.Answered) lines → AllByRecursion (λ line. line.mark ≡ marks.Answered) (lines ++ record { word = word; mark = marks.Answered } ∷ [])
-  more [] all = (refl, tt)
-  more (line ∷ lines) all = (all.0, more lines all.1)
+      some : (lines : List TxnLine) → (lines ++ record { word = word; mark = marks.Answered } ∷ []) ≢ []
+      some [] is = cc
+      some (line ∷ lines) is = cc
+
+      more : (lines : List TxnLine) → AllByRecursion (λ line. line.mark ≡ marks.Answered) lines → AllByRecursion (λ line. line.mark ≡ marks.Answered) (lines ++ record { word = word; mark = marks.Answered } ∷ [])
+      more [] all = (refl, tt)
+      more (line ∷ lines) all = (all.0, more lines all.1)
 
 -- a last line
 pub turned_ends : (scene : Scene) (now after : Stored) (old new : ℕ → Face) (number : ℕ) (going : ℕ → Going) (past : List PlainItem) (own : Seat) (word : ScriptWord) (mark : Mark) (got : List Reply) (ended : TxnEnd) → scene.client number ≡ true → Holds scene now old going past → Besides number old new no_face
@@ -102,8 +103,8 @@ turned_breaks scene now old new number going past ended client holds faces never
           (seats_besides number old new no_face faces) lines (rw never refl) (rw never (sym (append-nil now.log)));
       fits = fits_each scene number old new going (goings_after number (Breaks ended) going) no_face not_going faces lines (fits_none (scene.client number)) holds.fits;
     } where
-  turn : (n : ℕ) → (n == number) ≡ false → (number == n) ≡ false
-  turn n is = grind (arith, nat_tests)
+      turn : (n : ℕ) → (n == number) ≡ false → (number == n) ≡ false
+      turn n is = grind (arith, nat_tests)
 
 -- the tool's turns: no line, and nothing happens
 still_same : (number : ℕ) (going : ℕ → Going) (n : ℕ) → goings_after number Still going n ≡ going n
@@ -172,16 +173,17 @@ tool_moves scene now after old new number going past locked alters tool holds fa
       kept = kept_same scene after (λ n. (new n).seat) (λ n. (new n).seat) going (goings_after number (moving alters) going) (past ++ happens (moving alters) (going number)) (λ n. refl) (still alters) kept;
       fits = λ n. rw (still alters n) (fits n);
     } where
-  still : (b : Bool) (n : ℕ) → goings_after number (moving b) going n ≡ going n
-  still b n = two b (n == number) where
-    two : (b c : Bool) → cond c (going_on (moving b) (going n)) (going n) ≡ going n
-    two true true = refl
-    two true false = refl
-    two false true = refl
-    two false false = refl
-  found : (n : ℕ) (b : Bool) → (n == number) ≡ b → (name : List ℕ) → list_any (bytes_eq name) (new n).seat.names ≡ true → find_table name after.tables ≡ find_table name now.tables
-  found n true is name held = absurd (false≢true (ap (λ (f : Face). list_any (bytes_eq name) f.seat.names) (sym (ap new (are_one n number is) ∙ faces.here)) ∙ held))
-  found n false is name held = others n is name (ap (λ (f : Face). list_any (bytes_eq name) f.seat.names) (sym (faces.there n is)) ∙ held)
+      still : (b : Bool) (n : ℕ) → goings_after number (moving b) going n ≡ going n
+      still b n = two b (n == number) where
+        two : (b c : Bool) → cond c (going_on (moving b) (going n)) (going n) ≡ going n
+        two true true = refl
+        two true false = refl
+        two false true = refl
+        two false false = refl
+
+      found : (n : ℕ) (b : Bool) → (n == number) ≡ b → (name : List ℕ) → list_any (bytes_eq name) (new n).seat.names ≡ true → find_table name after.tables ≡ find_table name now.tables
+      found n true is name held = absurd (false≢true (ap (λ (f : Face). list_any (bytes_eq name) f.seat.names) (sym (ap new (are_one n number is) ∙ faces.here)) ∙ held))
+      found n false is name held = others n is name (ap (λ (f : Face). list_any (bytes_eq name) f.seat.names) (sym (faces.there n is)) ∙ held)
 
 -- the tables that it locked change alone
 pub tool_locks : (scene : Scene) (now : Stored) (old new : ℕ → Face) (number : ℕ) (going : ℕ → Going) (past : List PlainItem) (locked : List (List ℕ)) → scene.client number ≡ false → Holds scene now old going past
@@ -193,6 +195,6 @@ tool_locks scene now old new number going past locked tool holds faces =
       kept = kept_same scene now (λ n. (old n).seat) (λ n. (new n).seat) going going past (λ n. seats n (n == number) refl) (λ n. refl) holds.kept;
       fits = fits_each scene number old new going going own (going number) faces (still_besides number going) (tool_fits (scene.client number) (old number).seat locked (old number).busy (going number) tool none (λ is. ((holds.fits number).rests is).0)) holds.fits;
     }) where
-  seats : (n : ℕ) (b : Bool) → (n == number) ≡ b → (new n).seat ≡ (old n).seat
-  seats n true is = let same : n ≡ number = are_one n number is in subst (λ (m : ℕ). (new m).seat ≡ (old m).seat) (sym same) (ap (λ (f : Face). f.seat) faces.here)
-  seats n false is = ap (λ (f : Face). f.seat) (faces.there n is)
+      seats : (n : ℕ) (b : Bool) → (n == number) ≡ b → (new n).seat ≡ (old n).seat
+      seats n true is = let same : n ≡ number = are_one n number is in subst (λ (m : ℕ). (new m).seat ≡ (old m).seat) (sym same) (ap (λ (f : Face). f.seat) faces.here)
+      seats n false is = ap (λ (f : Face). f.seat) (faces.there n is)

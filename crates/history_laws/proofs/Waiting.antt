@@ -1,8 +1,8 @@
 -- Requests that wait, session by session: what a turn leaves of them, as its answer tells.
-use Rattle.std.proofs.Common.{◌≡◌, ℕ, Bool, true, false, not, ◌||◌, List, [], ◌∷◌, ◌++◌, filter, cond, Option, Some, None, Result, Ok, Err, refl, sym, ap, ◌∙◌, subst, arith}
-use Rattle.std.specs.Prelude.{◌==◌, find}
+use Rattle.std.proofs.Common.{◌≡◌, ℕ, Bool, true, false, not, ◌||◌, List, [], ◌∷◌, ◌++◌, filter, cond, Option, Some, None, Result, Ok, Err, refl, sym, ap, ◌∙◌, arith}
+use Rattle.std.specs.Prelude.{◌==◌}
 use Rattle.std.specs.List.{list_any}
-use Rattle.std.proofs.lemmas.Bool.{false≢true, true≢false}
+use Rattle.std.proofs.lemmas.Bool.{true≢false}
 use Rattle.std.proofs.lemmas.Bool.Decides.{nat_tests}
 use Rattle.gho_values.specs.declared.value.Value.{Value}
 use Rattle.gho_schema.specs.Rows.{key_places}
@@ -16,7 +16,6 @@ use Rattle.plain_server.specs.declared.entry.Asked.TheVariants.{Call, Poll, Comm
 use Rattle.plain_server.specs.declared.request.Request.{Request}
 use Rattle.plain_server.specs.declared.request.Request.TheVariants as requests
 use Rattle.plain_server.specs.declared.session.Waiting.{Waiting}
-use Rattle.plain_server.specs.Answers.{ok, refuses}
 use Rattle.plain_server.specs.Chunks.{keys_of, ends_of, span_keys}
 use Rattle.plain_server.specs.Jobs.{says, job_says, copy_job}
 use Rattle.plain_server.specs.Showing.{events_read}
@@ -173,12 +172,15 @@ served_there state number other (Call request) differ = at (blocker state number
 served_there state number other Poll differ = at (waiting_of number state.waiting) where
   less : waiting_of other (filter (λ one. not (one.session == number)) state.waiting) ≡ waiting_of other state.waiting
   less = filter_there number other state.waiting differ
+
   over : (b : Bool) (by : ℕ) → waiting_of other (polled_over b by state number).after.waiting ≡ waiting_of other state.waiting
   over true by = less
   over false by = refl
+
   each : (waiting : Waiting) (by : Option ℕ) → waiting_of other (polled_unless by state number waiting.request).after.waiting ≡ waiting_of other state.waiting
   each waiting None = ap (waiting_of other) (done_waits (without_waiting number state) number waiting.request) ∙ less
   each waiting (Some by) = over (is_over state number) by
+
   at : (waiting : Option Waiting) → waiting_of other (polled_of waiting state number).after.waiting ≡ waiting_of other state.waiting
   at None = refl
   at (Some waiting) = each waiting (blocker state number (need state number waiting.request))
@@ -207,11 +209,13 @@ waits_polled state number = at (waiting_of number state.waiting) refl where
   over : (waiting : Waiting) → waiting_of number state.waiting ≡ Some waiting → (b : Bool) (by : ℕ) → request_of (waiting_of number (polled_over b by state number).after.waiting) ≡ waits_behind Poll (polled_over b by state number).answer (Some waiting.request)
   over waiting is true by = ap request_of (filter_gone number state.waiting)
   over waiting is false by = ap request_of is
+
   each : (waiting : Waiting) → waiting_of number state.waiting ≡ Some waiting → (by : Option ℕ) → request_of (waiting_of number (polled_unless by state number waiting.request).after.waiting) ≡ waits_behind Poll (polled_unless by state number waiting.request).answer (Some waiting.request)
   each waiting is None =
       ap (λ (w : List Waiting). request_of (waiting_of number w)) (done_waits (without_waiting number state) number waiting.request) ∙ ap request_of (filter_gone number state.waiting)
       ∙ sym (poll_behind (done (without_waiting number state) number waiting.request).answer (Some waiting.request) (done_answers (without_waiting number state) number waiting.request))
   each waiting is (Some by) = over waiting is (is_over state number) by
+
   at : (waiting : Option Waiting) → waiting_of number state.waiting ≡ waiting → request_of (waiting_of number (polled_of waiting state number).after.waiting) ≡ waits_behind Poll (polled_of waiting state number).answer (request_of waiting)
   at None is = ap request_of is
   at (Some waiting) is = each waiting is (blocker state number (need state number waiting.request))

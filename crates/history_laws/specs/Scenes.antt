@@ -15,7 +15,7 @@ use Rattle.statement_laws.specs.Agreeing.{Agree}
 use Rattle.statement_laws.specs.Covering.{Apart}
 use Rattle.statement_laws.specs.Databases.{IsOrderly, EventsCovered}
 use Rattle.plain_server.specs.Jobs.{table_of, after_events}
-use Rattle.plain_server.specs.Alone.{Ran, alone}
+use Rattle.plain_server.specs.Alone.{alone}
 use Rattle.statement_laws.specs.Stability.{Stable}
 
 -- a transaction that ended, and the replies to its lines

@@ -1,7 +1,6 @@
 -- Journals: what each entry does to its session's transaction, and what ended.
-use Rattle.std.specs.Prelude.{◌≡◌, ◌⊎◌, ℕ, ◌==◌, Bool, true, false, not, if◌then◌else◌, List, [], ◌∷◌, ◌++◌, Option, Some, None, Ok, option_to_list}
+use Rattle.std.specs.Prelude.{◌≡◌, ◌⊎◌, ℕ, ◌==◌, Bool, true, false, if◌then◌else◌, List, [], ◌∷◌, ◌++◌, Option, Some, None, Ok, option_to_list}
 use Rattle.std.specs.List.{AllByRecursion}
-use Rattle.std.specs.Str.{bytes_eq}
 use Rattle.row_store.specs.Databases.{TableRows, Database, find_table, rename_tables, name_table}
 use Rattle.row_store.specs.declared.renaming.Pair.{Pair}
 use Rattle.script_text.specs.declared.actor.Side.{Side}
@@ -29,8 +28,8 @@ use Rattle.script_text.specs.declared.actor.Actor.{Actor}
 use Rattle.plain_server.specs.declared.entry.Asked.{Asked}
 use Rattle.plain_server.specs.declared.entry.Asked.TheVariants.{Call, Poll, Command, Cut}
 use Rattle.plain_server.specs.declared.entry.Entry.{Entry}
-use Rattle.plain_server.specs.Entries.{is_client, is_command}
-use Rattle.plain_server.specs.Serving.{leaves, serves}
+use Rattle.plain_server.specs.Entries.{is_command}
+use Rattle.plain_server.specs.Serving.{serves}
 use Rattle.plain_server.specs.Answers.{ok}
 use Rattle.plain_server.specs.Alone.{reply_of}
 use Rattle.plain_server.specs.States.{State, is_in_transaction, names_in, opened, session_of, waiting_of}

@@ -1,15 +1,14 @@
 -- *State at*, *inner answer*, *faithful*: the plain server after a journal's turns, what it answers in the next, and that
 -- the answers of the journal are those. (This project's rule.)
-use Rattle.std.specs.Prelude.{◌≡◌, ℕ, max, Bool, true, false, not, if◌then◌else◌, List, [], ◌∷◌, count_by, ◌&&◌, ◌||◌, Option, Some, None}
+use Rattle.std.specs.Prelude.{◌≡◌, ℕ, Bool, true, false, not, if◌then◌else◌, List, [], ◌∷◌, count_by, ◌&&◌, ◌||◌, Option, Some, None}
 use Rattle.script_text.specs.declared.actor.Actor.{Actor}
 use Rattle.script_text.specs.declared.actor.Side.{Side}
-use Rattle.script_text.specs.declared.actor.Side.TheVariants.{Before, After}
+use Rattle.script_text.specs.declared.actor.Side.TheVariants.{After}
 use Rattle.plain_server.specs.Along.{Along}
-use Rattle.plain_server.specs.declared.request.Request.{Request}
 use Rattle.plain_server.specs.declared.answer.Answer.{Answer}
 use Rattle.plain_server.specs.declared.answer.Answer.TheVariants as answers
 use Rattle.plain_server.specs.declared.entry.Asked.{Asked}
-use Rattle.plain_server.specs.declared.entry.Asked.TheVariants.{Call, Command, Cut}
+use Rattle.plain_server.specs.declared.entry.Asked.TheVariants.{Command, Cut}
 use Rattle.plain_server.specs.declared.entry.Entry.{Entry}
 use Rattle.plain_server.specs.Entries.{same_actor, is_client, is_command, is_cut}
 use Rattle.plain_server.specs.States.{State, opened, is_live, connected}

@@ -1,6 +1,6 @@
 -- *Keeping the plan*: clients take the lines of their scripts in order, sessions are lost exactly where the plan names a
 -- loss, and the operator takes its commands in order. (This project's rule.)
-use Rattle.std.specs.Prelude.{◌≡◌, ◌≢◌, ℕ, ◌+◌, ◌==◌, Bool, true, false, ◌&&◌, if◌then◌else◌, List, [], ◌∷◌, length, count_by, is_some, Option, Some, None}
+use Rattle.std.specs.Prelude.{◌≡◌, ◌≢◌, ℕ, ◌+◌, ◌==◌, false, ◌&&◌, if◌then◌else◌, List, [], ◌∷◌, length, count_by, is_some, Option, Some, None}
 use Rattle.std.specs.List.{slice_get, flat_map, repeat}
 use Rattle.script_text.specs.declared.actor.Actor.{Actor}
 use Rattle.script_text.specs.declared.actor.Actor.TheVariants.{Op, Client}

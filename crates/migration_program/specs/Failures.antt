@@ -11,7 +11,6 @@ use Rattle.row_store.specs.Databases.{TableRows, find_table, row_at_key}
 use Rattle.script_text.specs.declared.actor.Actor.{Actor}
 use Rattle.script_text.specs.declared.actor.Actor.TheVariants.{Insp, Copy, Apply, Lock, Ren}
 use Rattle.script_text.specs.declared.operator.OperatorWord.TheVariants.{Panic}
-use Rattle.plain_server.specs.declared.answer.Answer.{Answer}
 use Rattle.plain_server.specs.declared.answer.Answer.TheVariants as answers
 use Rattle.plain_server.specs.declared.entry.Entry.{Entry}
 use Rattle.plain_server.specs.declared.entry.Asked.{Asked}

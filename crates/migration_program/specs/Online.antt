@@ -49,7 +49,6 @@ abbrev pub sized : OperatorWord → ℕ → ℕ
 sized (ChunkSize size) old = size
 sized word old = old
 
-
 -- since the last C1: the size that stood there, and how many rows were copied
 pub record Copied : Type 0 where
   pub standing : ℕ

@@ -13,7 +13,6 @@ use Rattle.plain_server.specs.declared.entry.Entry.{Entry}
 use Rattle.plain_server.specs.declared.entry.Asked.{Asked}
 use Rattle.plain_server.specs.declared.entry.Asked.TheVariants.{Command, Cut}
 use Rattle.plain_server.specs.declared.outcome.Task.{Task}
-use Rattle.plain_server.specs.declared.outcome.Cause.{Cause}
 use Rattle.plain_server.specs.declared.outcome.Progress.{Progress}
 use Rattle.plain_server.specs.declared.outcome.Progress.TheVariants.{Going, TaskDone, TaskFailed, Unfit}
 use Rattle.plain_server.specs.declared.outcome.Task.TheVariants as tasks

@@ -6,7 +6,7 @@ use Rattle.script_text.specs.declared.actor.Actor.TheVariants.{Op, Insp, Copy, A
 use Rattle.plain_server.specs.declared.request.Request.{Request}
 use Rattle.plain_server.specs.declared.answer.Answer.{Answer}
 use Rattle.plain_server.specs.declared.entry.Asked.{Asked}
-use Rattle.plain_server.specs.declared.entry.Asked.TheVariants.{Call, Poll, Command, Cut}
+use Rattle.plain_server.specs.declared.entry.Asked.TheVariants.{Call, Command, Cut}
 use Rattle.plain_server.specs.declared.entry.Entry.{Entry}
 
 -- the two are one actor

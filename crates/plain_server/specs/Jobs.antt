@@ -15,7 +15,6 @@ use Rattle.row_locks.specs.declared.lock.Lock.{Lock}
 use Rattle.row_store.specs.Databases.{TableRows, Database, find_table, row_at_key, with_change}
 use Rattle.script_text.specs.declared.statement.Statement.{Statement}
 use Rattle.script_text.specs.declared.statement.Statement.TheVariants as statements
-use Rattle.plain_server.specs.declared.answer.Answer.{Answer}
 use Rattle.plain_server.specs.declared.work.StatementResult.{StatementResult}
 use Rattle.plain_server.specs.Answers.{refuses, refuses_value}
 use Rattle.plain_server.specs.declared.answer.Answer.TheVariants as answers

@@ -68,7 +68,7 @@ agrees_commits : (now : State) (number : ℕ) (own : OwnSeat now number) (names 
 agrees_commits now number own names locks events free covered n differ =
     subst (λ (w : List RowEvent). Agree (face_of now.sessions n).seat.names (face_of now.sessions n).seat.locks now.tables (after_events now.tables (w ++ events))) (sym own.writes)
     (others_agree (face_of now.sessions n).seat.names names (own.seat.locks ++ locks) (face_of now.sessions n).seat.locks now.tables (own.seat.writes ++ events)
-      (apart_both own.seat.locks locks (face_of now.sessions n).seat.locks (own.apart n differ) (free n differ)) covered)
+    (apart_both own.seat.locks locks (face_of now.sessions n).seat.locks (own.apart n differ) (free n differ)) covered)
 
 task_covered : (now : State) (number : ℕ) (own : OwnSeat now number) (names : List (List ℕ)) (locks : List Lock) (task : Job) → list_any (bytes_eq task.table) (own.seat.names ++ names) ≡ true → locks ≡ job_needs (after_events now.tables own.seat.writes) task
     → EventsCovered (own.seat.names ++ names) (own.seat.locks ++ locks) now.tables (own.seat.writes ++ (job_says (after_events now.tables own.seat.writes) task).events)
@@ -84,7 +84,7 @@ agrees_task : (now : State) (number : ℕ) (own : OwnSeat now number) (names : L
 agrees_task now number own names seen task same mine free =
     agrees_commits now number own (own.seat.names ++ names) (job_needs seen (task seen)) (job_says seen (task seen)).events free
     (subst (λ (d : Database). list_any (bytes_eq (task d).table) (own.seat.names ++ names) ≡ true → EventsCovered (own.seat.names ++ names) (own.seat.locks ++ job_needs d (task d)) now.tables (own.seat.writes ++ (job_says d (task d)).events)) (sym same)
-      (λ its. task_covered now number own names (job_needs (after_events now.tables own.seat.writes) (task (after_events now.tables own.seat.writes))) (task (after_events now.tables own.seat.writes)) its refl) mine)
+    (λ its. task_covered now number own names (job_needs (after_events now.tables own.seat.writes) (task (after_events now.tables own.seat.writes))) (task (after_events now.tables own.seat.writes)) its refl) mine)
 
 agrees_moves : (now : State) (number : ℕ) (names : List (List ℕ)) (tables : Database) → Free (names_held now.sessions) number (map exclusive names) → ((name : List ℕ) → list_any (bytes_eq name) names ≡ false → find_table name tables ≡ find_table name now.tables) → AgreesFor now number tables
 agrees_moves now number names tables free same n differ = record {
@@ -143,9 +143,11 @@ agrees_served now number Poll own one = at (waiting_of number now.waiting) where
   over : (b : Bool) (by : ℕ) → AgreesFor now number (polled_over b by now number).after.tables
   over true by = agrees_still now number
   over false by = agrees_still now number
+
   each : (waiting : Waiting) (by : Option ℕ) → blocker now number (need now number waiting.request) ≡ by → AgreesFor now number (polled_unless by now number waiting.request).after.tables
   each waiting None is = agrees_done now (without_waiting number now).waiting number own waiting.request (granted now number (need now number waiting.request) one is)
   each waiting (Some by) is = over (is_over now number) by
+
   at : (waiting : Option Waiting) → AgreesFor now number (polled_of waiting now number).after.tables
   at None = agrees_still now number
   at (Some waiting) = each waiting (blocker now number (need now number waiting.request)) refl
@@ -199,11 +201,13 @@ pub rows_stay : RowsStay
 rows_stay names locks a b name one two exclusive reach agree orderly_a orderly_b held found_a found_b among =
     let tables : TablesAgree locks (Some one) (Some two) = subst (λ (o : Option TableRows). TablesAgree locks o (Some two)) found_a (subst (λ (o : Option TableRows). TablesAgree locks (find_table name a) o) found_b (agree.tables name held)) in
     let first : IsOrderlyTable one = subst (λ (o : Option TableRows). WhereFound IsOrderlyTable o) found_a (orderly_a.each name) in
-    let second : IsOrderlyTable two = subst (λ (o : Option TableRows). WhereFound IsOrderlyTable o) found_b (orderly_b.each name) in
-    (sym tables.0, sym (same-filter (reaches one.schema reach) (key_places one.schema) one.rows two.rows first.is_table.ascends (rw tables.0 second.is_table.ascends)
-      (same-within (reaches one.schema reach) (is_under one.schema locks) one.rows two.rows (λ row is. under_one one.schema (lock_on one.schema exclusive reach) locks row among (covered row is)) tables.1))) where
-  covered : (row : _) → reaches one.schema reach row ≡ true → covers one.schema row (lock_on one.schema exclusive reach) ≡ true
-  covered row is = rw (same_bytes one.schema.name, is) refl
+    let second : IsOrderlyTable two = subst (λ (o : Option TableRows). WhereFound IsOrderlyTable o) found_b (orderly_b.each name) in (
+      sym tables.0,
+      sym (same-filter (reaches one.schema reach) (key_places one.schema) one.rows two.rows first.is_table.ascends (rw tables.0 second.is_table.ascends)
+          (same-within (reaches one.schema reach) (is_under one.schema locks) one.rows two.rows (λ row is. under_one one.schema (lock_on one.schema exclusive reach) locks row among (covered row is)) tables.1)),
+    ) where
+      covered : (row : _) → reaches one.schema reach row ≡ true → covers one.schema row (lock_on one.schema exclusive reach) ≡ true
+      covered row is = rw (same_bytes one.schema.name, is) refl
 
 -- THROUGH ANY NUMBER OF TURNS
 

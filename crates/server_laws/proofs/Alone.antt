@@ -48,6 +48,7 @@ free_alone held number n (first ∷ names) name free differ is = at (bytes_eq na
   front : (new : grants.HeldName) → IsHeld new (as_held number (exclusive first ∷ [])) → IsHeld new (as_held number (map exclusive (first ∷ names)))
   front new (inl same) = inl same
   front new (inr none) = absurd none
+
   at : (b : Bool) → bytes_eq name first ≡ b → (b || list_any (bytes_eq name) names) ≡ true → (list_any (bytes_eq name) names ≡ true → holds held n name false ≡ false) → holds held n name false ≡ false
   at true same is rest = subst (λ (m : List ℕ). holds held n m false ≡ false) (sym (are_same name first same)) (one_alone held number n first (λ new other p q d e. free new other (front new p) q d e) differ)
   at false off is rest = rest is
@@ -76,8 +77,10 @@ poll_alone state number request one takes None is given = done_alone (without_wa
 poll_alone state number request one takes (Some by) is given = at (is_over state number) given where
   over : {polls : ℕ} → answers.TimedOut polls ≡ ok → ⊥
   over same = cc
+
   waits : answers.Waits by ≡ ok → ⊥
   waits same = cc
+
   at : (b : Bool) → (polled_over b by state number).answer ≡ ok → AloneAt state number request
   at true same = absurd (over same)
   at false same = absurd (waits same)

@@ -85,8 +85,10 @@ done_held base number table span size keys end session is true busy given = absu
 done_held base number table span size keys end session is false busy given = at (find_table table base.tables) refl given where
   need' : Need
   need' = need_within (view number base) (BeginSpan table span size)
+
   refusal : refuses 1146 ≡ (answers.Keys keys end) → ⊥
   refusal same = cc
+
   at : (found : Option TableRows) → find_table table base.tables ≡ found → (does (begins found span size need') base number).answer ≡ (answers.Keys keys end) → SpanHeld table span size number (does (begins found span size need') base number).answer base (does (begins found span size need') base number).after
   at None here given = absurd (refusal given)
   at (Some found) here given =
@@ -122,8 +124,10 @@ poll_held state number table span size keys end session is None given =
 poll_held state number table span size keys end session is (Some by) given = at (is_over state number) given where
   over : {polls : ℕ} → answers.TimedOut polls ≡ (answers.Keys keys end) → ⊥
   over same = cc
+
   waits : answers.Waits by ≡ (answers.Keys keys end) → ⊥
   waits same = cc
+
   at : (b : Bool) → (polled_over b by state number).answer ≡ (answers.Keys keys end) → SpanHeld table span size number (polled_over b by state number).answer state (polled_over b by state number).after
   at true same = absurd (over same)
   at false same = absurd (waits same)
@@ -138,6 +142,7 @@ served_held state number (Call request) table span size keys end session is asks
 served_held state number Poll table span size keys end session is asks given = at (waiting_of number state.waiting) asks given where
   none : ok ≡ (answers.Keys keys end) → ⊥
   none same = cc
+
   at : (waiting : Option Waiting) → request_of waiting ≡ Some (BeginSpan table span size) → (polled_of waiting state number).answer ≡ (answers.Keys keys end) → SpanHeld table span size number (polled_of waiting state number).answer state (polled_of waiting state number).after
   at None asks given = absurd (none given)
   at (Some waiting) asks given =

@@ -71,8 +71,10 @@ poll_defined state number request result is None given = done_defined (without_w
 poll_defined state number request result is (Some by) given = at (is_over state number) given where
   over : {polls : ℕ} → answers.TimedOut polls ≡ ok → ⊥
   over same = cc
+
   waits : answers.Waits by ≡ ok → ⊥
   waits same = cc
+
   at : (b : Bool) → (polled_over b by state number).answer ≡ ok → result ≡ Ok (polled_over b by state number).after.tables
   at true same = absurd (over same)
   at false same = absurd (waits same)

@@ -1,7 +1,6 @@
 -- The state behind every run holds together.
-use Rattle.history_laws.specs.Turns.{scene_state}
 use Rattle.history_laws.proofs.Journals.{journal_holds, JournalHolds}
-use Rattle.server_laws.specs.Others.{StateHolds, StatesHold}
+use Rattle.server_laws.specs.Others.{StatesHold}
 
 -- *States hold together*
 pub states_hold : StatesHold

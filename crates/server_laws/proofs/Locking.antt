@@ -8,7 +8,6 @@ use Rattle.metadata_locks.specs.Granting.{holds}
 use Rattle.script_text.specs.declared.actor.Side.{Side}
 use Rattle.plain_server.specs.declared.session.Session.{Session}
 use Rattle.plain_server.specs.declared.session.HeldName.{HeldName}
-use Rattle.plain_server.specs.declared.answer.Answer.{Answer}
 use Rattle.plain_server.specs.declared.answer.Answer.TheVariants as answers
 use Rattle.history_laws.specs.Turns.{scene_state, inner, answer_at, request_of, about}
 use Rattle.plain_server.specs.declared.entry.Asked.{Asked}
@@ -58,6 +57,7 @@ done_taken base number names found is true busy given name among = absurd (refus
 done_taken base number names found is false busy given name among = at (all_stand names base.tables) given where
   refusal : refuses 1146 ≡ ok → ⊥
   refusal same = cc
+
   at : (b : Bool) → (does (locks_if b names) base number).answer ≡ ok → holds (held_at (does (locks_if b names) base number).after) number name true ≡ true
   at true given = taken number names base.sessions found name is among
   at false given = absurd (refusal given)
@@ -75,8 +75,10 @@ poll_taken state number names found is None given = done_taken (without_waiting 
 poll_taken state number names found is (Some by) given = at (is_over state number) given where
   over : {polls : ℕ} → answers.TimedOut polls ≡ ok → ⊥
   over same = cc
+
   waits : answers.Waits by ≡ ok → ⊥
   waits same = cc
+
   at : (b : Bool) → (polled_over b by state number).answer ≡ ok → Taken (polled_over b by state number).after number names
   at true same = absurd (over same)
   at false same = absurd (waits same)
@@ -111,4 +113,4 @@ locks_are_taken limits scene journal entry names answered asks side answer =
     let after : after_entry state entry ≡ (serves now entry.session entry.asked).after = ap (λ (s : Option Side). leaves s now entry.session entry.asked) side in
     rw (state_more scene (opened limits scene.opening) journal entry, after)
     (found_live (session_of entry.session now.sessions) (Taken (serves now entry.session entry.asked).after entry.session names) (opened_live nothing tool entry.session state (no_command now entry.session entry.asked (LockTables names) asks))
-      (λ found is. served_taken now entry.session entry.asked names found is asks given))
+    (λ found is. served_taken now entry.session entry.asked names found is asks given))

@@ -111,6 +111,7 @@ held_from [] number name is = absurd (false≢true is)
 held_from (h ∷ held) number name is = at (h.session == number) (bytes_eq h.name name) refl refl is (held_from held number name) where
   deeper : Held held number name → Held (h ∷ held) number name
   deeper there = record { one = there.one; is = inr there.is; own = there.own; same = there.same }
+
   at : (a b : Bool) → (h.session == number) ≡ a → bytes_eq h.name name ≡ b → ((a && (b && (h.exclusive || true))) || holds held number name false) ≡ true → (holds held number name false ≡ true → Held held number name) → Held (h ∷ held) number name
   at true true one two is rest = record { one = h; is = inl refl; own = one; same = two }
   at true false one two is rest = deeper (rest is)
@@ -155,6 +156,7 @@ granted_more takes before number after more name lacked has = at (held_from (nam
   by : (there : Held (names_held after) number name) → IsHeld there.one (held_at before) ⊎ IsHeld there.one (as_held number (as_needed more.asked more.names)) → (asked : Bool) × (asked ≡ true → takes ≡ true) × IsGrantedName before number name asked
   by there (inl old) = absurd (false≢true (sym lacked ∙ holds_from (held_at before) number name there.one old there.own there.same))
   by there (inr new) = (more.asked, more.so, subst (λ (m : List ℕ). IsGrantedName before number m more.asked) (are_same there.one.name name there.same) (name_granted (held_at before) (waiters_at before) number more.asked more.names there.one more.free new))
+
   at : Held (names_held after) number name → (asked : Bool) × (asked ≡ true → takes ≡ true) × IsGrantedName before number name asked
   at there = by there (more.among there.one there.is)
 
@@ -207,10 +209,10 @@ unfolding refuser_of_names
 name_in_granted held waiters number asked [] name none is = absurd (false≢true is)
 name_in_granted held waiters number asked (first ∷ names) name none is =
     at (bytes_eq name first) refl is (none_of (refuser_of_name held waiters number first asked) (refuser_of_names held waiters number asked names) none) (name_in_granted held waiters number asked names name) where
-  at : (b : Bool) → bytes_eq name first ≡ b → (b || list_any (bytes_eq name) names) ≡ true → (refuser_of_name held waiters number first asked ≡ None) × (refuser_of_names held waiters number asked names ≡ None) → (refuser_of_names held waiters number asked names ≡ None → list_any (bytes_eq name) names ≡ true → refuser_of_name held waiters number name asked ≡ None)
-      → refuser_of_name held waiters number name asked ≡ None
-  at true same is both rest = subst (λ (m : List ℕ). refuser_of_name held waiters number m asked ≡ None) (sym (are_same name first same)) both.0
-  at false off is both rest = rest both.1 is
+      at : (b : Bool) → bytes_eq name first ≡ b → (b || list_any (bytes_eq name) names) ≡ true → (refuser_of_name held waiters number first asked ≡ None) × (refuser_of_names held waiters number asked names ≡ None) → (refuser_of_names held waiters number asked names ≡ None → list_any (bytes_eq name) names ≡ true → refuser_of_name held waiters number name asked ≡ None)
+          → refuser_of_name held waiters number name asked ≡ None
+      at true same is both rest = subst (λ (m : List ℕ). refuser_of_name held waiters number m asked ≡ None) (sym (are_same name first same)) both.0
+      at false off is both rest = rest both.1 is
 
 -- WHAT A DEED DOES
 
@@ -234,7 +236,10 @@ does_grows takes before w number need events free = record {
   faces = λ n differ. ap face_in (changed_there number n (holding need events) before.sessions (λ s. refl) differ);
   more = record { asked = false; so = λ is. absurd (false≢true is); names = need.names; free = free; among = goes_names number need events before.sessions };
   others = λ other name asked differ. others_with number other (holding need events) before.sessions name asked (λ s. refl) differ;
-  events = []; log = sym (append-nil before.log); written = tt; tables = λ name. inl refl;
+  events = [];
+  log = sym (append-nil before.log);
+  written = tt;
+  tables = λ name. inl refl;
 }
 
 does_commits : (takes : Bool) (before : State) (w : List Waiting) (number : ℕ) (events : List RowEvent) → AllByRecursion (λ event. MayWrite before number event.table) (writes_of (session_of number before.sessions) ++ events) → Does takes before number (commits number events (at_wait before w))
@@ -242,7 +247,9 @@ does_commits takes before w number events written = record {
   faces = λ n differ. ap face_in (changed_there number n at_rest before.sessions (λ s. refl) differ);
   more = no_names takes before number (with_session number at_rest before.sessions) (rests_names number before.sessions);
   others = λ other name asked differ. others_with number other at_rest before.sessions name asked (λ s. refl) differ;
-  events = writes_of (session_of number before.sessions) ++ events; log = refl; written = written;
+  events = writes_of (session_of number before.sessions) ++ events;
+  log = refl;
+  written = written;
   tables = λ name. inl (stands_after name (writes_of (session_of number before.sessions) ++ events) before.tables);
 }
 
@@ -251,7 +258,10 @@ does_forgets takes before w number = record {
   faces = λ n differ. ap face_in (changed_there number n at_rest before.sessions (λ s. refl) differ);
   more = no_names takes before number (with_session number at_rest before.sessions) (rests_names number before.sessions);
   others = λ other name asked differ. others_with number other at_rest before.sessions name asked (λ s. refl) differ;
-  events = []; log = sym (append-nil before.log); written = tt; tables = λ name. inl refl;
+  events = [];
+  log = sym (append-nil before.log);
+  written = tt;
+  tables = λ name. inl refl;
 }
 
 does_counts : (takes : Bool) (before : State) (w : List Waiting) (number count : ℕ) → Does takes before number (record (at_wait before w) { sessions = with_session number (counting count) before.sessions })
@@ -259,7 +269,10 @@ does_counts takes before w number count = record {
   faces = λ n differ. ap face_in (changed_there number n (counting count) before.sessions (λ s. refl) differ);
   more = no_names takes before number (with_session number (counting count) before.sessions) (same_names number (counting count) before.sessions (λ s x held. held));
   others = λ other name asked differ. others_with number other (counting count) before.sessions name asked (λ s. refl) differ;
-  events = []; log = sym (append-nil before.log); written = tt; tables = λ name. inl refl;
+  events = [];
+  log = sym (append-nil before.log);
+  written = tt;
+  tables = λ name. inl refl;
 }
 
 does_locks : (before : State) (w : List Waiting) (number : ℕ) (names : List (List ℕ)) (given : Answer) → refuser_of_names (held_at before) (waiters_at before) number true names ≡ None → Does true before number (does (Locks given names) (at_wait before w) number).after
@@ -267,7 +280,10 @@ does_locks before w number names given free = record {
   faces = λ n differ. ap face_in (changed_there number n (locking names) before.sessions (λ s. refl) differ);
   more = record { asked = true; so = λ is. refl; names = names; free = free; among = locks_names number names before.sessions };
   others = λ other name asked differ. others_with number other (locking names) before.sessions name asked (λ s. refl) differ;
-  events = []; log = sym (append-nil before.log); written = tt; tables = λ name. inl refl;
+  events = [];
+  log = sym (append-nil before.log);
+  written = tt;
+  tables = λ name. inl refl;
 }
 
 does_unlocks : (takes : Bool) (before : State) (w : List Waiting) (number : ℕ) (given : Answer) → Does takes before number (does (Unlocks given) (at_wait before w) number).after
@@ -275,7 +291,10 @@ does_unlocks takes before w number given = record {
   faces = λ n differ. ap face_in (changed_there number n unlocking before.sessions (λ s. refl) differ);
   more = no_names takes before number (with_session number unlocking before.sessions) (unlocks_names number before.sessions);
   others = λ other name asked differ. others_with number other unlocking before.sessions name asked (λ s. refl) differ;
-  events = []; log = sym (append-nil before.log); written = tt; tables = λ name. inl refl;
+  events = [];
+  log = sym (append-nil before.log);
+  written = tt;
+  tables = λ name. inl refl;
 }
 
 none_refused : (before : State) (number : ℕ) (asked : Bool) → refuser_of_names (held_at before) (waiters_at before) number asked [] ≡ None
@@ -287,7 +306,9 @@ does_moves before w number names tables free same = record {
   faces = λ n differ. refl;
   more = no_names true before number before.sessions (λ one is. is);
   others = λ other name asked differ. refl;
-  events = []; log = sym (append-nil before.log); written = tt;
+  events = [];
+  log = sym (append-nil before.log);
+  written = tt;
   tables = λ name. at name (list_any (bytes_eq name) names) refl;
 } where
   at : (name : List ℕ) (b : Bool) → list_any (bytes_eq name) names ≡ b → (has_table name tables ≡ has_table name before.tables) ⊎ ((true ≡ true) × IsGrantedName before number name true)
@@ -341,6 +362,7 @@ deed_does before w number false busy seen requests.Rollback own free = does_forg
 deed_does before w number false busy seen (requests.Do statement) own free = at busy where
   one : IsGrantedName before number (table_of statement) false
   one = name_in_granted (held_at before) (waiters_at before) number false (table_of statement ∷ []) (table_of statement) free (rw (same_bytes (table_of statement)) refl)
+
   at : (b : Bool) → Does false before number (does (result_deed b (need_within seen (requests.Do statement)) (says seen statement)) (at_wait before w) number).after
   at true = does_grows false before w number (need_within seen (requests.Do statement)) (says seen statement).events free
   at false = does_commits false before w number (says seen statement).events (all_both (λ event. MayWrite before number event.table) (writes_of (session_of number before.sessions)) (says seen statement).events own (said_all (λ name. MayWrite before number name) seen (job_of statement) (inr one)))
@@ -365,6 +387,7 @@ deed_does before w number false busy seen (BeginSpan table span size) own free =
 deed_does before w number false busy seen (CopyRow from into columns key) own free = at busy where
   one : IsGrantedName before number into false
   one = name_in_granted (held_at before) (waiters_at before) number false (from ∷ into ∷ []) into free (rw (same_bytes into) (or_true (bytes_eq into from)))
+
   at : (b : Bool) → Does false before number (does (result_deed b (need_within seen (CopyRow from into columns key)) (job_says seen (copy_job seen from into columns key))) (at_wait before w) number).after
   at true = does_grows false before w number (need_within seen (CopyRow from into columns key)) (job_says seen (copy_job seen from into columns key)).events free
   at false = does_commits false before w number (job_says seen (copy_job seen from into columns key)).events
@@ -383,7 +406,10 @@ lost_does takes before after number does' = record {
   faces = λ n differ. ap face_in (gone_there number n after.sessions differ) ∙ does'.faces n differ;
   more = record { asked = does'.more.asked; so = does'.more.so; names = does'.more.names; free = does'.more.free; among = λ one is. does'.more.among one (held_less (λ session. not (session.number == number)) after.sessions one is) };
   others = λ other name asked differ. others_less number other after.sessions name asked differ ∙ does'.others other name asked differ;
-  events = does'.events; log = does'.log; written = does'.written; tables = does'.tables;
+  events = does'.events;
+  log = does'.log;
+  written = does'.written;
+  tables = does'.tables;
 }
 
 -- each turn
@@ -397,9 +423,11 @@ served_does before number Poll own = at (waiting_of number before.waiting) where
   over : (takes b : Bool) (by : ℕ) → Does takes before number (polled_over b by before number).after
   over takes true by = does_forgets takes before (without_waiting number before).waiting number
   over takes false by = does_counts takes before before.waiting number (polls_of (session_of number before.sessions) + 1)
+
   each : (waiting : Waiting) (by : Option ℕ) → blocker before number (need before number waiting.request) ≡ by → Does (is_exclusive waiting.request) before number (polled_unless by before number waiting.request).after
   each waiting None is = done_does before (without_waiting number before).waiting number waiting.request own is
   each waiting (Some by) is = over (is_exclusive waiting.request) (is_over before number) by
+
   at : (waiting : Option Waiting) → Does (asks_exclusive (request_of waiting)) before number (polled_of waiting before number).after
   at None = does_nothing false before before.waiting number
   at (Some waiting) = each waiting (blocker before number (need before number waiting.request)) refl
@@ -446,9 +474,11 @@ served_waits before number other Poll name differ = at (waiting_of number before
   over : (b : Bool) (by : ℕ) → is_waiting_on name other (waiters_at (polled_over b by before number).after) ≡ is_waiting_on name other (waiters_at before)
   over true by = waits_less name number other before.waiting differ
   over false by = refl
+
   each : (waiting : Waiting) (by : Option ℕ) → is_waiting_on name other (waiters_at (polled_unless by before number waiting.request).after) ≡ is_waiting_on name other (waiters_at before)
   each waiting None = ap (λ (w : List Waiting). is_waiting_on name other (flat_map waits_for w)) (done_waits (without_waiting number before) number waiting.request) ∙ waits_less name number other before.waiting differ
   each waiting (Some by) = over (is_over before number) by
+
   at : (waiting : Option Waiting) → is_waiting_on name other (waiters_at (polled_of waiting before number).after) ≡ is_waiting_on name other (waiters_at before)
   at None = refl
   at (Some waiting) = each waiting (blocker before number (need before number waiting.request))
@@ -521,7 +551,7 @@ pub own_writes : (now : State) (number : ℕ) (tables : Database) → EventsCove
 own_writes now number tables covered =
     may_each now number (writes_of (session_of number now.sessions))
     (subst (λ (w : List RowEvent). AllByRecursion (λ event. holds (held_at now) number event.table false ≡ true) w) (writes_face (session_of number now.sessions))
-      (covered_held now.sessions number (face_of now.sessions number).seat.names (face_of now.sessions number).seat.locks tables (face_of now.sessions number).seat.writes (face_holds now.sessions number) covered))
+    (covered_held now.sessions number (face_of now.sessions number).seat.names (face_of now.sessions number).seat.locks tables (face_of now.sessions number).seat.writes (face_holds now.sessions number) covered))
 
 -- *Each entry is such a turn*
 pub entries_are_turns : EntriesAreTurns
@@ -534,7 +564,7 @@ entries_are_turns limits scene journal entry run =
     let held : JournalHolds limits scene journal = journal_holds limits scene journal run in
     let covered = (held.holds.kept.fine number).covered in
     let own : OwnWrites now number = own_writes now number state.tables
-      (subst (λ (f : Face). EventsCovered f.seat.names f.seat.locks state.tables f.seat.writes) (sym (faces_opened nothing tool number number state)) covered) in
+    (subst (λ (f : Face). EventsCovered f.seat.names f.seat.locks state.tables f.seat.writes) (sym (faces_opened nothing tool number number state)) covered) in
     rw (state_more scene (opened limits scene.opening) journal entry) (from_opened (asks_exclusive (about now number entry.asked)) nothing tool state number (after_entry state entry) (turn_of entry.side now number entry.asked own))
 
 -- the others' faces stay
@@ -546,5 +576,5 @@ entry_faces limits scene journal entry held n differ =
     let tool : Bool = not (is_client entry.actor) in
     let now : State = opens entry state in
     let own : OwnWrites now number = own_writes now number state.tables
-      (subst (λ (f : Face). EventsCovered f.seat.names f.seat.locks state.tables f.seat.writes) (sym (faces_opened nothing tool number number state)) (held.holds.kept.fine number).covered) in
+    (subst (λ (f : Face). EventsCovered f.seat.names f.seat.locks state.tables f.seat.writes) (sym (faces_opened nothing tool number number state)) (held.holds.kept.fine number).covered) in
     turn_faces entry.side now number entry.asked own n differ ∙ faces_opened nothing tool number n state

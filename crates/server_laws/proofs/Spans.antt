@@ -48,7 +48,6 @@ key_no_null where_nullable columns row (place ∷ places) fits not_null =
     let there = value_there where_nullable columns row place fits not_null.0 in
     rw there.1 (more_no_null there.0 (key_of places row) there.2 (key_no_null where_nullable columns row places fits not_null.1))
 
-
 -- the clustered key of a row is in the span where the row is reached
 index_there : (found : Option Index) → 0 < length (places_of found) → (index : Index) × (found ≡ Some index)
 index_there None some = absurd (grind (arith))
@@ -61,9 +60,9 @@ reached_in table place span row is clustered fits =
     let same : key_places table.schema ≡ places_of found = ap (λ (p : Option ℕ). places_of (unique_at table.schema.uniques p)) clustered in
     let full : no_null (key_of (key_places table.schema) row) ≡ true = key_no_null nulls table.schema.columns row (key_places table.schema) fits is.keyed.not_null in
     at found (index_there found (subst (λ (ps : List ℕ). 0 < length ps) same is.keyed.some)) (subst (λ (ps : List ℕ). no_null (key_of ps row) ≡ true) same full) ∙ ap (λ (ps : List ℕ). has span (key_of ps row)) (sym same) where
-  at : (found : Option Index) → (index : Index) × (found ≡ Some index) → no_null (key_of (places_of found) row) ≡ true → lies_under found span row ≡ has span (key_of (places_of found) row)
-  at None there full = absurd (cc (there.1))
-  at (Some index) there full = rw full refl
+      at : (found : Option Index) → (index : Index) × (found ≡ Some index) → no_null (key_of (places_of found) row) ≡ true → lies_under found span row ≡ has span (key_of (places_of found) row)
+      at None there full = absurd (cc (there.1))
+      at (Some index) there full = rw full refl
 
 met_in : (table : TableRows) (place : ℕ) (span : Span) (rows : List (List Value)) → IsOrderlyTable table → clustered_place table.schema ≡ Some place → AllByRecursion (IsRow table.schema.columns) rows
     → filter (reaches table.schema (record { key = place; span = span })) rows ≡ filter (λ row. has span (key_of (key_places table.schema) row)) rows

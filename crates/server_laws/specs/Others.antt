@@ -12,7 +12,6 @@ use Rattle.plain_server.specs.Chunks.{span_keys}
 use Rattle.gho_schema.specs.Clustering.{clustered_place}
 use Rattle.row_store.specs.Databases.{has_table, rows_in, rename_tables, TableRows, Database, find_table}
 use Rattle.plain_server.specs.declared.session.Limits.{Limits}
-use Rattle.plain_server.specs.Along.{Along}
 use Rattle.row_locks.specs.declared.lock.Lock.{Lock}
 use Rattle.plain_server.specs.declared.work.Reach.{Reach}
 use Rattle.plain_server.specs.Rows.{rows_met}
@@ -21,14 +20,14 @@ use Rattle.statement_laws.specs.Agreeing.{Agree, Among}
 use Rattle.history_laws.specs.Holdings.{face_of, OneHolder}
 use Rattle.statement_laws.specs.Covering.{Apart}
 use Rattle.statement_laws.specs.Databases.{IsOrderly, EventsCovered}
-use Rattle.history_laws.specs.Scenes.{Scene, is_mine}
+use Rattle.history_laws.specs.Scenes.{Scene}
 use Rattle.std.specs.Str.{bytes_eq}
 use Rattle.plain_server.specs.declared.answer.Answer.{Answer}
 use Rattle.history_laws.specs.Turns.{IsTold, IsSceneRun, scene_state, about, told_at}
 use Rattle.plain_server.specs.declared.entry.Entry.{Entry}
 use Rattle.plain_server.specs.declared.request.Request.TheVariants.{BeginSpan, Create, Drop, LockTables, Rename}
 use Rattle.plain_server.specs.declared.request.Request.{Request}
-use Rattle.plain_server.specs.Answers.{refuses, ok}
+use Rattle.plain_server.specs.Answers.{ok}
 use Rattle.plain_server.specs.States.{State, is_exclusive, names_held, names_in, waits_for}
 use Rattle.plain_server.specs.Deeds.{created, dropped, renamed_or}
 use Rattle.journal_words.specs.Journals.{opens}
@@ -73,7 +72,7 @@ pub record TurnOf (takes : Bool) (session : ℕ) (before after : State) : Type 0
 
 -- *Each entry is such a turn*
 abbrev pub EntriesAreTurns : Type 0
-EntriesAreTurns = (limits : Limits) (scene : Scene) (journal : List Entry) (entry : Entry) → IsSceneRun limits scene journal 
+EntriesAreTurns = (limits : Limits) (scene : Scene) (journal : List Entry) (entry : Entry) → IsSceneRun limits scene journal
     → TurnOf (asks_exclusive (about (opens entry (scene_state limits scene journal)) entry.session entry.asked)) entry.session (scene_state limits scene journal) (scene_state limits scene (journal ++ entry ∷ []))
 
 -- the entry's request was done, with ok 0, whether or not the answer was missed

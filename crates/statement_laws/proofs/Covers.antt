@@ -15,7 +15,7 @@ use Rattle.event_codec.specs.declared.event.Change.{Change}
 use Rattle.event_codec.specs.declared.event.Change.TheVariants as changes
 use Rattle.plain_server.specs.declared.answer.Answer.{Answer}
 use Rattle.plain_server.specs.declared.answer.Answer.TheVariants as answers
-use Rattle.plain_server.specs.Answers.{refuses, refuses_value}
+use Rattle.plain_server.specs.Answers.{refuses}
 use Rattle.row_locks.specs.declared.lock.Lock.{Lock}
 use Rattle.row_locks.specs.Granting.{conflict}
 use Rattle.row_store.proofs.Orders.{Row}

@@ -103,9 +103,10 @@ alike_in task locks (Some x) (Some y) agree within p q =
     let ascends : Ascends (key_places x.schema) y.rows = subst (λ (s : Schema). Ascends (key_places s) y.rows) (sym agree.0) q.is_table.ascends in
     let same : SameWhere (is_under x.schema (needs x.schema x.rows work)) x.rows y.rows =
     same-within (is_under x.schema (needs x.schema x.rows work)) (is_under x.schema locks) x.rows y.rows (λ row is. under-within x.schema (needs x.schema x.rows work) locks row within is) agree.1 in
-    let alike : AreAlike x.schema work x.rows y.rows = footprint x.schema work x.rows y.rows p.is_table.ascends ascends same in
-    (ap (λ (t : TableResult). let s : StatementResult = record { answer = t.answer; events = events_of task.table t.changes } in s) (alike.told ∙ ap (λ (s : Schema). tells s y.rows (task.work s)) agree.0),
-    alike.needed ∙ ap (λ (s : Schema). needs s y.rows (task.work s)) agree.0)
+    let alike : AreAlike x.schema work x.rows y.rows = footprint x.schema work x.rows y.rows p.is_table.ascends ascends same in (
+      ap (λ (t : TableResult). let s : StatementResult = record { answer = t.answer; events = events_of task.table t.changes } in s) (alike.told ∙ ap (λ (s : Schema). tells s y.rows (task.work s)) agree.0),
+      alike.needed ∙ ap (λ (s : Schema). needs s y.rows (task.work s)) agree.0,
+    )
 
 pub says_alike : (names : List (List ℕ)) (locks : List Lock) (a b : Database) (task : Job) → Agree names locks a b → list_any (bytes_eq task.table) names ≡ true → Within (job_needs a task) locks → IsOrderly a → IsOrderly b → SaysAlike task a b
 unfolding job_says job_needs
@@ -159,8 +160,10 @@ unfolding job_says
 says_orderly tables task sound are =
     let own = task.table in
     rw (said_events task (find_table own tables))
-    (record { each = λ name. rw (found_after_all own name (tells_in task (find_table own tables)) tables)
-        (orderly_in task name (find_table own tables) (find_table name tables) (bytes_eq own name) (λ is. ap (λ (n : List ℕ). find_table n tables) (are_same own name is)) sound (are.each name)) })
+    (record {
+      each = λ name. rw (found_after_all own name (tells_in task (find_table own tables)) tables)
+          (orderly_in task name (find_table own tables) (find_table name tables) (bytes_eq own name) (λ is. ap (λ (n : List ℕ). find_table n tables) (are_same own name is)) sound (are.each name));
+    })
 
 pub rows_more : (schema : Schema) (some all : List Lock) (rows : List Row) → Within some all → RowsCovered schema some rows → RowsCovered schema all rows
 rows_more schema some all [] within covered = tt
@@ -181,7 +184,7 @@ said_covered : (names : List (List ℕ)) (locks : List Lock) (tables : Database)
 said_covered names locks tables task None found named within = tt
 said_covered names locks tables task (Some x) found named within =
     covered_each names locks tables task.table x (tells x.schema x.rows (task.work x.schema)).changes found named
-    (covered_more x.schema (needs x.schema x.rows (task.work x.schema)) locks (tells x.schema x.rows (task.work x.schema)).changes within (tells_covered x.schema x.rows (task.work x.schema))) 
+    (covered_more x.schema (needs x.schema x.rows (task.work x.schema)) locks (tells x.schema x.rows (task.work x.schema)).changes within (tells_covered x.schema x.rows (task.work x.schema)))
 
 pub says_covered : (names : List (List ℕ)) (locks : List Lock) (tables : Database) (task : Job) → list_any (bytes_eq task.table) names ≡ true → Within (job_needs tables task) locks → EventsCovered names locks tables (job_says tables task).events
 unfolding job_says job_needs

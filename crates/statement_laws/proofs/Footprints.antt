@@ -41,9 +41,10 @@ ClashesWithin schema sets test met = AllByRecursion (λ old. (other : Row) → c
 
 clashes_within : (schema : Schema) (sets : List (Option Value)) (test : Row → Bool) (met : List Row) → ((other : Row) → is_under schema (points_of schema (map (with_sets sets) met)) other ≡ true → test other ≡ true) → ClashesWithin schema sets test met
 clashes_within schema sets test [] within = tt
-clashes_within schema sets test (old ∷ met) within =
-    (λ other some. within other (front_under schema (points schema (with_sets sets old)) (points_of schema (map (with_sets sets) met)) other (clash_under schema (with_sets sets old) other some)),
-    clashes_within schema sets test met (λ other is. within other (back_under schema (points schema (with_sets sets old)) (points_of schema (map (with_sets sets) met)) other is)))
+clashes_within schema sets test (old ∷ met) within = (
+  λ other some. within other (front_under schema (points schema (with_sets sets old)) (points_of schema (map (with_sets sets) met)) other (clash_under schema (with_sets sets old) other some)),
+  clashes_within schema sets test met (λ other is. within other (back_under schema (points schema (with_sets sets old)) (points_of schema (map (with_sets sets) met)) other is)),
+)
 
 -- an UPDATE row by row is the same on lists that agree where its new rows clash
 updates_alike : (schema : Schema) (sets : List (Option Value)) (test : Row → Bool) (met a b : List Row) → SameWhere test a b → ClashesWithin schema sets test met → updates schema sets met a ≡ updates schema sets met b
@@ -86,11 +87,11 @@ footprint schema (Update reach (Err at)) a b one two same =
     same-filter (reaches schema reach) (key_places schema) a b one two
     (same-within (reaches schema reach) (is_under schema (needs schema a (Update reach (Err at)))) a b (reach_under schema true reach (points_of schema (rows_met schema reach a) ++ [])) same) in
     record { told = refused met; needed = rw met refl } where
-  refused : rows_met schema reach a ≡ rows_met schema reach b → updated schema (Err at) (rows_met schema reach a) a ≡ updated schema (Err at) (rows_met schema reach b) b
-  refused met = rw met (either (rows_met schema reach b)) where
-    either : (met : List Row) → updated schema (Err at) met a ≡ updated schema (Err at) met b
-    either [] = refl
-    either (row ∷ rows) = refl
+      refused : rows_met schema reach a ≡ rows_met schema reach b → updated schema (Err at) (rows_met schema reach a) a ≡ updated schema (Err at) (rows_met schema reach b) b
+      refused met = rw met (either (rows_met schema reach b)) where
+        either : (met : List Row) → updated schema (Err at) met a ≡ updated schema (Err at) met b
+        either [] = refl
+        either (row ∷ rows) = refl
 footprint schema (Update reach (Ok sets)) a b one two same =
     let met : rows_met schema reach a ≡ rows_met schema reach b =
     same-filter (reaches schema reach) (key_places schema) a b one two

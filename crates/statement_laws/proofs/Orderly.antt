@@ -11,7 +11,7 @@ use Rattle.event_codec.specs.declared.event.Change.{Change}
 use Rattle.event_codec.specs.declared.event.Change.TheVariants as changes
 use Rattle.plain_server.specs.declared.answer.Answer.{Answer}
 use Rattle.plain_server.specs.declared.answer.Answer.TheVariants as answers
-use Rattle.plain_server.specs.Answers.{refuses, refuses_value}
+use Rattle.plain_server.specs.Answers.{refuses}
 use Rattle.row_store.proofs.Orders.{Row}
 use Rattle.row_store.proofs.Ascending.{all-filter, ascends-filter}
 use Rattle.plain_server.specs.Rows.{reaches, rows_met, same_row, stands, without_row, change_rows, change_all}
@@ -100,11 +100,11 @@ left_over places row (first ∷ gone) rows stood =
     let rest : Left row gone (without_row first rows) = left_over places row gone (without_row first rows) stood in
     let both : (stands row rows && not (same_row first row)) ≡ true = sym (stands-filter (λ other. not (same_row first other)) row rows) ∙ rest.stood in
     record { stood = and_left (stands row rows) (not (same_row first row)) both; stays = rw rest.stays (apart (same_row row first) refl (and_right (stands row rows) (not (same_row first row)) both)) } where
-  apart : (b : Bool) → same_row row first ≡ b → not (same_row first row) ≡ true → (b || false) ≡ false
-  apart true same not_same =
-      let yes : same_row first row ≡ true = ap (λ (r : Row). same_row first r) (one_row row first same) ∙ same_itself first in
-      absurd (true≢false (sym not_same ∙ ap not yes))
-  apart false same not_same = refl
+      apart : (b : Bool) → same_row row first ≡ b → not (same_row first row) ≡ true → (b || false) ≡ false
+      apart true same not_same =
+          let yes : same_row first row ≡ true = ap (λ (r : Row). same_row first r) (one_row row first same) ∙ same_itself first in
+          absurd (true≢false (sym not_same ∙ ap not yes))
+      apart false same not_same = refl
 
 none_displaced : (schema : Schema) (row : Row) (rows : List Row) → list_any (clash schema.uniques row) (change_all (key_places schema) (map changes.Delete (displaced schema row rows)) rows) ≡ false
 none_displaced schema row rows =
@@ -153,7 +153,7 @@ updates_orderly schema key sets sound (old ∷ met) rows full are =
     updates_here schema rows (same_row old (with_sets sets old)) (clashes_besides schema (with_sets sets old) old rows) (updates schema sets met rows) (change_first change (updates schema sets met (change_rows (key_places schema) change rows)))
     (updates_orderly schema key sets sound met rows full.1 are)
     (λ none. one_more schema change rows (updates schema sets met (change_rows (key_places schema) change rows)) (updates_orderly schema key sets sound met (change_rows (key_places schema) change rows) full.1
-      (orderly_put schema key (with_sets sets old) (without_row old rows) (with_sets_row schema.columns sets old sound full.0) (none_besides schema (with_sets sets old) old rows none) (orderly_gone schema old rows are))))
+    (orderly_put schema key (with_sets sets old) (without_row old rows) (with_sets_row schema.columns sets old sound full.0) (none_besides schema (with_sets sets old) old rows none) (orderly_gone schema old rows are))))
 
 told_orderly : (schema : Schema) (rows : List Row) (result : Result (List Change) Answer) → IsTable schema rows → ResultOrderly schema rows result → IsTable schema (change_all (key_places schema) (result_or_refusal result).changes rows)
 unfolding change_all

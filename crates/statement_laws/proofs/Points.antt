@@ -70,9 +70,9 @@ unfolding is_under
 clash_here schema place index uniques row other true true same full get others some =
     let keys : key_of index.places row ≡ key_of index.places other = tied_keys (key_of index.places row) (key_of index.places other) (is_Equal (compare_keys (key_of index.places row) (key_of index.places other)) same) in
     under-append schema (point_lock schema place (key_of index.places row)) (points_from schema (place + 1) uniques row) other ∙ rw full (first (at_point schema place index row other get keys full)) where
-  first : covers schema other (lock_on schema true (record { key = place; span = point (key_of index.places row) })) ≡ true
-      → (is_under schema (lock_on schema true (record { key = place; span = point (key_of index.places row) }) ∷ []) other || is_under schema (points_from schema (place + 1) uniques row) other) ≡ true
-  first under = rw under refl
+      first : covers schema other (lock_on schema true (record { key = place; span = point (key_of index.places row) })) ≡ true
+          → (is_under schema (lock_on schema true (record { key = place; span = point (key_of index.places row) }) ∷ []) other || is_under schema (points_from schema (place + 1) uniques row) other) ≡ true
+      first under = rw under refl
 clash_here schema place index uniques row other true false same full get others some =
     under-append schema (point_lock schema place (key_of index.places row)) (points_from schema (place + 1) uniques row) other ∙ rw (others some) (or_true _)
 clash_here schema place index uniques row other false c same full get others some =

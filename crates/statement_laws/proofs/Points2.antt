@@ -25,8 +25,8 @@ under_point index key row full =
     both_ways (no_null (key_of index.places row) && has (point key) (key_of index.places row)) (is_at index.places key row)
     (λ met. ap (λ (k : Row). is_eq (compare_keys key k)) (point_has_one key (key_of index.places row) (and_right (no_null (key_of index.places row)) (has (point key) (key_of index.places row)) met)) ∙ ap is_eq (tied_itself keys_total key))
     (λ at.
-      let same : key ≡ key_of index.places row = tied_keys key (key_of index.places row) (is_Equal (compare_keys key (key_of index.places row)) at) in
-      subst (λ (k : Row). (no_null k && has (point key) k) ≡ true) same (rw (full, point_has_key key) refl))
+    let same : key ≡ key_of index.places row = tied_keys key (key_of index.places row) (is_Equal (compare_keys key (key_of index.places row)) at) in
+    subst (λ (k : Row). (no_null k && has (point key) k) ≡ true) same (rw (full, point_has_key key) refl))
 
 none_pass : (test : Row → Bool) (rows : List Row) → AllByRecursion (λ row. test row ≡ false) rows → filter test rows ≡ []
 none_pass test [] none = refl

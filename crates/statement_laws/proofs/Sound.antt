@@ -93,12 +93,12 @@ work_sound schema (statements.Delete table condition) fits = refused_or schema.c
 work_sound schema (statements.Update table sets condition) fits =
     refused_or schema.columns (IsSound schema.columns) (update_of schema sets condition) (λ work. work)
     (then_is (λ (places : List ℕ). Unit {0}) (IsSound schema.columns) (places_named schema (map (λ (set : Set). set.column) sets)) _ (any_is (places_named schema (map (λ (set : Set). set.column) sets)))
-      (λ places _. then_is (λ (u : Unit {0}). Unit {0}) (IsSound schema.columns) (unless (are_distinct places) 1110) _ (any_is (unless (are_distinct places) 1110))
-        (λ u _. then_is (λ (reach : Reach). Unit {0}) (IsSound schema.columns) (reach_of schema condition) _ (any_is (reach_of schema condition))
-          (λ reach _. update_is schema.columns reach (sets_from 0 schema.columns places (map (λ (set : Set). set.value) sets)) (sets_are 0 schema.columns places (map (λ (set : Set). set.value) sets))))))
+    (λ places _. then_is (λ (u : Unit {0}). Unit {0}) (IsSound schema.columns) (unless (are_distinct places) 1110) _ (any_is (unless (are_distinct places) 1110))
+    (λ u _. then_is (λ (reach : Reach). Unit {0}) (IsSound schema.columns) (reach_of schema condition) _ (any_is (reach_of schema condition))
+    (λ reach _. update_is schema.columns reach (sets_from 0 schema.columns places (map (λ (set : Set). set.value) sets)) (sets_are 0 schema.columns places (map (λ (set : Set). set.value) sets))))))
     (λ work is. is)
 work_sound schema (statements.Select table shown condition) fits =
     refused_or schema.columns (IsSound schema.columns) (select_of schema shown condition) (λ work. work)
     (then_is (λ (selection : Selection). Unit {0}) (IsSound schema.columns) (selection_of schema shown) _ (any_is (selection_of schema shown))
-      (λ selection _. then_is (λ (reach : Reach). Unit {0}) (IsSound schema.columns) (reach_of schema condition) _ (any_is (reach_of schema condition)) (λ reach _. tt)))
+    (λ selection _. then_is (λ (reach : Reach). Unit {0}) (IsSound schema.columns) (reach_of schema condition) _ (any_is (reach_of schema condition)) (λ reach _. tt)))
     (λ work is. is)

@@ -89,12 +89,12 @@ pub stable_more : (names more : List (List ℕ)) (locks all : List Lock) (lines 
     → Stable more all (lines ++ record { word = word; mark = mark } ∷ []) (one_more tables ran (record { word = word; mark = mark })) tables
 stable_more names more locks all lines ran tables word mark stable named within alike = record {
   each = λ other is agree.
-    let there : RunSo lines ran other = stable.each other is (agree_within names more locks all tables other named within agree) in
-    let same : one_more tables ran (record { word = word; mark = mark }) ≡ one_more other ran (record { word = word; mark = mark }) = alike other there.orderly agree in
-    rw same (record {
-      runs = lines_run-more other nothing_ran lines (record { word = word; mark = mark }) ∙ ap (λ (r : Ran). one_more other r (record { word = word; mark = mark })) there.runs;
-      orderly = rw (after_events-append other ran.writes (line_events (after_events other ran.writes) word mark)) (line_orderly (after_events other ran.writes) word mark there.orderly);
-    })
+      let there : RunSo lines ran other = stable.each other is (agree_within names more locks all tables other named within agree) in
+      let same : one_more tables ran (record { word = word; mark = mark }) ≡ one_more other ran (record { word = word; mark = mark }) = alike other there.orderly agree in
+      rw same (record {
+        runs = lines_run-more other nothing_ran lines (record { word = word; mark = mark }) ∙ ap (λ (r : Ran). one_more other r (record { word = word; mark = mark })) there.runs;
+        orderly = rw (after_events-append other ran.writes (line_events (after_events other ran.writes) word mark)) (line_orderly (after_events other ran.writes) word mark there.orderly);
+      });
 }
 
 -- the own next statement, with the locks that it needs
@@ -141,15 +141,17 @@ covered_back locks change other false found covered = covered
 
 pub covered_after : (names : List (List ℕ)) (locks : List Lock) (tables : Database) (event : RowEvent) (events : List RowEvent) → EventsCovered names locks tables events → EventsCovered names locks (with_change event.table (change_table event.change) tables) events
 covered_after names locks tables event [] covered = tt
-covered_after names locks tables event (first ∷ events) covered =
-    (record { named = covered.0.named; covered = rw (found_after event.table first.table event.change tables) (covered_schema locks first.change event.change (bytes_eq event.table first.table) (find_table first.table tables) covered.0.covered) },
-    covered_after names locks tables event events covered.1)
+covered_after names locks tables event (first ∷ events) covered = (
+  record { named = covered.0.named; covered = rw (found_after event.table first.table event.change tables) (covered_schema locks first.change event.change (bytes_eq event.table first.table) (find_table first.table tables) covered.0.covered) },
+  covered_after names locks tables event events covered.1,
+)
 
 covered_before_one : (names : List (List ℕ)) (locks : List Lock) (tables : Database) (event : RowEvent) (events : List RowEvent) → EventsCovered names locks (with_change event.table (change_table event.change) tables) events → EventsCovered names locks tables events
 covered_before_one names locks tables event [] covered = tt
-covered_before_one names locks tables event (first ∷ events) covered =
-    (record { named = covered.0.named; covered = covered_back locks first.change event.change (bytes_eq event.table first.table) (find_table first.table tables) (rw (found_after event.table first.table event.change tables) at covered.0.covered) },
-    covered_before_one names locks tables event events covered.1)
+covered_before_one names locks tables event (first ∷ events) covered = (
+  record { named = covered.0.named; covered = covered_back locks first.change event.change (bytes_eq event.table first.table) (find_table first.table tables) (rw (found_after event.table first.table event.change tables) at covered.0.covered) },
+  covered_before_one names locks tables event events covered.1,
+)
 
 pub covered_before : (names : List (List ℕ)) (locks : List Lock) (tables : Database) (writes events : List RowEvent) → EventsCovered names locks (after_events tables writes) events → EventsCovered names locks tables events
 unfolding after_events
@@ -165,9 +167,10 @@ covered_alike locks held change (Some x) (Some y) agree covered = subst (λ (s :
 
 pub covered_others : (names : List (List ℕ)) (locks : List Lock) (before after : Database) (events : List RowEvent) → Agree names locks before after → EventsCovered names locks before events → EventsCovered names locks after events
 covered_others names locks before after [] agree covered = tt
-covered_others names locks before after (first ∷ events) agree covered =
-    (record { named = covered.0.named; covered = covered_alike locks locks first.change (find_table first.table before) (find_table first.table after) (agree.tables first.table covered.0.named) covered.0.covered },
-    covered_others names locks before after events agree covered.1)
+covered_others names locks before after (first ∷ events) agree covered = (
+  record { named = covered.0.named; covered = covered_alike locks locks first.change (find_table first.table before) (find_table first.table after) (agree.tables first.table covered.0.named) covered.0.covered },
+  covered_others names locks before after events agree covered.1,
+)
 
 -- more names and locks cover as well
 covered_with : (some all : List Lock) (change : Change) (found : Option TableRows) → Within some all → WhereFound (ChangeCovered some change) found → WhereFound (ChangeCovered all change) found
@@ -201,7 +204,7 @@ tables_others own others change false (Some x) apart covered = (refl, λ row is.
 one_other : (names mine : List (List ℕ)) (own others : List Lock) (tables : Database) (event : RowEvent) → Apart own others → EventCovered mine own tables event → Agree names others tables (with_change event.table (change_table event.change) tables)
 one_other names mine own others tables event apart covered = record {
   tables = λ name named. rw (found_after event.table name event.change tables)
-    (tables_others own others event.change (bytes_eq event.table name) (find_table name tables) apart (λ is. subst (λ (n : List ℕ). WhereFound (ChangeCovered own event.change) (find_table n tables)) (are_same event.table name is) covered.covered))
+      (tables_others own others event.change (bytes_eq event.table name) (find_table name tables) apart (λ is. subst (λ (n : List ℕ). WhereFound (ChangeCovered own event.change) (find_table n tables)) (are_same event.table name is) covered.covered));
 }
 
 pub others_agree : (names mine : List (List ℕ)) (own others : List Lock) (tables : Database) (events : List RowEvent) → Apart own others → EventsCovered mine own tables events → Agree names others tables (after_events tables events)

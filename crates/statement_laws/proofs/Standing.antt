@@ -82,12 +82,12 @@ heads places x y xs ys Greater is one two same =
 heads places x y xs ys Equal is one two same =
     let yes : stands x (y ∷ ys) ≡ true = sym (same x) ∙ rw (same_itself x) refl in
     first (same_row x y) refl yes where
-  first : (b : Bool) → same_row x y ≡ b → (b || stands x ys) ≡ true → x ≡ y
-  first true here there = one_row x y here
-  first false here there =
-      let keys : key_of places x ≡ key_of places y = tied_keys (key_of places x) (key_of places y) is in
-      let less : AllByRecursion (λ other. compare_keys (key_of places x) (key_of places other) ≡ Less) ys = subst (λ (k : Row). AllByRecursion (λ other. compare_keys k (key_of places other) ≡ Less) ys) (sym keys) two.0 in
-      absurd (false≢true (sym (not_among places x ys less) ∙ there))
+      first : (b : Bool) → same_row x y ≡ b → (b || stands x ys) ≡ true → x ≡ y
+      first true here there = one_row x y here
+      first false here there =
+          let keys : key_of places x ≡ key_of places y = tied_keys (key_of places x) (key_of places y) is in
+          let less : AllByRecursion (λ other. compare_keys (key_of places x) (key_of places other) ≡ Less) ys = subst (λ (k : Row). AllByRecursion (λ other. compare_keys k (key_of places other) ≡ Less) ys) (sym keys) two.0 in
+          absurd (false≢true (sym (not_among places x ys less) ∙ there))
 
 tail_same : (row x : Row) (xs ys : List Row) (b : Bool) → same_row row x ≡ b → stands x xs ≡ false → stands x ys ≡ false → (b || stands row xs) ≡ (b || stands row ys) → stands row xs ≡ stands row ys
 tail_same row x xs ys true is one two same = let r : row ≡ x = one_row row x is in ap (λ (z : Row). stands z xs) r ∙ one ∙ sym two ∙ ap (λ (z : Row). stands z ys) (sym r)
@@ -135,6 +135,7 @@ same-filter test places a b one two same = one_list places (filter test a) (filt
     nothing true false = refl
     nothing false true = refl
     nothing false false = refl
+
   each : (row : Row) → stands row (filter test a) ≡ stands row (filter test b)
   each row = stands-filter test row a ∙ at row (test row) refl ∙ sym (stands-filter test row b)
 

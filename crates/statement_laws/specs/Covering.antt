@@ -12,7 +12,6 @@ use Rattle.event_codec.specs.declared.event.Change.{Change}
 use Rattle.event_codec.specs.declared.event.Change.TheVariants.{Write, Update, Delete}
 use Rattle.row_locks.specs.declared.lock.Lock.{Lock}
 use Rattle.row_locks.specs.Granting.{conflict}
-
 use Rattle.plain_server.specs.declared.work.Work.{Work}
 use Rattle.plain_server.specs.declared.work.Work.TheVariants as works
 use Rattle.plain_server.specs.Needing.{points}
