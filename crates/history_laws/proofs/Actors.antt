@@ -17,9 +17,7 @@ use Rattle.plain_server.specs.Entries.{same_actor, is_client, is_command, is_cut
 use Rattle.plain_server.specs.Along.{Along-keeps}
 use Rattle.journal_words.specs.Sessions.{session_left, session_in, live_session, sessions_named, IsInSession, IsSeated, KeepsSessions}
 use Rattle.history_laws.specs.Plans.{is_client_session}
-
-are_one : (a b : ℕ) → (a == b) ≡ true → a ≡ b
-are_one a b is = grind (arith, nat_tests)
+use Rattle.statement_laws.proofs.Tests.{same_number, are_one}
 
 -- ACTORS
 
@@ -32,9 +30,6 @@ same_actor_is Lock Lock same = refl
 same_actor_is Ren Ren same = refl
 same_actor_is (Client a) (Client b) same = ap Client (are_one a b same)
 same_actor_is a b same = absurd (false≢true same)
-
-same_number : (n : ℕ) → (n == n) ≡ true
-same_number n = grind (arith, nat_tests)
 
 pub same_actor_itself : (a : Actor) → same_actor a a ≡ true
 same_actor_itself Op = refl

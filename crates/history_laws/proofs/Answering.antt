@@ -21,10 +21,10 @@ use Rattle.plain_server.specs.declared.transaction.Reply.TheVariants as replies
 use Rattle.plain_server.specs.declared.session.Session.{Session}
 use Rattle.std.specs.Prelude.{option_to_list}
 use Rattle.plain_server.specs.Alone.{reply_of}
-use Rattle.history_laws.specs.Scenes.{PlainItem, Stored, Scene, NamesTable, EventsMine, Seat, Going, no_seat, not_going, IsSteady, IsFine, Besides}
+use Rattle.history_laws.specs.Scenes.{PlainItem, Stored, Scene, NamesTable, EventsMine, SessionHold, Going, no_hold, not_going, IsSteady, IsFine, Besides}
 use Rattle.plain_server.specs.Alone.{stays, commit_was_done, is_commit, is_done, is_statement, line_says, line_events, line_replies}
 use Rattle.statement_laws.specs.Covering.{Apart}
-use Rattle.history_laws.proofs.Held.{seat_in, holding_face, rests_face, said_mine, mine_both}
+use Rattle.history_laws.proofs.Held.{hold_in, holding_face, rests_face, said_mine, mine_both}
 use Rattle.plain_server.specs.Jobs.{job_of, says, after_events}
 use Rattle.history_laws.specs.Turns.{Adds, Ends, Breaks, fate_answered}
 use Rattle.history_laws.specs.Holdings.{Face, no_face, face_in, face_of, stored, Fits, Holds, held_after, lines_after}
@@ -35,6 +35,7 @@ use Rattle.plain_server.specs.declared.need.Need.{Need}
 use Rattle.plain_server.specs.States.{State, is_in_transaction, locked_names, session_of, view, with_session, writes_of}
 use Rattle.plain_server.specs.Serving.{at_rest, commits, goes_on, holding, loses}
 use Rattle.history_laws.specs.Asking.{does_word, need_of_word}
+use Rattle.statement_laws.proofs.Tests.{turned}
 
 -- the last line of a lost transaction decides whether it was done
 commit_last : (first : TxnLine) (lines : List TxnLine) (line : TxnLine) → commit_was_done first (lines ++ line ∷ []) ≡ (is_commit line.word && is_done line.mark)
@@ -65,9 +66,6 @@ apart_both [] b c one two lock other p q = two lock other p q
 apart_both (x ∷ a) b c one two lock other (inl same) is = one lock other (inl same) is
 apart_both (x ∷ a) b c one two lock other (inr more) is = apart_both a b c (λ l o p q. one l o (inr p) q) two lock other more is
 
-pub turn_test : (a b : ℕ) → (a == b) ≡ false → (b == a) ≡ false
-turn_test a b is = grind (arith, nat_tests)
-
 -- a session at work on the server: all that holds, and the session found
 pub record AtWork (scene : Scene) (state : State) (number : ℕ) (going : ℕ → Going) (past : List PlainItem) : Type 0 where
   pub holds : Holds scene (stored state) (face_of state.sessions) going past
@@ -75,26 +73,26 @@ pub record AtWork (scene : Scene) (state : State) (number : ℕ) (going : ℕ �
   pub is : session_of number state.sessions ≡ Some found
   pub client : scene.client number ≡ true
 
-own_whole : (scene : Scene) (state : State) (number : ℕ) (going : ℕ → Going) (past : List PlainItem) (work : AtWork scene state number going past) → IsFine scene true state.tables (seat_in work.found) (going number)
-own_whole scene state number going past work = subst (λ (b : Bool). IsFine scene b state.tables (seat_in work.found) (going number)) work.client (subst (λ (f : Face). IsFine scene (scene.client number) state.tables f.seat (going number)) (ap face_in work.is) (work.holds.kept.fine number))
+own_whole : (scene : Scene) (state : State) (number : ℕ) (going : ℕ → Going) (past : List PlainItem) (work : AtWork scene state number going past) → IsFine scene true state.tables (hold_in work.found) (going number)
+own_whole scene state number going past work = subst (λ (b : Bool). IsFine scene b state.tables (hold_in work.found) (going number)) work.client (subst (λ (f : Face). IsFine scene (scene.client number) state.tables f.hold (going number)) (ap face_in work.is) (work.holds.kept.fine number))
 
-own_fine : (scene : Scene) (state : State) (number : ℕ) (going : ℕ → Going) (past : List PlainItem) (work : AtWork scene state number going past) → IsSteady state.tables (seat_in work.found) (going number)
+own_fine : (scene : Scene) (state : State) (number : ℕ) (going : ℕ → Going) (past : List PlainItem) (work : AtWork scene state number going past) → IsSteady state.tables (hold_in work.found) (going number)
 own_fine scene state number going past work = let fine = own_whole scene state number going past work in record { stable = fine.lasting; covered = fine.covered }
 
 pub own_fits : (scene : Scene) (state : State) (number : ℕ) (going : ℕ → Going) (past : List PlainItem) (work : AtWork scene state number going past) → Fits true (face_in (Some work.found)) (going number)
 own_fits scene state number going past work = subst (λ (b : Bool). Fits b (face_in (Some work.found)) (going number)) work.client (subst (λ (f : Face). Fits (scene.client number) f (going number)) (ap face_in work.is) (work.holds.fits number))
 
-own_apart : (scene : Scene) (state : State) (number : ℕ) (going : ℕ → Going) (past : List PlainItem) (work : AtWork scene state number going past) (n : ℕ) → (n == number) ≡ false → Apart (seat_in work.found).locks (face_of state.sessions n).seat.locks
-own_apart scene state number going past work n differ = subst (λ (f : Face). Apart f.seat.locks (face_of state.sessions n).seat.locks) (ap face_in work.is) (work.holds.kept.apart number n (turn_test n number differ))
+own_apart : (scene : Scene) (state : State) (number : ℕ) (going : ℕ → Going) (past : List PlainItem) (work : AtWork scene state number going past) (n : ℕ) → (n == number) ≡ false → Apart (hold_in work.found).locks (face_of state.sessions n).hold.locks
+own_apart scene state number going past work n differ = subst (λ (f : Face). Apart f.hold.locks (face_of state.sessions n).hold.locks) (ap face_in work.is) (work.holds.kept.apart number n (turned n number differ))
 
 -- the locks that the line needs are apart from what others hold, and it names a client table
 pub record IsGranted (scene : Scene) (state : State) (number : ℕ) (word : ScriptWord) : Type 0 where
-  pub apart : (n : ℕ) → (n == number) ≡ false → Apart (need_of_word (view number state) word).locks (face_of state.sessions n).seat.locks
+  pub apart : (n : ℕ) → (n == number) ≡ false → Apart (need_of_word (view number state) word).locks (face_of state.sessions n).hold.locks
   pub named : NamesTable scene.mine word
 
 -- what is on the server once a line is done: it goes on, or it is at rest
-abbrev pub after_seat : State → Session → ScriptWord → Mark → Seat
-after_seat state found word mark = held_after state.tables (seat_in found) word mark
+abbrev pub after_hold : State → Session → ScriptWord → Mark → SessionHold
+after_hold state found word mark = held_after state.tables (hold_in found) word mark
 
 own_locked : (scene : Scene) (state : State) (number : ℕ) (going : ℕ → Going) (past : List PlainItem) (work : AtWork scene state number going past) → locked_names work.found.names ≡ []
 own_locked scene state number going past work = (own_fits scene state number going past work).unlocked refl
@@ -122,17 +120,17 @@ line_mine scene tables words.Rollback (marks.Lost Before) is = tt
 line_mine scene tables words.Rollback (marks.Lost After) is = tt
 
 more_fine : (scene : Scene) (state : State) (number : ℕ) (going : ℕ → Going) (past : List PlainItem) (work : AtWork scene state number going past) (word : ScriptWord) (mark : Mark) → NamesTable scene.mine word
-    → IsFine scene true state.tables (after_seat state work.found word mark) (lines_after (going number) word mark (line_replies (after_events state.tables work.found.writes) word mark))
+    → IsFine scene true state.tables (after_hold state work.found word mark) (lines_after (going number) word mark (line_replies (after_events state.tables work.found.writes) word mark))
 more_fine scene state number going past work word mark named =
     let whole = own_whole scene state number going past work in
-    let fine = line_fine state.tables (seat_in work.found) (going number) word mark work.holds.kept.orderly (own_fine scene state number going past work) in
+    let fine = line_fine state.tables (hold_in work.found) (going number) word mark work.holds.kept.orderly (own_fine scene state number going past work) in
     record { lasting = fine.stable; covered = fine.covered; named = mine_both scene true work.found.writes (line_events (after_events state.tables work.found.writes) word mark) whole.named (line_mine scene (after_events state.tables work.found.writes) word mark named); lines = more_lines scene (going number).lines (record { word = word; mark = mark }) whole.lines named }
 
 more_apart : (scene : Scene) (state : State) (number : ℕ) (going : ℕ → Going) (past : List PlainItem) (work : AtWork scene state number going past) (word : ScriptWord) (mark : Mark) → IsGranted scene state number word → (n : ℕ) → (n == number) ≡ false
-    → Apart (after_seat state work.found word mark).locks (face_of state.sessions n).seat.locks
+    → Apart (after_hold state work.found word mark).locks (face_of state.sessions n).hold.locks
 more_apart scene state number going past work word mark granted n differ =
-    apart_both (seat_in work.found).locks (need_of_word (after_events state.tables work.found.writes) word).locks (face_of state.sessions n).seat.locks (own_apart scene state number going past work n differ)
-    (subst (λ (o : Option Session). Apart (need_of_word (after_events state.tables (writes_of o)) word).locks (face_of state.sessions n).seat.locks) work.is (granted.apart n differ))
+    apart_both (hold_in work.found).locks (need_of_word (after_events state.tables work.found.writes) word).locks (face_of state.sessions n).hold.locks (own_apart scene state number going past work n differ)
+    (subst (λ (o : Option Session). Apart (need_of_word (after_events state.tables (writes_of o)) word).locks (face_of state.sessions n).hold.locks) work.is (granted.apart n differ))
 
 -- it goes on
 adds_line : (scene : Scene) (state : State) (number : ℕ) (going : ℕ → Going) (past : List PlainItem) (work : AtWork scene state number going past) (word : ScriptWord) → IsGranted scene state number word → stays ((going number).lines ++ record { word = word; mark = marks.Answered } ∷ []) ≡ false
@@ -141,18 +139,18 @@ adds_line : (scene : Scene) (state : State) (number : ℕ) (going : ℕ → Goin
 adds_line scene state number going past work word granted never =
     let need : Need = need_of_word (after_events state.tables work.found.writes) word in
     let events : List RowEvent = line_events (after_events state.tables work.found.writes) word marks.Answered in
-    turned_adds scene (stored state) (face_of state.sessions) (face_of (with_session number (holding need events) state.sessions)) number going past (after_seat state work.found word marks.Answered) word
+    turned_adds scene (stored state) (face_of state.sessions) (face_of (with_session number (holding need events) state.sessions)) number going past (after_hold state work.found word marks.Answered) word
     (line_replies (after_events state.tables work.found.writes) word marks.Answered) work.client work.holds
-    (subst (λ (f : Face). Besides number (face_of state.sessions) (face_of (with_session number (holding need events) state.sessions)) f) (holding_face need events work.found ∙ ap (λ (l : List (List ℕ)). let f : Face = record { seat = after_seat state work.found word marks.Answered; locked = l; busy = true } in f) (own_locked scene state number going past work)) (faces_with number (holding need events) state.sessions work.found (λ s. refl) work.is))
+    (subst (λ (f : Face). Besides number (face_of state.sessions) (face_of (with_session number (holding need events) state.sessions)) f) (holding_face need events work.found ∙ ap (λ (l : List (List ℕ)). let f : Face = record { hold = after_hold state work.found word marks.Answered; locked = l; busy = true } in f) (own_locked scene state number going past work)) (faces_with number (holding need events) state.sessions work.found (λ s. refl) work.is))
     (more_fine scene state number going past work word marks.Answered granted.named) (more_apart scene state number going past work word marks.Answered granted) never
 
 -- it ends, and what was written is committed or forgotten
 ends_line : (scene : Scene) (after : Stored) (state : State) (faces : ℕ → Face) (number : ℕ) (going : ℕ → Going) (past : List PlainItem) (work : AtWork scene state number going past) (word : ScriptWord) (mark : Mark) (ended : TxnEnd) (kept : Bool) → IsGranted scene state number word
     → Besides number (face_of state.sessions) faces no_face → stays ((going number).lines ++ record { word = word; mark = mark } ∷ []) ≡ kept
-    → after.tables ≡ cond kept (after_events state.tables (after_seat state work.found word mark).writes) state.tables → after.log ≡ state.log ++ cond kept (after_seat state work.found word mark).writes []
+    → after.tables ≡ cond kept (after_events state.tables (after_hold state work.found word mark).writes) state.tables → after.log ≡ state.log ++ cond kept (after_hold state work.found word mark).writes []
     → Turned scene after faces number (Ends word mark (line_replies (after_events state.tables work.found.writes) word mark) ended) going past
 ends_line scene after state faces number going past work word mark ended kept granted rest stays_is tables log =
-    turned_ends scene (stored state) after (face_of state.sessions) faces number going past (after_seat state work.found word mark) word mark (line_replies (after_events state.tables work.found.writes) word mark) ended work.client work.holds rest
+    turned_ends scene (stored state) after (face_of state.sessions) faces number going past (after_hold state work.found word mark) word mark (line_replies (after_events state.tables work.found.writes) word mark) ended work.client work.holds rest
     (more_fine scene state number going past work word mark granted.named) (more_apart scene state number going past work word mark granted) (rw stays_is tables) (rw stays_is log)
 
 -- a line that was not granted ends it
@@ -160,16 +158,16 @@ undone_line : (scene : Scene) (state : State) (faces : ℕ → Face) (number : �
     → ((some : Database) → line_replies some word mark ≡ got) → ((some : Database) → line_events some word mark ≡ [])
     → NamesTable scene.mine word → Besides number (face_of state.sessions) faces no_face → stays ((going number).lines ++ record { word = word; mark = mark } ∷ []) ≡ false → Turned scene (stored state) faces number (Ends word mark got ended) going past
 undone_line scene state faces number going past work word mark got ended replies_are events_are named rest never =
-    turned_ends scene (stored state) (stored state) (face_of state.sessions) faces number going past (seat_in work.found) word mark got ended work.client work.holds rest
+    turned_ends scene (stored state) (stored state) (face_of state.sessions) faces number going past (hold_in work.found) word mark got ended work.client work.holds rest
     (let whole = own_whole scene state number going past work in
-    let fine = line_undone state.tables (seat_in work.found) (going number) word mark got replies_are events_are (own_fine scene state number going past work) in
+    let fine = line_undone state.tables (hold_in work.found) (going number) word mark got replies_are events_are (own_fine scene state number going past work) in
     record { lasting = fine.stable; covered = fine.covered; named = whole.named; lines = more_lines scene (going number).lines (record { word = word; mark = mark }) whole.lines named })
     (own_apart scene state number going past work)
     (rw never refl) (rw never (sym (append-nil state.log)))
 
 pub rests_with : (scene : Scene) (state : State) (number : ℕ) (going : ℕ → Going) (past : List PlainItem) (work : AtWork scene state number going past) → Besides number (face_of state.sessions) (face_of (with_session number at_rest state.sessions)) no_face
 rests_with scene state number going past work =
-    subst (λ (f : Face). Besides number (face_of state.sessions) (face_of (with_session number at_rest state.sessions)) f) (rests_face work.found ∙ ap (λ (l : List (List ℕ)). let f : Face = record { seat = no_seat; locked = l; busy = false } in f) (own_locked scene state number going past work)) (faces_with number at_rest state.sessions work.found (λ s. refl) work.is)
+    subst (λ (f : Face). Besides number (face_of state.sessions) (face_of (with_session number at_rest state.sessions)) f) (rests_face work.found ∙ ap (λ (l : List (List ℕ)). let f : Face = record { hold = no_hold; locked = l; busy = false } in f) (own_locked scene state number going past work)) (faces_with number at_rest state.sessions work.found (λ s. refl) work.is)
 
 -- a statement, in a transaction and outside
 do_answered : (scene : Scene) (state : State) (number : ℕ) (going : ℕ → Going) (past : List PlainItem) (work : AtWork scene state number going past) (statement : Statement) (seen : Database) → seen ≡ after_events state.tables work.found.writes
@@ -217,8 +215,8 @@ goes_lost scene state number going past work word need events granted never =
 -- a line that commits, and then its session is lost
 commits_lost : (scene : Scene) (state : State) (number : ℕ) (going : ℕ → Going) (past : List PlainItem) (work : AtWork scene state number going past) (word : ScriptWord) (events : List RowEvent) (kept : Bool) → IsGranted scene state number word
     → stays ((going number).lines ++ record { word = word; mark = marks.Lost After } ∷ []) ≡ kept
-    → (commits number events state).tables ≡ cond kept (after_events state.tables (after_seat state work.found word (marks.Lost After)).writes) state.tables
-    → (commits number events state).log ≡ state.log ++ cond kept (after_seat state work.found word (marks.Lost After)).writes []
+    → (commits number events state).tables ≡ cond kept (after_events state.tables (after_hold state work.found word (marks.Lost After)).writes) state.tables
+    → (commits number events state).log ≡ state.log ++ cond kept (after_hold state work.found word (marks.Lost After)).writes []
     → Turned scene (stored (loses number (commits number events state))) (face_of (loses number (commits number events state)).sessions) number (Ends word (marks.Lost After) [] ends.Lost) going past
 unfolding loses
 commits_lost scene state number going past work word events kept granted done_is tables log =
@@ -247,7 +245,7 @@ commit_lost scene state number going past work granted true busy =
     commits_lost scene state number going past work words.Commit [] true granted (last_done (going number).lines (record { word = words.Commit; mark = marks.Lost After }) ((own_fits scene state number going past work).goes refl busy)) (rw work.is refl) (rw work.is refl)
 commit_lost scene state number going past work granted false busy =
     let both = (own_fits scene state number going past work).rests busy in
-    let nothing : work.found.writes ≡ [] = ap (λ (s : Seat). s.writes) both.0 in
+    let nothing : work.found.writes ≡ [] = ap (λ (s : SessionHold). s.writes) both.0 in
     commits_lost scene state number going past work words.Commit [] true granted (ap (λ (g : Going). stays (g.lines ++ record { word = words.Commit; mark = marks.Lost After } ∷ [])) both.1) (rw (work.is, nothing) refl) (rw (work.is, nothing) refl)
 
 -- *a line that is done, and then its session is lost*

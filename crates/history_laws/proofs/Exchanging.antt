@@ -10,10 +10,9 @@ use Rattle.row_store.proofs.ChangedTables.{found_where}
 use Rattle.history_laws.specs.Scenes.{Scene, is_mine, AltersTo}
 use Rattle.history_laws.specs.Turns.{IsExchange}
 use Rattle.history_laws.specs.Laws.{ExchangeAlters}
-use Rattle.statement_laws.proofs.Points.{are_same}
-use Rattle.history_laws.proofs.Names.{bytes_no}
 use Rattle.history_laws.proofs.Kept.{unfound}
 use Rattle.history_laws.proofs.Moves.{renamed_other, renamed_new}
+use Rattle.statement_laws.proofs.Tests.{are_same, turned_bytes}
 
 -- what each of two pairs that are renamed found
 pub record Both (old kept ghost : List ℕ) (tables after : Database) : Type 0 where
@@ -48,8 +47,8 @@ exchanged scene tables after pairs mine is both =
       is = ap (find_table t) (sym both.is) ∙ renamed_new is.ghost t (with_name t is.kept tables) both.second ∙ ap (option_map (name_table t)) (still ∙ is.stands);
       others = λ name own off.
           ap (find_table name) (sym both.is)
-          ∙ renamed_other is.ghost t name (with_name t is.kept tables) (bytes_no is.ghost name (unfound scene is.ghost name is.ghost_other own)) off
-          ∙ renamed_other t is.kept name tables off (bytes_no is.kept name (unfound scene is.kept name is.kept_other own));
+          ∙ renamed_other is.ghost t name (with_name t is.kept tables) (turned_bytes is.ghost name (unfound scene is.ghost name is.ghost_other own)) off
+          ∙ renamed_other t is.kept name tables off (turned_bytes is.kept name (unfound scene is.kept name is.kept_other own));
     } where
       differ : (b : Bool) → bytes_eq is.ghost is.kept ≡ b → b ≡ false
       differ true same = absurd (false≢true (sym both.first ∙ ap (λ (n : List ℕ). has_table n tables) (sym (are_same is.ghost is.kept same)) ∙ found_has is.ghost tables is.new is.stands))

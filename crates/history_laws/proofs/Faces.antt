@@ -13,13 +13,10 @@ use Rattle.statement_laws.specs.Agreeing.{Among}
 use Rattle.statement_laws.specs.Covering.{Apart}
 use Rattle.history_laws.specs.Scenes.{Besides}
 use Rattle.history_laws.specs.Holdings.{no_face, face_in, face_of}
-use Rattle.history_laws.proofs.Kept.{are_one}
 use Rattle.std.specs.Prelude.{is_some}
 use Rattle.plain_server.specs.States.{connected, State, locks_held, new_session, session_of, with_session}
 use Rattle.journal_words.specs.Journals.{opens_if}
-
-same_number : (n : ℕ) → (n == n) ≡ true
-same_number n = grind (arith, nat_tests)
+use Rattle.statement_laws.proofs.Tests.{same_number, are_one}
 
 -- the session that is changed, and the others
 pub changed_here : (number : ℕ) (change : Session → Session) (sessions : List Session) (found : Session) → ((s : Session) → (change s).number ≡ s.number) → session_of number sessions ≡ Some found → session_of number (with_session number change sessions) ≡ Some (change found)
@@ -130,13 +127,13 @@ own_apart holder (x ∷ locks) number lock other is differ (inr one) =
     let both = none_of (refusal number lock (held_by holder x)) (refuser_of_lock (map (held_by holder) locks) number lock) is in
     own_apart holder locks number lock other both.1 differ one
 
-lock_apart : (sessions : List Session) (number n : ℕ) (lock other : Lock) → refuser_of_lock (locks_held sessions) number lock ≡ None → (n == number) ≡ false → Among other (face_of sessions n).seat.locks → conflict other lock ≡ false
+lock_apart : (sessions : List Session) (number n : ℕ) (lock other : Lock) → refuser_of_lock (locks_held sessions) number lock ≡ None → (n == number) ≡ false → Among other (face_of sessions n).hold.locks → conflict other lock ≡ false
 lock_apart [] number n lock other is differ one = absurd one
 lock_apart (first ∷ sessions) number n lock other is differ one =
     let both = lock_parts (map (held_by first.number) first.row_locks) (locks_held sessions) number lock is in
     at (first.number == n) refl both.0 one (lock_apart sessions number n lock other both.1 differ) where
-      at : (b : Bool) → (first.number == n) ≡ b → refuser_of_lock (map (held_by first.number) first.row_locks) number lock ≡ None → Among other (face_in (cond b (Some first) (session_of n sessions))).seat.locks
-          → (Among other (face_of sessions n).seat.locks → conflict other lock ≡ false) → conflict other lock ≡ false
+      at : (b : Bool) → (first.number == n) ≡ b → refuser_of_lock (map (held_by first.number) first.row_locks) number lock ≡ None → Among other (face_in (cond b (Some first) (session_of n sessions))).hold.locks
+          → (Among other (face_of sessions n).hold.locks → conflict other lock ≡ false) → conflict other lock ≡ false
       at true here none there rest = own_apart first.number first.row_locks number lock other none (ap (λ (m : ℕ). m == number) (are_one first.number n here) ∙ differ) there
       at false here none there rest = rest there
 
@@ -147,5 +144,5 @@ set_none held number (x ∷ set) lock is (inl same) = let both = none_of (refuse
 set_none held number (x ∷ set) lock is (inr one) = let both = none_of (refuser_of_lock held number x) (refuser_of_set held number set) is in set_none held number set lock both.1 one
 
 -- locks that are granted are apart from what others hold
-pub granted_apart : (sessions : List Session) (number : ℕ) (set : List Lock) → refuser_of_set (locks_held sessions) number set ≡ None → (n : ℕ) → (n == number) ≡ false → Apart set (face_of sessions n).seat.locks
+pub granted_apart : (sessions : List Session) (number : ℕ) (set : List Lock) → refuser_of_set (locks_held sessions) number set ≡ None → (n : ℕ) → (n == number) ≡ false → Apart set (face_of sessions n).hold.locks
 granted_apart sessions number set is n differ lock other one two = conflict_both_ways lock other ∙ lock_apart sessions number n lock other (set_none (locks_held sessions) number set lock is one) differ two

@@ -7,14 +7,14 @@ use Rattle.plain_server.specs.declared.session.Session.{Session}
 use Rattle.plain_server.specs.declared.session.HeldName.{HeldName}
 use Rattle.plain_server.specs.Jobs.{Job, result_in, job_says, events_of}
 use Rattle.plain_server.specs.Saying.{tells}
-use Rattle.history_laws.specs.Scenes.{Scene, is_mine, EventsMine, Seat, no_seat}
+use Rattle.history_laws.specs.Scenes.{Scene, is_mine, EventsMine, SessionHold, no_hold}
 use Rattle.history_laws.specs.Holdings.{face_in, names_of}
 use Rattle.plain_server.specs.declared.need.Need.{Need}
 use Rattle.plain_server.specs.Serving.{at_rest, exclusive, holding, locking, shared, unlocking}
 use Rattle.plain_server.specs.States.{kept_names, locked_names, shared_names}
 
-abbrev pub seat_in : Session → Seat
-seat_in found = (face_in (Some found)).seat
+abbrev pub hold_in : Session → SessionHold
+hold_in found = (face_in (Some found)).hold
 
 -- by whether a name is exclusive
 shared_more : (held : List HeldName) (names : List (List ℕ)) → names_of (shared_names (held ++ map shared names)) ≡ names_of (shared_names held) ++ names
@@ -80,16 +80,16 @@ locked_unlocking (h ∷ held) = at h.exclusive refl (locked_unlocking held) wher
   at false is rest = rw is rest
 
 pub holding_face : (need : Need) (events : List RowEvent) (found : Session)
-    → face_in (Some (holding need events found)) ≡ record { seat = record { names = (seat_in found).names ++ need.names; locks = (seat_in found).locks ++ need.locks; writes = (seat_in found).writes ++ events }; locked = locked_names found.names; busy = true }
+    → face_in (Some (holding need events found)) ≡ record { hold = record { names = (hold_in found).names ++ need.names; locks = (hold_in found).locks ++ need.locks; writes = (hold_in found).writes ++ events }; locked = locked_names found.names; busy = true }
 holding_face need events found = rw (shared_more found.names need.names, locked_more found.names need.names) refl
 
-pub rests_face : (found : Session) → face_in (Some (at_rest found)) ≡ record { seat = no_seat; locked = locked_names found.names; busy = false }
+pub rests_face : (found : Session) → face_in (Some (at_rest found)) ≡ record { hold = no_hold; locked = locked_names found.names; busy = false }
 rests_face found = rw (shared_kept found.names, kept_kept found.names) refl
 
-pub locking_face : (names : List (List ℕ)) (found : Session) → face_in (Some (locking names found)) ≡ record { seat = seat_in found; locked = locked_names found.names ++ names; busy = found.in_transaction }
+pub locking_face : (names : List (List ℕ)) (found : Session) → face_in (Some (locking names found)) ≡ record { hold = hold_in found; locked = locked_names found.names ++ names; busy = found.in_transaction }
 locking_face names found = rw (shared_locking found.names names, locked_locking found.names names) refl
 
-pub unlocking_face : (found : Session) → face_in (Some (unlocking found)) ≡ record { seat = seat_in found; locked = []; busy = found.in_transaction }
+pub unlocking_face : (found : Session) → face_in (Some (unlocking found)) ≡ record { hold = hold_in found; locked = []; busy = found.in_transaction }
 unlocking_face found = rw (shared_unlocking found.names, locked_unlocking found.names) refl
 
 -- events of one table

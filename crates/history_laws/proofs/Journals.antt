@@ -13,7 +13,7 @@ use Rattle.plain_server.specs.Along.{Along, Along-both, Along-keeps, gathered-mo
 use Rattle.statement_laws.specs.Databases.{IsOrderly}
 use Rattle.plain_server.specs.Alone.{Ran, lines_run, nothing_ran}
 use Rattle.statement_laws.specs.Stability.{RunSo}
-use Rattle.history_laws.specs.Scenes.{PlainItem, Stored, Scene, is_mine, tables_left, left, seen, NamesTable, Seat, Going, no_seat, not_going, IsFine, Besides}
+use Rattle.history_laws.specs.Scenes.{PlainItem, Stored, Scene, is_mine, tables_left, left, seen, NamesTable, SessionHold, Going, no_hold, not_going, IsFine, Besides}
 use Rattle.plain_server.specs.declared.answer.Answer.{Answer}
 use Rattle.plain_server.specs.declared.answer.Answer.TheVariants as answers
 use Rattle.plain_server.specs.Answers.{ok}
@@ -28,7 +28,7 @@ use Rattle.history_laws.specs.Laws.{SceneSerial, ScenesAreSerial, IsPlain, Plain
 use Rattle.statement_laws.proofs.Stables.{stable_end}
 use Rattle.history_laws.proofs.Left.{serial_left, left_found, none_alters}
 use Rattle.history_laws.proofs.Bridges.{lines_alike}
-use Rattle.history_laws.proofs.Kept.{are_one, kept_same, fine_rest}
+use Rattle.history_laws.proofs.Kept.{kept_same, fine_rest}
 use Rattle.history_laws.proofs.Faces.{faces_with, faces_without, faces_opened, opened_live}
 use Rattle.history_laws.proofs.Names.{OneIn, one_rests, one_counts, one_less, opened_one}
 use Rattle.history_laws.proofs.Turning.{Turned, turned_still, tool_rests}
@@ -47,6 +47,7 @@ use Rattle.history_laws.specs.Asking.{word_in}
 use Rattle.journal_words.specs.Clients.{word_asks}
 use Rattle.plain_server.specs.Locking.{need, blocker}
 use Rattle.journal_words.specs.Journals.{after_entry, opens, opens_if, state_behind}
+use Rattle.statement_laws.proofs.Tests.{are_one, turned}
 
 -- A CLIENT'S TURN
 
@@ -67,9 +68,9 @@ rest_same scene state number going past work new rests besides =
       busy = sym (ap is_in_transaction work.is) ∙ rests
 
       none : face_in (Some work.found) ≡ no_face
-      none = ap (λ (seat : Seat). let f : Face = record { seat = seat; locked = (face_in (Some work.found)).locked; busy = work.found.in_transaction } in f) ((own_fits scene state number going past work).rests busy).0
-          ∙ ap (λ (l : List (List ℕ)). let f : Face = record { seat = no_seat; locked = l; busy = work.found.in_transaction } in f) ((own_fits scene state number going past work).unlocked refl)
-          ∙ ap (λ (b : Bool). let f : Face = record { seat = no_seat; locked = []; busy = b } in f) busy
+      none = ap (λ (hold : SessionHold). let f : Face = record { hold = hold; locked = (face_in (Some work.found)).locked; busy = work.found.in_transaction } in f) ((own_fits scene state number going past work).rests busy).0
+          ∙ ap (λ (l : List (List ℕ)). let f : Face = record { hold = no_hold; locked = l; busy = work.found.in_transaction } in f) ((own_fits scene state number going past work).unlocked refl)
+          ∙ ap (λ (b : Bool). let f : Face = record { hold = no_hold; locked = []; busy = b } in f) busy
 
 -- what the client asks is a line
 abbrev pub AsksIf : Bool → Scene → Option Request → Type 0
@@ -391,7 +392,7 @@ pub record BookHolds (scene : Scene) (state : State) (going : ℕ → Going) (pa
 
 holds_faces : (scene : Scene) (now : Stored) (old new : ℕ → Face) (going : ℕ → Going) (past : List PlainItem) → ((n : ℕ) → new n ≡ old n) → Holds scene now old going past → Holds scene now new going past
 holds_faces scene now old new going past same holds = record {
-  kept = kept_same scene now (λ n. (old n).seat) (λ n. (new n).seat) going going past (λ n. ap (λ (f : Face). f.seat) (same n)) (λ n. refl) holds.kept;
+  kept = kept_same scene now (λ n. (old n).hold) (λ n. (new n).hold) going going past (λ n. ap (λ (f : Face). f.hold) (same n)) (λ n. refl) holds.kept;
   fits = λ n. rw (same n) (holds.fits n);
 }
 
@@ -510,18 +511,18 @@ pub journal_holds : (limits : Limits) (scene : Scene) (journal : List Entry) →
 journal_holds limits scene journal run =
     Along-keeps (IsGood limits scene) (JournalHolds limits scene) (step limits scene run.migrated) [] journal (Along-both (IsTold limits scene) (IsAllowed limits scene) [] journal run.told run.allowed) (begins limits scene run.orderly)
 
-pub going_replies : (scene : Scene) (own : Bool) (tables : Database) (seat : Seat) (going : Going) → IsOrderly tables → IsFine scene own tables seat going → (own ≡ false → going ≡ not_going) → (lines_run (tables_left scene.mine tables) nothing_ran going.lines).replies ≡ going.replies
+pub going_replies : (scene : Scene) (own : Bool) (tables : Database) (hold : SessionHold) (going : Going) → IsOrderly tables → IsFine scene own tables hold going → (own ≡ false → going ≡ not_going) → (lines_run (tables_left scene.mine tables) nothing_ran going.lines).replies ≡ going.replies
 unfolding lines_run
-going_replies scene true tables seat going is fine none =
-    let run : RunSo going.lines (record { replies = going.replies; writes = seat.writes }) tables = stable_end seat.names seat.locks going.lines (record { replies = going.replies; writes = seat.writes }) tables is fine.lasting in
+going_replies scene true tables hold going is fine none =
+    let run : RunSo going.lines (record { replies = going.replies; writes = hold.writes }) tables = stable_end hold.names hold.locks going.lines (record { replies = going.replies; writes = hold.writes }) tables is fine.lasting in
     ap (λ (r : Ran). r.replies) (sym (lines_alike scene.mine tables (tables_left scene.mine tables) nothing_ran going.lines fine.lines (left_found scene tables)) ∙ run.runs)
-going_replies scene false tables seat going is fine none = rw (none refl) refl
+going_replies scene false tables hold going is fine none = rw (none refl) refl
 
 -- of each journal behind which all holds
 pub scene_serial : (limits : Limits) (scene : Scene) (journal : List Entry) → is_mine scene scene.migrated ≡ true → JournalHolds limits scene journal → SceneSerial limits scene journal
 scene_serial limits scene journal mine end = record {
   ended = serial_left scene (record { tables = scene.opening; log = [] }) (seen scene (stored (scene_state limits scene journal))) (history limits scene journal) mine end.holds.kept.serial;
-  going = λ n. going_replies scene (scene.client n) (scene_state limits scene journal).tables (face_of (scene_state limits scene journal).sessions n).seat (goings_at limits scene journal n) end.holds.kept.orderly (end.holds.kept.fine n) (end.holds.fits n).tools;
+  going = λ n. going_replies scene (scene.client n) (scene_state limits scene journal).tables (face_of (scene_state limits scene journal).sessions n).hold (goings_at limits scene journal n) end.holds.kept.orderly (end.holds.kept.fine n) (end.holds.fits n).tools;
 }
 
 -- *Runs of scenes are serial*

@@ -17,18 +17,12 @@ use Rattle.statement_laws.specs.Covering.{Apart}
 use Rattle.statement_laws.specs.Databases.{IsOrderly}
 use Rattle.plain_server.specs.Jobs.{after_events, change_table}
 use Rattle.statement_laws.specs.Stability.{RunSo}
-use Rattle.history_laws.specs.Scenes.{PlainItem, Txn, Stored, Scene, is_mine, logged, seen, FoundAlike, Alike, NamesTable, Leads, Serial, Seat, Going, no_seat, not_going, IsLasting, EventsMine, IsFine, IsKept, Besides}
+use Rattle.history_laws.specs.Scenes.{PlainItem, Txn, Stored, Scene, is_mine, logged, seen, FoundAlike, Alike, NamesTable, Leads, Serial, SessionHold, Going, no_hold, not_going, IsLasting, EventsMine, IsFine, IsKept, Besides}
 use Rattle.statement_laws.proofs.Finding.{agree_itself, tables_itself, found_after, change_if}
 use Rattle.statement_laws.proofs.Stables.{stable_begin, stable_others, stable_end, covered_others, others_agree}
 use Rattle.event_codec.specs.declared.event.Change.{Change}
-use Rattle.statement_laws.proofs.Points.{are_same}
 use Rattle.history_laws.proofs.Tools.{safe_begin, safe_others}
-
-pub are_one : (a b : ℕ) → (a == b) ≡ true → a ≡ b
-are_one a b is = grind (arith, nat_tests)
-
-turn_test : (a b : ℕ) → (a == b) ≡ false → (b == a) ≡ false
-turn_test a b is = grind (arith, nat_tests)
+use Rattle.statement_laws.proofs.Tests.{are_one, are_same}
 
 pub apart-turn : (a b : List Lock) → Apart a b → Apart b a
 apart-turn a b apart lock other one two = conflict_both_ways lock other ∙ apart other lock two one
@@ -44,17 +38,17 @@ by_number P number old new here besides this those n = at (n == number) refl whe
   at false is = subst (P n) (sym (besides.there n is)) (those n is)
 
 -- what two seats are to one another
-pub two_seats : (number : ℕ) (old new : ℕ → Seat) (here : Seat) → Besides number old new here → ((n : ℕ) → (n == number) ≡ false → Apart here.locks (old n).locks) → ((m n : ℕ) → (m == n) ≡ false → Apart (old m).locks (old n).locks)
+pub two_seats : (number : ℕ) (old new : ℕ → SessionHold) (here : SessionHold) → Besides number old new here → ((n : ℕ) → (n == number) ≡ false → Apart here.locks (old n).locks) → ((m n : ℕ) → (m == n) ≡ false → Apart (old m).locks (old n).locks)
     → (m n : ℕ) → (m == n) ≡ false → Apart (new m).locks (new n).locks
 two_seats number old new here besides mine theirs m n differ = at (m == number) (n == number) refl refl where
   at : (b c : Bool) → (m == number) ≡ b → (n == number) ≡ c → Apart (new m).locks (new n).locks
   at true true one two = let same : m ≡ n = are_one m number one ∙ sym (are_one n number two) in absurd (false≢true (sym differ ∙ grind (arith, nat_tests)))
   at true false one two =
-      subst (λ (s : Seat). Apart s.locks (new n).locks) (sym (ap new (are_one m number one) ∙ besides.here)) (subst (λ (s : Seat). Apart here.locks s.locks) (sym (besides.there n two)) (mine n two))
+      subst (λ (s : SessionHold). Apart s.locks (new n).locks) (sym (ap new (are_one m number one) ∙ besides.here)) (subst (λ (s : SessionHold). Apart here.locks s.locks) (sym (besides.there n two)) (mine n two))
   at false true one two =
-      subst (λ (s : Seat). Apart (new m).locks s.locks) (sym (ap new (are_one n number two) ∙ besides.here)) (subst (λ (s : Seat). Apart s.locks here.locks) (sym (besides.there m one)) (apart-turn here.locks (old m).locks (mine m one)))
+      subst (λ (s : SessionHold). Apart (new m).locks s.locks) (sym (ap new (are_one n number two) ∙ besides.here)) (subst (λ (s : SessionHold). Apart s.locks here.locks) (sym (besides.there m one)) (apart-turn here.locks (old m).locks (mine m one)))
   at false false one two =
-      subst (λ (s : Seat). Apart s.locks (new n).locks) (sym (besides.there m one)) (subst (λ (s : Seat). Apart (old m).locks s.locks) (sym (besides.there n two)) (theirs m n differ))
+      subst (λ (s : SessionHold). Apart s.locks (new n).locks) (sym (besides.there m one)) (subst (λ (s : SessionHold). Apart (old m).locks s.locks) (sym (besides.there n two)) (theirs m n differ))
 
 -- what is alike
 alike_itself : (scene : Scene) (a : Stored) → Alike scene a a
@@ -107,38 +101,38 @@ others_alike scene tables (event ∷ events) all =
     record { each = λ name is. sym (found_after event.table name event.change tables ∙ change_not (bytes_eq event.table name) event.change (find_table name tables) (unfound scene event.table name all.0 is)) ∙ next.each name is }
 
 -- nobody else is touched where the tables agree under what they hold
-lasting_others : (own : Bool) (before after : Database) (seat : Seat) (going : Going) → Agree seat.names seat.locks before after → IsLasting own before seat going → IsLasting own after seat going
-lasting_others true before after seat going agree is = stable_others seat.names seat.locks going.lines (record { replies = going.replies; writes = seat.writes }) before after agree is
-lasting_others false before after seat going agree is = safe_others seat.names seat.locks seat.writes before after agree is
+lasting_others : (own : Bool) (before after : Database) (hold : SessionHold) (going : Going) → Agree hold.names hold.locks before after → IsLasting own before hold going → IsLasting own after hold going
+lasting_others true before after hold going agree is = stable_others hold.names hold.locks going.lines (record { replies = going.replies; writes = hold.writes }) before after agree is
+lasting_others false before after hold going agree is = safe_others hold.names hold.locks hold.writes before after agree is
 
-pub fine_others : (scene : Scene) (own : Bool) (before after : Database) (seat : Seat) (going : Going) → Agree seat.names seat.locks before after → IsFine scene own before seat going → IsFine scene own after seat going
-fine_others scene own before after seat going agree fine = record {
-  lasting = lasting_others own before after seat going agree fine.lasting;
-  covered = covered_others seat.names seat.locks before after seat.writes agree fine.covered;
+pub fine_others : (scene : Scene) (own : Bool) (before after : Database) (hold : SessionHold) (going : Going) → Agree hold.names hold.locks before after → IsFine scene own before hold going → IsFine scene own after hold going
+fine_others scene own before after hold going agree fine = record {
+  lasting = lasting_others own before after hold going agree fine.lasting;
+  covered = covered_others hold.names hold.locks before after hold.writes agree fine.covered;
   named = fine.named;
   lines = fine.lines;
 }
 
-lasting_rest : (own : Bool) (tables : Database) → IsOrderly tables → IsLasting own tables no_seat not_going
+lasting_rest : (own : Bool) (tables : Database) → IsOrderly tables → IsLasting own tables no_hold not_going
 lasting_rest true tables is = stable_begin tables is
 lasting_rest false tables is = safe_begin tables
 
-pub fine_rest : (scene : Scene) (own : Bool) (tables : Database) → IsOrderly tables → IsFine scene own tables no_seat not_going
+pub fine_rest : (scene : Scene) (own : Bool) (tables : Database) → IsOrderly tables → IsFine scene own tables no_hold not_going
 fine_rest scene own tables is = record { lasting = lasting_rest own tables is; covered = tt; named = tt; lines = tt }
 
 -- the others, when tables become these and a session is at rest
-others_fine : (scene : Scene) (now : Stored) (after : Database) (seat seats : ℕ → Seat) (going goings : ℕ → Going) (past : List PlainItem) (number : ℕ) → IsKept scene now seat going past → IsOrderly after
-    → Besides number seat seats no_seat → Besides number going goings not_going → ((n : ℕ) → (n == number) ≡ false → Agree (seat n).names (seat n).locks now.tables after) → (n : ℕ) → IsFine scene (scene.client n) after (seats n) (goings n)
-others_fine scene now after seat seats going goings past number kept is besides lines agree n = two (n == number) refl where
+others_fine : (scene : Scene) (now : Stored) (after : Database) (hold seats : ℕ → SessionHold) (going goings : ℕ → Going) (past : List PlainItem) (number : ℕ) → IsKept scene now hold going past → IsOrderly after
+    → Besides number hold seats no_hold → Besides number going goings not_going → ((n : ℕ) → (n == number) ≡ false → Agree (hold n).names (hold n).locks now.tables after) → (n : ℕ) → IsFine scene (scene.client n) after (seats n) (goings n)
+others_fine scene now after hold seats going goings past number kept is besides lines agree n = two (n == number) refl where
   two : (b : Bool) → (n == number) ≡ b → IsFine scene (scene.client n) after (seats n) (goings n)
   two true here = let same : n ≡ number = are_one n number here in subst (λ (m : ℕ). IsFine scene (scene.client m) after (seats m) (goings m)) (sym same) (rw (besides.here, lines.here) (fine_rest scene (scene.client number) after is))
-  two false here = rw (besides.there n here, lines.there n here) (fine_others scene (scene.client n) now.tables after (seat n) (going n) (agree n here) (kept.fine n))
+  two false here = rw (besides.there n here, lines.there n here) (fine_others scene (scene.client n) now.tables after (hold n) (going n) (agree n here) (kept.fine n))
 
 -- the tool commits what it wrote
-pub kept_writes : (scene : Scene) (now after : Stored) (seat seats : ℕ → Seat) (going goings : ℕ → Going) (past : List PlainItem) (number : ℕ) (own : Seat) (line : Going) → IsKept scene now seat going past → IsFine scene false now.tables own line
-    → ((n : ℕ) → (n == number) ≡ false → Apart own.locks (seat n).locks) → Besides number seat seats no_seat → Besides number going goings not_going
+pub kept_writes : (scene : Scene) (now after : Stored) (hold seats : ℕ → SessionHold) (going goings : ℕ → Going) (past : List PlainItem) (number : ℕ) (own : SessionHold) (line : Going) → IsKept scene now hold going past → IsFine scene false now.tables own line
+    → ((n : ℕ) → (n == number) ≡ false → Apart own.locks (hold n).locks) → Besides number hold seats no_hold → Besides number going goings not_going
     → after.tables ≡ after_events now.tables own.writes → after.log ≡ now.log ++ own.writes → IsKept scene after seats goings past
-kept_writes scene now after seat seats going goings past number own line kept fine apart besides lines tables log =
+kept_writes scene now after hold seats going goings past number own line kept fine apart besides lines tables log =
     let is : IsOrderly after.tables = rw tables (fine.lasting.each now.tables kept.orderly (agree_itself own.names own.locks now.tables)) in
     let same : Alike scene (seen scene now) (seen scene after) = record {
       tables = rw tables (others_alike scene now.tables own.writes fine.named);
@@ -147,38 +141,38 @@ kept_writes scene now after seat seats going goings past number own line kept fi
     record {
       orderly = is;
       serial = serial-alike scene (record { tables = scene.opening; log = [] }) (seen scene now) (seen scene after) past kept.serial same;
-      fine = others_fine scene now after.tables seat seats going goings past number kept is besides lines (λ n differ. subst (λ (d : Database). Agree (seat n).names (seat n).locks now.tables d) (sym tables) (others_agree (seat n).names own.names own.locks (seat n).locks now.tables own.writes (apart n differ) fine.covered));
-      apart = two_seats number seat seats no_seat besides (λ n differ. none_apart (seat n).locks) kept.apart;
+      fine = others_fine scene now after.tables hold seats going goings past number kept is besides lines (λ n differ. subst (λ (d : Database). Agree (hold n).names (hold n).locks now.tables d) (sym tables) (others_agree (hold n).names own.names own.locks (hold n).locks now.tables own.writes (apart n differ) fine.covered));
+      apart = two_seats number hold seats no_hold besides (λ n differ. none_apart (hold n).locks) kept.apart;
     }
 
 -- a session's transaction goes on, a client's or the tool's
-pub kept_goes : (scene : Scene) (now : Stored) (seat seats : ℕ → Seat) (going goings : ℕ → Going) (past : List PlainItem) (number : ℕ) (own : Seat) (line : Going) → IsKept scene now seat going past → IsFine scene (scene.client number) now.tables own line
-    → ((n : ℕ) → (n == number) ≡ false → Apart own.locks (seat n).locks) → Besides number seat seats own → Besides number going goings line → IsKept scene now seats goings past
-kept_goes scene now seat seats going goings past number own line kept fine apart besides lines = record {
+pub kept_goes : (scene : Scene) (now : Stored) (hold seats : ℕ → SessionHold) (going goings : ℕ → Going) (past : List PlainItem) (number : ℕ) (own : SessionHold) (line : Going) → IsKept scene now hold going past → IsFine scene (scene.client number) now.tables own line
+    → ((n : ℕ) → (n == number) ≡ false → Apart own.locks (hold n).locks) → Besides number hold seats own → Besides number going goings line → IsKept scene now seats goings past
+kept_goes scene now hold seats going goings past number own line kept fine apart besides lines = record {
   orderly = kept.orderly;
   serial = kept.serial;
   fine = λ n. two n (n == number) refl;
-  apart = two_seats number seat seats own besides apart kept.apart;
+  apart = two_seats number hold seats own besides apart kept.apart;
 } where
   two : (n : ℕ) (b : Bool) → (n == number) ≡ b → IsFine scene (scene.client n) now.tables (seats n) (goings n)
   two n true is = let same : n ≡ number = are_one n number is in subst (λ (m : ℕ). IsFine scene (scene.client m) now.tables (seats m) (goings m)) (sym same) (rw (besides.here, lines.here) fine)
   two n false is = rw (besides.there n is, lines.there n is) (kept.fine n)
 
 -- a client's transaction ends
-pub kept_ends : (scene : Scene) (now after : Stored) (seat seats : ℕ → Seat) (going goings : ℕ → Going) (past : List PlainItem) (number : ℕ) (own : Seat) (line : Going) (ended : TxnEnd) → IsKept scene now seat going past → IsFine scene true now.tables own line
-    → ((n : ℕ) → (n == number) ≡ false → Apart own.locks (seat n).locks) → Besides number seat seats no_seat → Besides number going goings not_going
+pub kept_ends : (scene : Scene) (now after : Stored) (hold seats : ℕ → SessionHold) (going goings : ℕ → Going) (past : List PlainItem) (number : ℕ) (own : SessionHold) (line : Going) (ended : TxnEnd) → IsKept scene now hold going past → IsFine scene true now.tables own line
+    → ((n : ℕ) → (n == number) ≡ false → Apart own.locks (hold n).locks) → Besides number hold seats no_hold → Besides number going goings not_going
     → after.tables ≡ cond (stays line.lines) (after_events now.tables own.writes) now.tables → after.log ≡ now.log ++ cond (stays line.lines) own.writes []
     → IsKept scene after seats goings (past ++ Txn (record { txn = record { lines = line.lines; ended = ended }; replies = line.replies }) ∷ [])
 unfolding alone
-kept_ends scene now after seat seats going goings past number own line ended kept fine apart besides lines tables log =
+kept_ends scene now after hold seats going goings past number own line ended kept fine apart besides lines tables log =
     let run : RunSo line.lines (record { replies = line.replies; writes = own.writes }) now.tables = stable_end own.names own.locks line.lines (record { replies = line.replies; writes = own.writes }) now.tables kept.orderly fine.lasting in
     let is : IsOrderly after.tables = rw tables (left (stays line.lines) run.orderly) in
     record {
       orderly = is;
       serial = serial-more scene (record { tables = scene.opening; log = [] }) (seen scene now) (seen scene after) past (Txn (record { txn = record { lines = line.lines; ended = ended }; replies = line.replies })) kept.serial
           (leads (stays line.lines) run.runs tables (seen_log (stays line.lines) log));
-      fine = others_fine scene now after.tables seat seats going goings past number kept is besides lines (λ n differ. subst (λ (d : Database). Agree (seat n).names (seat n).locks now.tables d) (sym tables) (others n (stays line.lines) differ));
-      apart = two_seats number seat seats no_seat besides (λ n differ. none_apart (seat n).locks) kept.apart;
+      fine = others_fine scene now after.tables hold seats going goings past number kept is besides lines (λ n differ. subst (λ (d : Database). Agree (hold n).names (hold n).locks now.tables d) (sym tables) (others n (stays line.lines) differ));
+      apart = two_seats number hold seats no_hold besides (λ n differ. none_apart (hold n).locks) kept.apart;
     } where
       left : (b : Bool) → IsOrderly (after_events now.tables own.writes) → IsOrderly (cond b (after_events now.tables own.writes) now.tables)
       left true written = written
@@ -196,13 +190,13 @@ kept_ends scene now after seat seats going goings past number own line ended kep
       leads true runs t l = rw runs (refl, t, l, fine.lines)
       leads false runs t l = rw runs (refl, t, l, fine.lines)
 
-      others : (n : ℕ) (b : Bool) → (n == number) ≡ false → Agree (seat n).names (seat n).locks now.tables (cond b (after_events now.tables own.writes) now.tables)
-      others n true is = others_agree (seat n).names own.names own.locks (seat n).locks now.tables own.writes (apart n is) fine.covered
-      others n false is = agree_itself (seat n).names (seat n).locks now.tables
+      others : (n : ℕ) (b : Bool) → (n == number) ≡ false → Agree (hold n).names (hold n).locks now.tables (cond b (after_events now.tables own.writes) now.tables)
+      others n true is = others_agree (hold n).names own.names own.locks (hold n).locks now.tables own.writes (apart n is) fine.covered
+      others n false is = agree_itself (hold n).names (hold n).locks now.tables
 
 -- nothing is kept less where nothing that is spoken of changes
-pub kept_same : (scene : Scene) (now : Stored) (seat seats : ℕ → Seat) (going goings : ℕ → Going) (past : List PlainItem) → ((n : ℕ) → seats n ≡ seat n) → ((n : ℕ) → goings n ≡ going n) → IsKept scene now seat going past → IsKept scene now seats goings past
-kept_same scene now seat seats going goings past seats_are goings_are kept = record {
+pub kept_same : (scene : Scene) (now : Stored) (hold seats : ℕ → SessionHold) (going goings : ℕ → Going) (past : List PlainItem) → ((n : ℕ) → seats n ≡ hold n) → ((n : ℕ) → goings n ≡ going n) → IsKept scene now hold going past → IsKept scene now seats goings past
+kept_same scene now hold seats going goings past seats_are goings_are kept = record {
   orderly = kept.orderly;
   serial = kept.serial;
   fine = λ n. rw (seats_are n, goings_are n) (kept.fine n);
@@ -210,11 +204,11 @@ kept_same scene now seat seats going goings past seats_are goings_are kept = rec
 }
 
 -- whole tables change whose names nobody holds
-pub kept_moves : (scene : Scene) (now after : Stored) (seat : ℕ → Seat) (going : ℕ → Going) (past more : List PlainItem) → IsKept scene now seat going past → Serial scene (record { tables = scene.opening; log = [] }) more (seen scene after) → IsOrderly after.tables
-    → ((n : ℕ) (name : List ℕ) → list_any (bytes_eq name) (seat n).names ≡ true → find_table name after.tables ≡ find_table name now.tables) → IsKept scene after seat going more
-kept_moves scene now after seat going past more kept serial is others = record {
+pub kept_moves : (scene : Scene) (now after : Stored) (hold : ℕ → SessionHold) (going : ℕ → Going) (past more : List PlainItem) → IsKept scene now hold going past → Serial scene (record { tables = scene.opening; log = [] }) more (seen scene after) → IsOrderly after.tables
+    → ((n : ℕ) (name : List ℕ) → list_any (bytes_eq name) (hold n).names ≡ true → find_table name after.tables ≡ find_table name now.tables) → IsKept scene after hold going more
+kept_moves scene now after hold going past more kept serial is others = record {
   orderly = is;
   serial = serial;
-  fine = λ n. fine_others scene (scene.client n) now.tables after.tables (seat n) (going n) (record { tables = λ name held. rw (others n name held) (tables_itself (seat n).locks (find_table name now.tables)) }) (kept.fine n);
+  fine = λ n. fine_others scene (scene.client n) now.tables after.tables (hold n) (going n) (record { tables = λ name held. rw (others n name held) (tables_itself (hold n).locks (find_table name now.tables)) }) (kept.fine n);
   apart = kept.apart;
 }

@@ -11,10 +11,9 @@ use Rattle.plain_server.specs.Alone.{stays, Ran, lines_run, nothing_ran, outcome
 use Rattle.plain_server.specs.Jobs.{after_events, change_table}
 use Rattle.history_laws.specs.Scenes.{Past, PlainItem, Txn, Alter, Stored, Scene, is_mine, FoundAlike, AltersTo, Leads, Serial, tables_left, LeadsTo, SerialHistory}
 use Rattle.history_laws.specs.Laws.{IsTxn}
-use Rattle.statement_laws.proofs.Points.{are_same, same_bytes}
 use Rattle.statement_laws.proofs.Finding.{found_after, change_if}
 use Rattle.history_laws.proofs.Bridges.{lines_alike}
-use Rattle.history_laws.proofs.Names.{bytes_no}
+use Rattle.statement_laws.proofs.Tests.{same_bytes, are_same, turned_bytes}
 
 -- a table that is found has the name
 found_named : (name : List ℕ) (tables : Database) (table : TableRows) → find_table name tables ≡ Some table → bytes_eq table.schema.name name ≡ true
@@ -47,7 +46,7 @@ found_left (first ∷ names) name tables = at (bytes_eq name first) (find_table 
       rw here (sym (ap (λ (n : List ℕ). find_table n tables) (are_same name first same) ∙ is))
   at false None same is rest = rest
   at false (Some table) same is rest =
-      let off : is_named name table ≡ false = ap (λ (n : List ℕ). bytes_eq n name) (are_same table.schema.name first (found_named first tables table is)) ∙ bytes_no name first same in
+      let off : is_named name table ≡ false = ap (λ (n : List ℕ). bytes_eq n name) (are_same table.schema.name first (found_named first tables table is)) ∙ turned_bytes name first same in
       rw off rest
 
 -- the same client tables are left
@@ -76,7 +75,7 @@ turned_test : (a b : List ℕ) → bytes_eq a b ≡ bytes_eq b a
 turned_test a b = at (bytes_eq a b) refl where
   at : (t : Bool) → bytes_eq a b ≡ t → t ≡ bytes_eq b a
   at true same = sym (ap (bytes_eq b) (are_same a b same) ∙ same_bytes b)
-  at false off = sym (bytes_no a b off)
+  at false off = sym (turned_bytes a b off)
 
 -- a change of a table, before and after the others are left out
 change_left : (names : List (List ℕ)) (event : List ℕ) (change : Change) (tables : Database) → tables_left names (with_change event (change_table change) tables) ≡ with_change event (change_table change) (tables_left names tables)

@@ -48,15 +48,7 @@ use Rattle.history_laws.proofs.Journals.{opened_waits, state_more, word_back}
 use Rattle.history_laws.proofs.Waiting.{waits_there, waits_called, waits_polled, none_waits, filter_gone}
 use Rattle.history_laws.proofs.Progress.{plain, going_of, LineWaits, Free, Held, Alike, AsksNext, Calls, Polls, IsCut, HeardSo, client_alike, client_gone, lines_stay}
 use Rattle.history_laws.proofs.Hearing.{heard_so}
-
-are_one : (a b : ℕ) → (a == b) ≡ true → a ≡ b
-are_one a b is = grind (arith, nat_tests)
-
-same_number : (n : ℕ) → (n == n) ≡ true
-same_number n = grind (arith, nat_tests)
-
-turned : (a b : ℕ) → (a == b) ≡ false → (b == a) ≡ false
-turned a b is = grind (arith, nat_tests)
+use Rattle.statement_laws.proofs.Tests.{same_number, turned}
 
 -- ONE TURN MORE
 

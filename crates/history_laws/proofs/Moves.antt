@@ -10,22 +10,13 @@ use Rattle.row_store.specs.declared.renaming.Pair.{Pair}
 use Rattle.row_store.specs.declared.renaming.NotRenamed.TheVariants as reasons
 use Rattle.statement_laws.specs.Covering.{IsOrderlyTable}
 use Rattle.statement_laws.specs.Databases.{WhereFound, IsOrderly}
-use Rattle.statement_laws.proofs.Points.{are_same, same_bytes}
-use Rattle.history_laws.proofs.Names.{bytes_no}
 use Rattle.plain_server.specs.States.{pair_names}
+use Rattle.statement_laws.proofs.Tests.{same_bytes, are_same, turned_bytes, nor_left, nor_right}
 
 -- whole tables of these names changed
 pub record Moved (names : List (List ℕ)) (before after : Database) : Type 0 where
   pub others : (name : List ℕ) → list_any (bytes_eq name) names ≡ false → find_table name after ≡ find_table name before
   pub orderly : IsOrderly before → IsOrderly after
-
-pub or_first : (a b : Bool) → (a || b) ≡ false → a ≡ false
-or_first false b is = refl
-or_first true b is = absurd (true≢false is)
-
-or_rest : (a b : Bool) → (a || b) ≡ false → b ≡ false
-or_rest false b is = is
-or_rest true b is = absurd (true≢false is)
 
 -- a table behind the others
 pub behind_other : (name : List ℕ) (tables : Database) (new : TableRows) → is_named name new ≡ false → find_table name (tables ++ new ∷ []) ≡ find_table name tables
@@ -44,13 +35,13 @@ behind_found P name (table ∷ tables) new is all = at (is_named name table) all
 
 pub create_moves : (schema : Schema) (tables : Database) → IsOrderlyTable (record { schema = schema; rows = [] }) → Moved (schema.name ∷ []) tables (tables ++ record { schema = schema; rows = [] } ∷ [])
 create_moves schema tables is = record {
-  others = λ name off. behind_other name tables (record { schema = schema; rows = [] }) (bytes_no name schema.name (or_first (bytes_eq name schema.name) false off));
+  others = λ name off. behind_other name tables (record { schema = schema; rows = [] }) (turned_bytes name schema.name (nor_left (bytes_eq name schema.name) false off));
   orderly = λ all. record { each = λ name. behind_found IsOrderlyTable name tables (record { schema = schema; rows = [] }) is (all.each name) };
 }
 
 -- a table that is gone
 named_other : (table name other : List ℕ) → bytes_eq table name ≡ true → bytes_eq other name ≡ false → bytes_eq table other ≡ false
-named_other table name other same off = rw (are_same table name same) (bytes_no other name off)
+named_other table name other same off = rw (are_same table name same) (turned_bytes other name off)
 
 gone_other : (name other : List ℕ) (tables : Database) → bytes_eq other name ≡ false → find_table other (without_table name tables) ≡ find_table other tables
 gone_other name other [] off = refl
@@ -68,7 +59,7 @@ gone_none name (table ∷ tables) = at (is_named name table) refl (gone_none nam
 
 pub drop_moves : (name : List ℕ) (tables : Database) → Moved (name ∷ []) tables (without_table name tables)
 drop_moves name tables = record {
-  others = λ other off. gone_other name other tables (or_first (bytes_eq other name) false off);
+  others = λ other off. gone_other name other tables (nor_left (bytes_eq other name) false off);
   orderly = λ all. record { each = λ other. at other (bytes_eq other name) refl all };
 } where
   at : (other : List ℕ) (b : Bool) → bytes_eq other name ≡ b → IsOrderly tables → WhereFound IsOrderlyTable (find_table other (without_table name tables))
@@ -80,15 +71,15 @@ pub renamed_other : (old new other : List ℕ) (tables : Database) → bytes_eq 
 renamed_other old new other [] one two = refl
 renamed_other old new other (table ∷ tables) one two = at (is_named old table) refl (renamed_other old new other tables one two) where
   at : (b : Bool) → is_named old table ≡ b → find_table other (with_name old new tables) ≡ find_table other tables → find_table other (cond b (name_table new table) table ∷ with_name old new tables) ≡ cond (is_named other table) (Some table) (find_table other tables)
-  at true same rest = rw (named_other table.schema.name old other same one, bytes_no other new two) rest
+  at true same rest = rw (named_other table.schema.name old other same one, turned_bytes other new two) rest
   at false same rest = ap (λ (o : Option TableRows). cond (is_named other table) (Some table) o) rest
 
 pub renamed_new : (old new : List ℕ) (tables : Database) → has_table new tables ≡ false → find_table new (with_name old new tables) ≡ option_map (name_table new) (find_table old tables)
 renamed_new old new [] none = refl
-renamed_new old new (table ∷ tables) none = at (is_named old table) (renamed_new old new tables (or_rest (is_named new table) (has_table new tables) none)) where
+renamed_new old new (table ∷ tables) none = at (is_named old table) (renamed_new old new tables (nor_right (is_named new table) (has_table new tables) none)) where
   at : (b : Bool) → find_table new (with_name old new tables) ≡ option_map (name_table new) (find_table old tables) → find_table new (cond b (name_table new table) table ∷ with_name old new tables) ≡ option_map (name_table new) (cond b (Some table) (find_table old tables))
   at true rest = rw (same_bytes new) refl
-  at false rest = rw (or_first (is_named new table) (has_table new tables) none) rest
+  at false rest = rw (nor_left (is_named new table) (has_table new tables) none) rest
 
 renamed_old : (old new : List ℕ) (tables : Database) → bytes_eq new old ≡ false → find_table old (with_name old new tables) ≡ None
 renamed_old old new [] off = refl
@@ -113,7 +104,7 @@ renamed_orderly : (old new : List ℕ) (tables : Database) → has_table new tab
 renamed_orderly old new tables none all = record { each = λ name. at name (bytes_eq name new) (bytes_eq name old) refl refl } where
   at : (name : List ℕ) (b c : Bool) → bytes_eq name new ≡ b → bytes_eq name old ≡ c → WhereFound IsOrderlyTable (find_table name (with_name old new tables))
   at name true c same other = rw (are_same name new same, renamed_new old new tables none) (named_found new (find_table old tables) (all.each old))
-  at name false true same other = rw (are_same name old other, renamed_old old new tables (bytes_no old new (ap (λ (n : List ℕ). bytes_eq n new) (sym (are_same name old other)) ∙ same))) tt
+  at name false true same other = rw (are_same name old other, renamed_old old new tables (turned_bytes old new (ap (λ (n : List ℕ). bytes_eq n new) (sym (are_same name old other)) ∙ same))) tt
   at name false false same other = rw (renamed_other old new name tables other same) (all.each name)
 
 -- all pairs
@@ -128,9 +119,9 @@ rename_moves (pair ∷ pairs) tables after is = at (has_table pair.new tables) (
       let moved = rest is in
       record {
         others = λ name off.
-            let one : bytes_eq name pair.old ≡ false = or_first (bytes_eq name pair.old) (bytes_eq name pair.new || list_any (bytes_eq name) (pair_names pairs)) off in
-            let more = or_rest (bytes_eq name pair.old) (bytes_eq name pair.new || list_any (bytes_eq name) (pair_names pairs)) off in
-            let two : bytes_eq name pair.new ≡ false = or_first (bytes_eq name pair.new) (list_any (bytes_eq name) (pair_names pairs)) more in
-            moved.others name (or_rest (bytes_eq name pair.new) (list_any (bytes_eq name) (pair_names pairs)) more) ∙ renamed_other pair.old pair.new name tables one two;
+            let one : bytes_eq name pair.old ≡ false = nor_left (bytes_eq name pair.old) (bytes_eq name pair.new || list_any (bytes_eq name) (pair_names pairs)) off in
+            let more = nor_right (bytes_eq name pair.old) (bytes_eq name pair.new || list_any (bytes_eq name) (pair_names pairs)) off in
+            let two : bytes_eq name pair.new ≡ false = nor_left (bytes_eq name pair.new) (list_any (bytes_eq name) (pair_names pairs)) more in
+            moved.others name (nor_right (bytes_eq name pair.new) (list_any (bytes_eq name) (pair_names pairs)) more) ∙ renamed_other pair.old pair.new name tables one two;
         orderly = λ all. moved.orderly (renamed_orderly pair.old pair.new tables none all);
       }

@@ -12,22 +12,12 @@ use Rattle.metadata_locks.specs.Granting.{holds, holding_session, least_holder, 
 use Rattle.plain_server.specs.declared.session.Session.{Session}
 use Rattle.plain_server.specs.declared.session.HeldName.{HeldName}
 use Rattle.history_laws.specs.Holdings.{face_of, face_in, names_of, IsHeld, OneHolder}
-use Rattle.statement_laws.proofs.Points.{are_same, same_bytes}
-use Rattle.history_laws.proofs.Kept.{are_one}
 use Rattle.std.specs.Prelude.{is_some}
 use Rattle.plain_server.specs.States.{connected, State, name_held, names_held, new_session, session_of, shared_names, with_session}
 use Rattle.plain_server.specs.declared.need.Need.{Need}
 use Rattle.plain_server.specs.Serving.{at_rest, counting, exclusive, holding, locking, shared, unlocking}
 use Rattle.journal_words.specs.Journals.{opens_if}
-
-pub same_number : (n : ℕ) → (n == n) ≡ true
-same_number n = grind (arith, nat_tests)
-
-pub bytes_no : (a b : List ℕ) → bytes_eq a b ≡ false → bytes_eq b a ≡ false
-bytes_no a b is = at (bytes_eq b a) refl where
-  at : (c : Bool) → bytes_eq b a ≡ c → c ≡ false
-  at true back = let same : b ≡ a = are_same b a back in absurd (true≢false (sym (same_bytes a) ∙ ap (bytes_eq a) (sym same) ∙ is))
-  at false back = refl
+use Rattle.statement_laws.proofs.Tests.{same_number, are_one, are_same, turned_bytes, or_right}
 
 -- a held name among two lists
 pub held_parts : (one : grants.HeldName) (a b : List grants.HeldName) → IsHeld one (a ++ b) → IsHeld one a ⊎ IsHeld one b
@@ -107,10 +97,6 @@ own_number number [] one is = absurd is
 own_number number (x ∷ added) one (inl same) = ap (λ (h : grants.HeldName). h.session) same
 own_number number (x ∷ added) one (inr more) = own_number number added one more
 
-or_right_true : (a b : Bool) → b ≡ true → (a || b) ≡ true
-or_right_true true b is = refl
-or_right_true false b is = is
-
 pub one_more : (old new : List grants.HeldName) (number : ℕ) (added : List HeldName) → OneHolder old → Among2 new old (as_held number added) → Free old number added → OneHolder new
 one_more old new number added is among free one other p q exclusive differ = at (among one p) (among other q) where
   at : IsHeld one old ⊎ IsHeld one (as_held number added) → IsHeld other old ⊎ IsHeld other (as_held number added) → bytes_eq other.name one.name ≡ false
@@ -119,7 +105,7 @@ one_more old new number added is among free one other p q exclusive differ = at 
   at (inl a) (inr b) =
       let mine : other.session ≡ number = own_number number added other b in
       let back : (one.session == number) ≡ false = (let from : (number == one.session) ≡ false = ap (λ (n : ℕ). n == one.session) (sym mine) ∙ differ in grind (arith, nat_tests)) in
-      bytes_no one.name other.name (free other one b a back (or_right_true other.exclusive one.exclusive exclusive))
+      turned_bytes one.name other.name (free other one b a back (or_right other.exclusive one.exclusive exclusive))
   at (inr a) (inr b) =
       absurd (true≢false (sym (same_number number) ∙ ap (λ (n : ℕ). n == number) (sym (own_number number added other b)) ∙ ap (λ (n : ℕ). other.session == n) (sym (own_number number added one a)) ∙ differ))
 
@@ -303,10 +289,10 @@ own_holding number (h ∷ held) name is = at (not h.exclusive) is (own_holding n
   at true is rest = here (bytes_eq name h.name) refl is rest
   at false is rest = deeper (rest is)
 
-pub holding_of : (sessions : List Session) (n : ℕ) (name : List ℕ) → list_any (bytes_eq name) (face_of sessions n).seat.names ≡ true → Holding sessions n name
+pub holding_of : (sessions : List Session) (n : ℕ) (name : List ℕ) → list_any (bytes_eq name) (face_of sessions n).hold.names ≡ true → Holding sessions n name
 holding_of [] n name is = absurd (false≢true is)
 holding_of (first ∷ sessions) n name is = at (first.number == n) refl is (holding_of sessions n name) where
-  at : (b : Bool) → (first.number == n) ≡ b → list_any (bytes_eq name) (face_in (cond b (Some first) (session_of n sessions))).seat.names ≡ true → (list_any (bytes_eq name) (face_of sessions n).seat.names ≡ true → Holding sessions n name) → Holding (first ∷ sessions) n name
+  at : (b : Bool) → (first.number == n) ≡ b → list_any (bytes_eq name) (face_in (cond b (Some first) (session_of n sessions))).hold.names ≡ true → (list_any (bytes_eq name) (face_of sessions n).hold.names ≡ true → Holding sessions n name) → Holding (first ∷ sessions) n name
   at true here is rest =
       let own = own_holding first.number first.names name is in
       record { one = own.0; is = held_left own.0 (as_held first.number first.names) (names_held sessions) own.1; own = own.2 ∙ are_one first.number n here; same = own.3 }
@@ -314,7 +300,7 @@ holding_of (first ∷ sessions) n name is = at (first.number == n) refl is (hold
       let there : Holding sessions n name = rest is in
       record { one = there.one; is = held_right there.one (as_held first.number first.names) (names_held sessions) there.is; own = there.own; same = there.same }
 
-pub names_granted : (sessions : List Session) (number n : ℕ) (names : List (List ℕ)) (name : List ℕ) → Free (names_held sessions) number (map exclusive names) → (n == number) ≡ false → list_any (bytes_eq name) (face_of sessions n).seat.names ≡ true → list_any (bytes_eq name) names ≡ false
+pub names_granted : (sessions : List Session) (number n : ℕ) (names : List (List ℕ)) (name : List ℕ) → Free (names_held sessions) number (map exclusive names) → (n == number) ≡ false → list_any (bytes_eq name) (face_of sessions n).hold.names ≡ true → list_any (bytes_eq name) names ≡ false
 names_granted sessions number n [] name free differ held = refl
 names_granted sessions number n (first ∷ names) name free differ held =
     let has : Holding sessions n name = holding_of sessions n name held in

@@ -22,20 +22,12 @@ use Rattle.journal_words.specs.Serials as serials
 use Rattle.std.proofs.Common.{append_assoc, append-nil}
 use Rattle.history_laws.specs.Scenes.{PlainItem, Txn, Alter, Stored, Scene, is_mine, NamesTable, Leads, Serial, tables_left}
 use Rattle.history_laws.specs.Plans.{client_tables, names_of, script_names, client_names, IsSerialPlan}
-use Rattle.statement_laws.proofs.Points.{are_same, same_bytes}
+use Rattle.statement_laws.proofs.Tests.{same_bytes, are_same, or_left, or_right, nor_right}
 
 -- A NAME AMONG OTHERS
 
 abbrev pub IsIn : List (List ℕ) → List (List ℕ) → Type 0
 IsIn names all = AllByRecursion (λ name. list_any (bytes_eq name) all ≡ true) names
-
-or_left : (a b : Bool) → a ≡ true → (a || b) ≡ true
-or_left true b is = refl
-or_left false b is = absurd (false≢true is)
-
-or_right : (a b : Bool) → b ≡ true → (a || b) ≡ true
-or_right true b is = refl
-or_right false b is = is
 
 -- a name among these is among those that have it still: those that pass a test which it passes, and others in front
 filter_has : (test : List ℕ → Bool) (name : List ℕ) (names : List (List ℕ)) → list_any (bytes_eq name) names ≡ true → test name ≡ true → list_any (bytes_eq name) (filter test names) ≡ true
@@ -153,10 +145,6 @@ all_found P (first ∷ names) name all is = at (bytes_eq name first) refl is (al
   at true same is rest = subst P (sym (are_same name first same)) all.0
   at false differ is rest = rest is
 
-or_no : (a b : Bool) → (a || b) ≡ false → b ≡ false
-or_no true b is = absurd (true≢false is)
-or_no false b is = is
-
 -- a table that stands, and is no leftover, is a client table
 stands_named : (table : List ℕ) (tables : Database) (name : List ℕ) → is_tool_name table name ≡ false → list_any (bytes_eq name) (map (λ t. t.schema.name) (filter (λ t. not (is_tool_name table t.schema.name)) tables)) ≡ false → find_table name tables ≡ None
 stands_named table [] name no_tool off = refl
@@ -167,7 +155,7 @@ stands_named table (first ∷ tables) name no_tool off = at (is_named name first
   at true same true tool off rest = absurd (false≢true (sym no_tool ∙ ap (is_tool_name table) (sym (are_same first.schema.name name same)) ∙ tool))
   at true same false client off rest = absurd (false≢true (sym off ∙ or_left (bytes_eq name first.schema.name) _ (ap (λ (n : List ℕ). bytes_eq n first.schema.name) (sym (are_same first.schema.name name same)) ∙ same_bytes first.schema.name)))
   at false differ true tool off rest = rest off
-  at false differ false client off rest = rest (or_no (bytes_eq name first.schema.name) _ off)
+  at false differ false client off rest = rest (nor_right (bytes_eq name first.schema.name) _ off)
 
 -- what doesn't stand doesn't come to stand by events
 none_changed : (table name : List ℕ) (change : TableRows → TableRows) (tables : Database) → ((t : TableRows) → (change t).schema.name ≡ t.schema.name) → find_table name tables ≡ None → find_table name (with_change table change tables) ≡ None

@@ -26,10 +26,9 @@ use Rattle.plain_server.specs.declared.work.StatementResult.{StatementResult}
 use Rattle.history_laws.specs.Holdings.{face_of, stored}
 use Rattle.plain_server.specs.Alone.{line_says}
 use Rattle.history_laws.proofs.Replies.{given_so, done_so, line_replies_so}
-use Rattle.statement_laws.proofs.Points.{are_same}
 use Rattle.history_laws.proofs.Kept.{serial-more, serial-alike}
 use Rattle.history_laws.proofs.Faces.{granted_apart, none_of}
-use Rattle.history_laws.proofs.Held.{seat_in}
+use Rattle.history_laws.proofs.Held.{hold_in}
 use Rattle.history_laws.proofs.Names.{Free, OneIn, as_needed, granted_free, names_granted, one_goes, one_rests, one_locks, one_unlocks}
 use Rattle.history_laws.proofs.Moves.{Moved, create_moves, drop_moves, rename_moves}
 use Rattle.history_laws.proofs.Turning.{Turned}
@@ -46,6 +45,7 @@ use Rattle.plain_server.specs.Locking.{need, need_within, blocker}
 use Rattle.plain_server.specs.States.{State, is_in_transaction, locks_held, names_held, pair_names, session_of, tables_named, view, waits_for, writes_of}
 use Rattle.history_laws.specs.Asking.{does_word, need_of_word}
 use Rattle.journal_words.specs.Clients.{word_asks}
+use Rattle.statement_laws.proofs.Tests.{are_same}
 
 -- WHAT A GRANT TELLS
 
@@ -124,7 +124,7 @@ word_deed state number (words.Do statement) = at (is_in_transaction (session_of 
   at true = refl
   at false = refl
 
-word_apart : (state : State) (number : ℕ) (word : ScriptWord) → IsFree state number (need_within (view number state) (word_asks word)) → (n : ℕ) → (n == number) ≡ false → Apart (need_of_word (view number state) word).locks (face_of state.sessions n).seat.locks
+word_apart : (state : State) (number : ℕ) (word : ScriptWord) → IsFree state number (need_within (view number state) (word_asks word)) → (n : ℕ) → (n == number) ≡ false → Apart (need_of_word (view number state) word).locks (face_of state.sessions n).hold.locks
 word_apart state number word free = subst (λ (need : Need). AreApart state number need.locks) (word_need (view number state) word) free.apart
 
 inside : (scene : Scene) (state : State) (number : ℕ) (going : ℕ → Going) (past : List PlainItem) (work : AtWork scene state number going past) (request : Request) → is_outside (session_of number state.sessions) request ≡ false
@@ -177,7 +177,7 @@ not_among scene (first ∷ names) name others mine = at (bytes_eq name first) re
   at false same rest = rest
 
 others_found : (scene : Scene) (state : State) (number : ℕ) (names : List (List ℕ)) (tables : Database) → Free (names_held state.sessions) number (map exclusive names) → Moved names state.tables tables
-    → (n : ℕ) → (n == number) ≡ false → (name : List ℕ) → list_any (bytes_eq name) (face_of state.sessions n).seat.names ≡ true → find_table name tables ≡ find_table name state.tables
+    → (n : ℕ) → (n == number) ≡ false → (name : List ℕ) → list_any (bytes_eq name) (face_of state.sessions n).hold.names ≡ true → find_table name tables ≡ find_table name state.tables
 others_found scene state number names tables free moved n differ name held = moved.others name (names_granted state.sessions number n names name free differ held)
 
 -- tables of other names change
@@ -263,7 +263,7 @@ within_left scene state number going past work lost (BeginSpan table span size) 
 
   at : (found : Option TableRows) → Left scene state number going past lost false (does (begins found span size need') state number)
   at None = refused_left scene state number going past work lost false 1146
-  at (Some t) = tool_goes_on scene state number going past work need' [] lost free.apart (quiet_fine scene state.tables (seat_in work.found) need' (own_fine scene state number going past work))
+  at (Some t) = tool_goes_on scene state number going past work need' [] lost free.apart (quiet_fine scene state.tables (hold_in work.found) need' (own_fine scene state number going past work))
 within_left scene state number going past work lost (CopyRow from into columns key) mine asks so free = at (is_in_transaction (session_of number state.sessions)) where
   need' : Need
   need' = need_within (view number state) (CopyRow from into columns key)
@@ -271,7 +271,7 @@ within_left scene state number going past work lost (CopyRow from into columns k
   said' : StatementResult
   said' = job_says (view number state) (copy_job (view number state) from into columns key)
 
-  fine : IsFine scene false state.tables (record { names = (seat_in work.found).names ++ need'.names; locks = (seat_in work.found).locks ++ need'.locks; writes = (seat_in work.found).writes ++ said'.events }) not_going
+  fine : IsFine scene false state.tables (record { names = (hold_in work.found).names ++ need'.names; locks = (hold_in work.found).locks ++ need'.locks; writes = (hold_in work.found).writes ++ said'.events }) not_going
   fine = tool_copies scene state number going past work need' from into columns key (view number state) (seen_is scene state number going past work) asks refl refl free.apart
 
   at : (b : Bool) → Left scene state number going past lost false (does (result_deed b need' said') state number)

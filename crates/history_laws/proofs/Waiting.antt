@@ -30,6 +30,7 @@ use Rattle.history_laws.specs.Turns.{request_of}
 use Rattle.history_laws.proofs.Replies.{IsReply, line_replies_so, copied_replies}
 use Rattle.script_text.specs.declared.script.ScriptWord.TheVariants as words
 use Rattle.history_laws.proofs.Journals.{done_waits}
+use Rattle.statement_laws.proofs.Tests.{same_number, are_one, turned}
 
 -- ANSWERS OF WHAT WAS DONE
 
@@ -111,15 +112,6 @@ poll_behind (answers.Waits by) old is = absurd is
 poll_behind other old is = refl
 
 -- ONE SESSION'S REQUEST
-
-are_one : (a b : ℕ) → (a == b) ≡ true → a ≡ b
-are_one a b is = grind (arith, nat_tests)
-
-turned : (a b : ℕ) → (a == b) ≡ false → (b == a) ≡ false
-turned a b is = grind (arith, nat_tests)
-
-same_number : (n : ℕ) → (n == n) ≡ true
-same_number n = grind (arith, nat_tests)
 
 pub filter_there : (number other : ℕ) (waiting : List Waiting) → (other == number) ≡ false → waiting_of other (filter (λ one. not (one.session == number)) waiting) ≡ waiting_of other waiting
 filter_there number other [] differ = refl

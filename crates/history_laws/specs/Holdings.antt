@@ -12,7 +12,7 @@ use Rattle.script_text.specs.declared.script.ScriptWord.{ScriptWord}
 use Rattle.row_store.specs.Databases.{Database}
 use Rattle.plain_server.specs.Jobs.{after_events}
 use Rattle.plain_server.specs.Alone.{stays, line_events}
-use Rattle.history_laws.specs.Scenes.{Scene, PlainItem, Stored, Seat, Going, no_seat, not_going, IsKept}
+use Rattle.history_laws.specs.Scenes.{Scene, PlainItem, Stored, SessionHold, Going, no_hold, not_going, IsKept}
 use Rattle.history_laws.specs.Turns.{MayAskIf}
 use Rattle.plain_server.specs.States.{State, locked_names, session_of, shared_names}
 use Rattle.plain_server.specs.declared.session.Waiting.{Waiting}
@@ -20,19 +20,19 @@ use Rattle.history_laws.specs.Asking.{need_of_word}
 
 -- what others see of a session: what it holds and wrote, the tables that it locked, and whether it is in a transaction
 pub record Face : Type 0 where
-  pub seat : Seat
+  pub hold : SessionHold
   pub locked : List (List ℕ)
   pub busy : Bool
 
 abbrev pub no_face : Face
-no_face = record { seat = no_seat; locked = []; busy = false }
+no_face = record { hold = no_hold; locked = []; busy = false }
 
 abbrev pub names_of : List HeldName → List (List ℕ)
 names_of held = map (λ one. one.name) held
 
 abbrev pub face_in : Option Session → Face
 face_in None = no_face
-face_in (Some session) = record { seat = record { names = names_of (shared_names session.names); locks = session.row_locks; writes = session.writes }; locked = locked_names session.names; busy = session.in_transaction }
+face_in (Some session) = record { hold = record { names = names_of (shared_names session.names); locks = session.row_locks; writes = session.writes }; locked = locked_names session.names; busy = session.in_transaction }
 
 abbrev pub face_of : List Session → ℕ → Face
 face_of sessions number = face_in (session_of number sessions)
@@ -43,7 +43,7 @@ stored state = record { tables = state.tables; log = state.log }
 -- a client's session in a transaction has lines, all of them answered; a session outside one has none and holds nothing
 -- but tables that it locked; a client locks none
 pub record Fits (own : Bool) (face : Face) (going : Going) : Type 0 where
-  pub rests : face.busy ≡ false → (face.seat ≡ no_seat) × (going ≡ not_going)
+  pub rests : face.busy ≡ false → (face.hold ≡ no_hold) × (going ≡ not_going)
   pub goes : own ≡ true → face.busy ≡ true → going.lines ≢ []
   pub answered : AllByRecursion (λ line. line.mark ≡ marks.Answered) going.lines
   pub tools : own ≡ false → going ≡ not_going
@@ -51,15 +51,15 @@ pub record Fits (own : Bool) (face : Face) (going : Going) : Type 0 where
   pub unlocked : own ≡ true → face.locked ≡ []
 
 pub record Holds (scene : Scene) (now : Stored) (faces : ℕ → Face) (going : ℕ → Going) (past : List PlainItem) : Type 0 where
-  pub kept : IsKept scene now (λ n. (faces n).seat) going past
+  pub kept : IsKept scene now (λ n. (faces n).hold) going past
   pub fits : (n : ℕ) → Fits (scene.client n) (faces n) (going n)
 
 -- what a session holds and wrote after its line, and its lines
-abbrev pub held_after : Database → Seat → ScriptWord → Mark → Seat
-held_after tables seat word mark = record {
-  names = seat.names ++ (need_of_word (after_events tables seat.writes) word).names;
-  locks = seat.locks ++ (need_of_word (after_events tables seat.writes) word).locks;
-  writes = seat.writes ++ line_events (after_events tables seat.writes) word mark;
+abbrev pub held_after : Database → SessionHold → ScriptWord → Mark → SessionHold
+held_after tables hold word mark = record {
+  names = hold.names ++ (need_of_word (after_events tables hold.writes) word).names;
+  locks = hold.locks ++ (need_of_word (after_events tables hold.writes) word).locks;
+  writes = hold.writes ++ line_events (after_events tables hold.writes) word mark;
 }
 
 abbrev pub lines_after : Going → ScriptWord → Mark → List Reply → Going

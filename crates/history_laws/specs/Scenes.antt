@@ -117,7 +117,7 @@ SerialHistory scene before [] after = after ≡ before
 SerialHistory scene before (item ∷ items) after = (between : Stored) × LeadsTo scene item before between × SerialHistory scene between items after
 
 -- what a session holds and wrote in its open transaction
-pub record Seat : Type 0 where
+pub record SessionHold : Type 0 where
   pub names : List (List ℕ)
   pub locks : List Lock
   pub writes : List RowEvent
@@ -127,43 +127,43 @@ pub record Going : Type 0 where
   pub lines : List TxnLine
   pub replies : List Reply
 
-abbrev pub no_seat : Seat
-no_seat = record { names = []; locks = []; writes = [] }
+abbrev pub no_hold : SessionHold
+no_hold = record { names = []; locks = []; writes = [] }
 
 abbrev pub not_going : Going
 not_going = record { lines = []; replies = [] }
 
 -- a client's open transaction is stable, and what it wrote is covered
-pub record IsSteady (tables : Database) (seat : Seat) (going : Going) : Type 0 where
-  pub stable : Stable seat.names seat.locks going.lines (record { replies = going.replies; writes = seat.writes }) tables
-  pub covered : EventsCovered seat.names seat.locks tables seat.writes
+pub record IsSteady (tables : Database) (hold : SessionHold) (going : Going) : Type 0 where
+  pub stable : Stable hold.names hold.locks going.lines (record { replies = going.replies; writes = hold.writes }) tables
+  pub covered : EventsCovered hold.names hold.locks tables hold.writes
 
 -- *Safe*: on every orderly database that agrees, what was written leaves an orderly one.
 pub record IsSafe (names : List (List ℕ)) (locks : List Lock) (writes : List RowEvent) (tables : Database) : Type 0 where
   pub each : (other : Database) → IsOrderly other → Agree names locks tables other → IsOrderly (after_events other writes)
 
 -- what lasts of an open transaction: of a client's, that its lines run so; of the tool's, that its writes leave an orderly database
-abbrev pub IsLasting : Bool → Database → Seat → Going → Type 0
-IsLasting true tables seat going = Stable seat.names seat.locks going.lines (record { replies = going.replies; writes = seat.writes }) tables
-IsLasting false tables seat going = IsSafe seat.names seat.locks seat.writes tables
+abbrev pub IsLasting : Bool → Database → SessionHold → Going → Type 0
+IsLasting true tables hold going = Stable hold.names hold.locks going.lines (record { replies = going.replies; writes = hold.writes }) tables
+IsLasting false tables hold going = IsSafe hold.names hold.locks hold.writes tables
 
 -- the events are of client tables, or none of them is
 abbrev pub EventsMine : Scene → Bool → List RowEvent → Type 0
 EventsMine scene own events = AllByRecursion (λ event. is_mine scene event.table ≡ own) events
 
 -- an open transaction lasts, what it wrote is covered, and a client's is of client tables, the tool's of none
-pub record IsFine (scene : Scene) (own : Bool) (tables : Database) (seat : Seat) (going : Going) : Type 0 where
-  pub lasting : IsLasting own tables seat going
-  pub covered : EventsCovered seat.names seat.locks tables seat.writes
-  pub named : EventsMine scene own seat.writes
+pub record IsFine (scene : Scene) (own : Bool) (tables : Database) (hold : SessionHold) (going : Going) : Type 0 where
+  pub lasting : IsLasting own tables hold going
+  pub covered : EventsCovered hold.names hold.locks tables hold.writes
+  pub named : EventsMine scene own hold.writes
   pub lines : AllByRecursion (λ line. NamesTable scene.mine line.word) going.lines
 
 -- all that is kept
-pub record IsKept (scene : Scene) (now : Stored) (seat : ℕ → Seat) (going : ℕ → Going) (past : List PlainItem) : Type 0 where
+pub record IsKept (scene : Scene) (now : Stored) (hold : ℕ → SessionHold) (going : ℕ → Going) (past : List PlainItem) : Type 0 where
   pub orderly : IsOrderly now.tables
   pub serial : Serial scene (record { tables = scene.opening; log = [] }) past (seen scene now)
-  pub fine : (n : ℕ) → IsFine scene (scene.client n) now.tables (seat n) (going n)
-  pub apart : (m n : ℕ) → (m == n) ≡ false → Apart (seat m).locks (seat n).locks
+  pub fine : (n : ℕ) → IsFine scene (scene.client n) now.tables (hold n) (going n)
+  pub apart : (m n : ℕ) → (m == n) ≡ false → Apart (hold m).locks (hold n).locks
 
 -- the one is the other but at one number
 pub record Besides {A : Type 0} (number : ℕ) (old new : ℕ → A) (own : A) : Type 0 where

@@ -16,8 +16,6 @@ use Rattle.plain_server.specs.declared.entry.Asked.TheVariants.{Call, Poll, Cut,
 use Rattle.plain_server.specs.Entries.{is_command, is_client}
 use Rattle.history_laws.specs.Holdings.{IsHeld}
 use Rattle.server_laws.specs.Others.{asks_exclusive, held_at, TurnOf, ExclusiveIsAlone}
-use Rattle.statement_laws.proofs.Points.{are_same}
-use Rattle.history_laws.proofs.Kept.{are_one}
 use Rattle.history_laws.proofs.Names.{Free, OneIn, as_held, as_needed, held_joined, opened_one}
 use Rattle.history_laws.proofs.Serves.{IsFree, granted}
 use Rattle.history_laws.proofs.Journals.{JournalHolds, journal_holds}
@@ -31,6 +29,7 @@ use Rattle.plain_server.specs.Serving.{called_unless, calls, does, done, exclusi
 use Rattle.plain_server.specs.Deeds.{deed_unless, is_outside}
 use Rattle.plain_server.specs.Locking.{need, need_within, blocker}
 use Rattle.journal_words.specs.Journals.{opens, opens_if}
+use Rattle.statement_laws.proofs.Tests.{are_one, are_same}
 
 -- names that are free are held by nobody else
 one_alone : (held : List grants.HeldName) (number n : ℕ) (first : List ℕ) → Free held number (exclusive first ∷ []) → (n == number) ≡ false → holds held n first false ≡ false

@@ -26,7 +26,7 @@ use Rattle.history_laws.specs.Holdings.{Face, face_of}
 use Rattle.server_laws.specs.Others.{SpanHeld, SpansAreHeld}
 use Rattle.statement_laws.proofs.Finding.{found_after, change_if}
 use Rattle.history_laws.proofs.Words.{names_last}
-use Rattle.history_laws.proofs.Held.{seat_in, holding_face}
+use Rattle.history_laws.proofs.Held.{hold_in, holding_face}
 use Rattle.history_laws.proofs.Faces.{faces_with, opened_live}
 use Rattle.history_laws.proofs.Journals.{no_command, state_more, found_live, stored_opened}
 use Rattle.plain_server.specs.declared.request.Request.TheVariants.{BeginSpan}
@@ -93,15 +93,15 @@ done_held base number table span size keys end session is false busy given = at 
   at None here given = absurd (refusal given)
   at (Some found) here given =
       let later = schema_after table (writes_of (session_of number base.sessions)) base.tables found here in
-      let face : face_of (with_session number (holding need' []) base.sessions) number ≡ record { seat = record { names = (seat_in session).names ++ need'.names; locks = (seat_in session).locks ++ need'.locks; writes = (seat_in session).writes ++ [] }; locked = locked_names session.names; busy = true } =
+      let face : face_of (with_session number (holding need' []) base.sessions) number ≡ record { hold = record { names = (hold_in session).names ++ need'.names; locks = (hold_in session).locks ++ need'.locks; writes = (hold_in session).writes ++ [] }; locked = locked_names session.names; busy = true } =
       (faces_with number (holding need' []) base.sessions session (λ s. refl) is).here ∙ holding_face need' [] session in
       record {
         found = found;
         is = here;
         tables = refl;
         keys = refl;
-        named = subst (λ (f : Face). list_any (bytes_eq table) f.seat.names ≡ true) (sym face) (names_last (seat_in session).names table);
-        locked = λ place at. subst (λ (f : Face). Among (clustered_lock found.schema span place) f.seat.locks) (sym face) (among_end (clustered_lock found.schema span place) (seat_in session).locks need'.locks (span_locked (view number base) table span later.0 found later.1 later.2 place at));
+        named = subst (λ (f : Face). list_any (bytes_eq table) f.hold.names ≡ true) (sym face) (names_last (hold_in session).names table);
+        locked = λ place at. subst (λ (f : Face). Among (clustered_lock found.schema span place) f.hold.locks) (sym face) (among_end (clustered_lock found.schema span place) (hold_in session).locks need'.locks (span_locked (view number base) table span later.0 found later.1 later.2 place at));
       }
 
 called_held : (state : State) (number : ℕ) (table : List ℕ) (span : Span) (size : ℕ) (keys : List (List Value)) (end : List Value) (session : Session) → session_of number state.sessions ≡ Some session → (by : Option ℕ) → (called_unless by state number (BeginSpan table span size)).answer ≡ (answers.Keys keys end)

@@ -14,10 +14,9 @@ use Rattle.plain_server.specs.declared.entry.Asked.{Asked}
 use Rattle.plain_server.specs.declared.entry.Asked.TheVariants.{Call, Poll, Cut, Command}
 use Rattle.plain_server.specs.Entries.{is_command, is_client}
 use Rattle.server_laws.specs.Others.{held_at, LocksAreTaken}
-use Rattle.statement_laws.proofs.Points.{are_same, same_bytes}
 use Rattle.history_laws.proofs.Faces.{opened_live}
 use Rattle.history_laws.proofs.Names.{as_held}
-use Rattle.server_laws.proofs.Others.{holds_parts, or_true}
+use Rattle.server_laws.proofs.Others.{holds_parts}
 use Rattle.history_laws.proofs.Journals.{no_command, state_more, found_live}
 use Rattle.plain_server.specs.declared.request.Request.TheVariants.{LockTables}
 use Rattle.plain_server.specs.declared.request.Request.{Request}
@@ -28,6 +27,7 @@ use Rattle.plain_server.specs.Deeds.{all_stand, deed_unless, is_outside, locks_i
 use Rattle.plain_server.specs.Serving.{called_unless, calls, does, done, exclusive, is_over, leaves, locking, polled_of, polled_over, polled_unless, polls, serves, without_waiting}
 use Rattle.plain_server.specs.Locking.{need, blocker}
 use Rattle.journal_words.specs.Journals.{after_entry, opens}
+use Rattle.statement_laws.proofs.Tests.{same_bytes, are_same, or_true}
 
 own_taken : (holder number : ℕ) (held : List HeldName) (names : List (List ℕ)) (name : List ℕ) → (holder == number) ≡ true → list_any (bytes_eq name) names ≡ true → holds (as_held holder (held ++ map exclusive names)) number name true ≡ true
 unfolding holds

@@ -29,15 +29,14 @@ use Rattle.plain_server.specs.declared.entry.Entry.{Entry}
 use Rattle.plain_server.specs.Entries.{is_command, is_client}
 use Rattle.history_laws.specs.Holdings.{face_of, IsHeld, Face, face_in}
 use Rattle.server_laws.specs.Others.{asks_exclusive, held_at, waiters_at, waits_on, is_waiting_on, IsGrantedName, MayWrite, TurnOf, EntriesAreTurns}
-use Rattle.statement_laws.proofs.Points.{are_same, same_bytes}
 use Rattle.history_laws.proofs.Faces.{none_of, faces_opened, changed_there, gone_there}
-use Rattle.history_laws.proofs.Names.{Among2, as_held, as_needed, held_with, held_less, held_joined, some_among, both_among, at_number, same_number, bytes_no, Holding, holding_of}
+use Rattle.history_laws.proofs.Names.{Among2, as_held, as_needed, held_with, held_less, held_joined, some_among, both_among, at_number, Holding, holding_of}
 use Rattle.std.specs.Option.{is_some}
 use Rattle.row_store.specs.declared.renaming.Pair.{Pair}
 use Rattle.row_store.proofs.ChangedTables.{found_where}
 use Rattle.plain_server.specs.declared.answer.Answer.{Answer}
 use Rattle.statement_laws.proofs.Finding.{found_after, change_if}
-use Rattle.history_laws.proofs.Moves.{behind_other, or_first, drop_moves, rename_moves}
+use Rattle.history_laws.proofs.Moves.{behind_other, drop_moves, rename_moves}
 use Rattle.plain_server.specs.declared.session.Limits.{Limits}
 use Rattle.history_laws.specs.Scenes.{Scene}
 use Rattle.row_locks.specs.declared.lock.Lock.{Lock}
@@ -54,6 +53,7 @@ use Rattle.plain_server.specs.declared.need.Need.{Need}
 use Rattle.plain_server.specs.Locking.{need, need_within, blocker}
 use Rattle.plain_server.specs.declared.session.Waiting.{Waiting}
 use Rattle.journal_words.specs.Journals.{after_entry, opens, opens_if}
+use Rattle.statement_laws.proofs.Tests.{same_number, same_bytes, are_same, turned_bytes, or_true, nor_left}
 
 -- WHAT OTHERS HOLD
 
@@ -116,10 +116,6 @@ held_from (h ∷ held) number name is = at (h.session == number) (bytes_eq h.nam
   at true true one two is rest = record { one = h; is = inl refl; own = one; same = two }
   at true false one two is rest = deeper (rest is)
   at false b one two is rest = deeper (rest is)
-
-pub or_true : (b : Bool) → (b || true) ≡ true
-or_true true = refl
-or_true false = refl
 
 pub holds_from : (held : List grants.HeldName) (number : ℕ) (name : List ℕ) (one : grants.HeldName) → IsHeld one held → (one.session == number) ≡ true → bytes_eq one.name name ≡ true → holds held number name false ≡ true
 unfolding holds
@@ -343,7 +339,7 @@ defined_does before w number names (Err refusal) free same = does_nothing true b
 
 pub created_same : (stands : Bool) (schema : _) (tables after : Database) → created stands schema tables ≡ Ok after → (name : List ℕ) → list_any (bytes_eq name) (schema.name ∷ []) ≡ false → find_table name after ≡ find_table name tables
 created_same true schema tables after is name off = absurd (cc)
-created_same false schema tables after is name off = let same : tables ++ record { schema = schema; rows = [] } ∷ [] ≡ after = cc in ap (find_table name) (sym same) ∙ behind_other name tables (record { schema = schema; rows = [] }) (bytes_no name schema.name (or_first (bytes_eq name schema.name) false off))
+created_same false schema tables after is name off = let same : tables ++ record { schema = schema; rows = [] } ∷ [] ≡ after = cc in ap (find_table name) (sym same) ∙ behind_other name tables (record { schema = schema; rows = [] }) (turned_bytes name schema.name (nor_left (bytes_eq name schema.name) false off))
 
 pub dropped_same : (stands : Bool) (dropped_name : List ℕ) (tables after : Database) → dropped stands dropped_name tables ≡ Ok after → (name : List ℕ) → list_any (bytes_eq name) (dropped_name ∷ []) ≡ false → find_table name after ≡ find_table name tables
 dropped_same false dropped_name tables after is name off = absurd (cc)
@@ -529,7 +525,7 @@ from_opened takes nothing tool state number after turn = at (nothing || is_some 
   at false turn = from_joined takes state (connected number tool state).made (state.sessions ++ new_session number tool ∷ []) number after (held_joined state.sessions number tool) turn
 
 -- what a session wrote is of tables that it holds
-writes_face : (o : Option Session) → (face_in o).seat.writes ≡ writes_of o
+writes_face : (o : Option Session) → (face_in o).hold.writes ≡ writes_of o
 writes_face None = refl
 writes_face (Some s) = refl
 
@@ -542,16 +538,16 @@ may_each : (before : State) (number : ℕ) (events : List RowEvent) → AllByRec
 may_each before number [] all = tt
 may_each before number (event ∷ events) all = (inl all.0, may_each before number events all.1)
 
-face_holds : (sessions : List Session) (number : ℕ) (name : List ℕ) → list_any (bytes_eq name) (face_of sessions number).seat.names ≡ true → holds (names_held sessions) number name false ≡ true
+face_holds : (sessions : List Session) (number : ℕ) (name : List ℕ) → list_any (bytes_eq name) (face_of sessions number).hold.names ≡ true → holds (names_held sessions) number name false ≡ true
 face_holds sessions number name is =
     let has : Holding sessions number name = holding_of sessions number name is in
     holds_from (names_held sessions) number name has.one has.is (ap (λ (m : ℕ). m == number) has.own ∙ same_number number) (ap (λ (m : List ℕ). bytes_eq m name) (sym (are_same name has.one.name has.same)) ∙ same_bytes name)
 
-pub own_writes : (now : State) (number : ℕ) (tables : Database) → EventsCovered (face_of now.sessions number).seat.names (face_of now.sessions number).seat.locks tables (face_of now.sessions number).seat.writes → OwnWrites now number
+pub own_writes : (now : State) (number : ℕ) (tables : Database) → EventsCovered (face_of now.sessions number).hold.names (face_of now.sessions number).hold.locks tables (face_of now.sessions number).hold.writes → OwnWrites now number
 own_writes now number tables covered =
     may_each now number (writes_of (session_of number now.sessions))
     (subst (λ (w : List RowEvent). AllByRecursion (λ event. holds (held_at now) number event.table false ≡ true) w) (writes_face (session_of number now.sessions))
-    (covered_held now.sessions number (face_of now.sessions number).seat.names (face_of now.sessions number).seat.locks tables (face_of now.sessions number).seat.writes (face_holds now.sessions number) covered))
+    (covered_held now.sessions number (face_of now.sessions number).hold.names (face_of now.sessions number).hold.locks tables (face_of now.sessions number).hold.writes (face_holds now.sessions number) covered))
 
 -- *Each entry is such a turn*
 pub entries_are_turns : EntriesAreTurns
@@ -564,7 +560,7 @@ entries_are_turns limits scene journal entry run =
     let held : JournalHolds limits scene journal = journal_holds limits scene journal run in
     let covered = (held.holds.kept.fine number).covered in
     let own : OwnWrites now number = own_writes now number state.tables
-    (subst (λ (f : Face). EventsCovered f.seat.names f.seat.locks state.tables f.seat.writes) (sym (faces_opened nothing tool number number state)) covered) in
+    (subst (λ (f : Face). EventsCovered f.hold.names f.hold.locks state.tables f.hold.writes) (sym (faces_opened nothing tool number number state)) covered) in
     rw (state_more scene (opened limits scene.opening) journal entry) (from_opened (asks_exclusive (about now number entry.asked)) nothing tool state number (after_entry state entry) (turn_of entry.side now number entry.asked own))
 
 -- the others' faces stay
@@ -576,5 +572,5 @@ entry_faces limits scene journal entry held n differ =
     let tool : Bool = not (is_client entry.actor) in
     let now : State = opens entry state in
     let own : OwnWrites now number = own_writes now number state.tables
-    (subst (λ (f : Face). EventsCovered f.seat.names f.seat.locks state.tables f.seat.writes) (sym (faces_opened nothing tool number number state)) (held.holds.kept.fine number).covered) in
+    (subst (λ (f : Face). EventsCovered f.hold.names f.hold.locks state.tables f.hold.writes) (sym (faces_opened nothing tool number number state)) (held.holds.kept.fine number).covered) in
     turn_faces entry.side now number entry.asked own n differ ∙ faces_opened nothing tool number n state

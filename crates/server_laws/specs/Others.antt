@@ -92,7 +92,7 @@ ExclusiveIsAlone = (limits : Limits) (scene : Scene) (journal : List Entry) (ent
 -- their rows those under its row locks
 abbrev pub OthersAgree : Type 0
 OthersAgree = (limits : Limits) (scene : Scene) (journal : List Entry) (entry : Entry) (other : ℕ) → IsSceneRun limits scene journal → (other == entry.session) ≡ false
-    → Agree (face_of (scene_state limits scene journal).sessions other).seat.names (face_of (scene_state limits scene journal).sessions other).seat.locks (scene_state limits scene journal).tables (scene_state limits scene (journal ++ entry ∷ [])).tables
+    → Agree (face_of (scene_state limits scene journal).sessions other).hold.names (face_of (scene_state limits scene journal).sessions other).hold.locks (scene_state limits scene journal).tables (scene_state limits scene (journal ++ entry ∷ [])).tables
 
 -- *Rows under a lock stay*: where two orderly databases agree under names and locks, a table of these names has the same
 -- rows, in the same order, under each of the locks
@@ -108,7 +108,7 @@ LocksAreTaken = (limits : Limits) (scene : Scene) (journal : List Entry) (entry 
 -- *What a session holds and sees stays*, while others have any number of turns
 pub record StaysTo (limits : Limits) (scene : Scene) (journal later : List Entry) (session : ℕ) : Type 0 where
   pub face : face_of (scene_state limits scene later).sessions session ≡ face_of (scene_state limits scene journal).sessions session
-  pub agree : Agree (face_of (scene_state limits scene journal).sessions session).seat.names (face_of (scene_state limits scene journal).sessions session).seat.locks (scene_state limits scene journal).tables (scene_state limits scene later).tables
+  pub agree : Agree (face_of (scene_state limits scene journal).sessions session).hold.names (face_of (scene_state limits scene journal).sessions session).hold.locks (scene_state limits scene journal).tables (scene_state limits scene later).tables
 
 abbrev pub OthersStay : Type 0
 OthersStay = (limits : Limits) (scene : Scene) (journal more : List Entry) (session : ℕ) → IsSceneRun limits scene (journal ++ more) → AllByRecursion (λ entry. (session == entry.session) ≡ false) more
@@ -126,8 +126,8 @@ pub record SpanHeld (table : List ℕ) (span : Span) (size session : ℕ) (answe
   pub is : find_table table before.tables ≡ Some found
   pub tables : after.tables ≡ before.tables
   pub keys : answer ≡ (span_keys span size found)
-  pub named : list_any (bytes_eq table) (face_of after.sessions session).seat.names ≡ true
-  pub locked : (place : ℕ) → clustered_place found.schema ≡ Some place → Among (lock_on found.schema false (record { key = place; span = span })) (face_of after.sessions session).seat.locks
+  pub named : list_any (bytes_eq table) (face_of after.sessions session).hold.names ≡ true
+  pub locked : (place : ℕ) → clustered_place found.schema ≡ Some place → Among (lock_on found.schema false (record { key = place; span = span })) (face_of after.sessions session).hold.locks
 
 abbrev pub SpansAreHeld : Type 0
 SpansAreHeld = (limits : Limits) (scene : Scene) (journal : List Entry) (entry : Entry) (table : List ℕ) (span : Span) (size : ℕ) (keys : List (List Value)) (end : List Value) → IsTold limits scene journal entry → about (opens entry (scene_state limits scene journal)) entry.session entry.asked ≡ Some (BeginSpan table span size)
@@ -149,8 +149,8 @@ DefinitionsAreDone = (limits : Limits) (scene : Scene) (journal : List Entry) (e
 -- row locks of two sessions stay apart; and a name that one session holds exclusively no other session holds
 pub record StateHolds (state : State) : Type 0 where
   pub tables : IsOrderly state.tables
-  pub covered : (n : ℕ) → EventsCovered (face_of state.sessions n).seat.names (face_of state.sessions n).seat.locks state.tables (face_of state.sessions n).seat.writes
-  pub apart : (m n : ℕ) → (m == n) ≡ false → Apart (face_of state.sessions m).seat.locks (face_of state.sessions n).seat.locks
+  pub covered : (n : ℕ) → EventsCovered (face_of state.sessions n).hold.names (face_of state.sessions n).hold.locks state.tables (face_of state.sessions n).hold.writes
+  pub apart : (m n : ℕ) → (m == n) ≡ false → Apart (face_of state.sessions m).hold.locks (face_of state.sessions n).hold.locks
   pub one : OneHolder (held_at state)
 
 abbrev pub StatesHold : Type 0

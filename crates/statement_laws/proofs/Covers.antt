@@ -27,7 +27,8 @@ use Rattle.plain_server.specs.Needing.{lock_on, points, points_of, needs}
 use Rattle.statement_laws.specs.Agreeing.{covers, is_under, SameWhere, Among, Within}
 use Rattle.statement_laws.specs.Covering.{rows_of, RowsCovered, Covered, Apart}
 use Rattle.statement_laws.proofs.Standing.{one_row, stands-put, stands-filter}
-use Rattle.statement_laws.proofs.Points.{same_bytes, are_same, and_left, and_right, within-left, within-right, within-itself, within-parts, among-within, point_of}
+use Rattle.statement_laws.proofs.Points.{within-left, within-right, within-itself, within-parts, among-within, point_of}
+use Rattle.statement_laws.proofs.Tests.{same_number, same_bytes, are_same, and_left, and_right}
 
 covered-both : (schema : Schema) (locks : List Lock) (a b : List Change) → Covered schema locks a → Covered schema locks b → Covered schema locks (a ++ b)
 covered-both schema locks [] b one two = two
@@ -122,9 +123,6 @@ found_lock schema row lock is =
 
 bytes_turn : (a b : List ℕ) → bytes_eq a b ≡ true → bytes_eq b a ≡ true
 bytes_turn a b is = ap (bytes_eq b) (are_same a b is) ∙ same_bytes b
-
-same_number : (n : ℕ) → (n == n) ≡ true
-same_number n = grind (arith, nat_tests)
 
 -- a row's point and a lock that covers the row conflict
 meets_point : (schema : Schema) (row : Row) (lock : Lock) (found : Found schema row lock) → conflict (lock_on schema true (record { key = lock.key; span = point (key_of found.index.places row) })) lock ≡ true

@@ -23,10 +23,11 @@ use Rattle.statement_laws.specs.Databases.{TaskSound, WhereFound, IsOrderly, Eve
 use Rattle.statement_laws.specs.Laws.{SaysAlike}
 use Rattle.plain_server.specs.Jobs.{Job, events_of, result_in, job_says, needs_in, job_needs, change_table, after_events}
 use Rattle.statement_laws.proofs.Standing.{same-changed, same-within}
-use Rattle.statement_laws.proofs.Points.{are_same, under-within, within-within}
+use Rattle.statement_laws.proofs.Points.{under-within, within-within}
 use Rattle.statement_laws.proofs.Footprints.{AreAlike, footprint}
 use Rattle.statement_laws.proofs.Covers.{tells_covered}
 use Rattle.statement_laws.proofs.Orderly.{tells_orderly}
+use Rattle.statement_laws.proofs.Tests.{are_same}
 
 -- where a change of one table is found
 abbrev pub change_if : Bool → Change → Option TableRows → Option TableRows

@@ -16,8 +16,9 @@ use Rattle.plain_server.specs.declared.work.Work.TheVariants.{Refuse, Insert, Co
 use Rattle.plain_server.specs.Saying.{displaced, with_sets, clashes_besides, updates, updated, tells, result_or_refusal}
 use Rattle.plain_server.specs.Needing.{lock_on, points, points_of, needs}
 use Rattle.statement_laws.specs.Agreeing.{is_under, SameWhere}
-use Rattle.statement_laws.proofs.Standing.{or_true, same-filter, same-any, same-within, same-changed}
-use Rattle.statement_laws.proofs.Points.{same_bytes, and_left, under-append, clash_under}
+use Rattle.statement_laws.proofs.Standing.{same-filter, same-any, same-within, same-changed}
+use Rattle.statement_laws.proofs.Points.{under-append, clash_under}
+use Rattle.statement_laws.proofs.Tests.{same_bytes, and_left, or_true}
 
 -- what is said and needed on the one list is said and needed on the other
 pub record AreAlike (schema : Schema) (work : Work) (a b : List Row) : Type 0 where

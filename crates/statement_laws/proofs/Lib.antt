@@ -1,3 +1,4 @@
+pub mod Tests
 pub mod Standing
 pub mod Points
 pub mod Points2

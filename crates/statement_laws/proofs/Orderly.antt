@@ -27,7 +27,7 @@ use Rattle.row_store.proofs.TableLaws.{put_keeps}
 use Rattle.gho_values.proofs.StoredValues.{keeps}
 use Rattle.gho_values.specs.declared.value.Value.TheVariants.{Null}
 use Rattle.statement_laws.proofs.Standing.{one_row, same_itself, stands-filter, some_row, found_by}
-use Rattle.statement_laws.proofs.Points.{and_left, and_right}
+use Rattle.statement_laws.proofs.Tests.{and_left, and_right, nor_left, nor_right}
 
 pub nulls : StoresNullWhereNullable
 nulls value kind nullable is = (keeps value kind nullable Null is).null refl
@@ -52,18 +52,10 @@ some_rows schema test rows are = record {
 orderly_gone : (schema : Schema) (gone : Row) (rows : List Row) → IsTable schema rows → IsTable schema (without_row gone rows)
 orderly_gone schema gone rows are = some_rows schema (λ other. not (same_row gone other)) rows are
 
-or_left : (a b : Bool) → (a || b) ≡ false → a ≡ false
-or_left true b is = is
-or_left false b is = refl
-
-or_right : (a b : Bool) → (a || b) ≡ false → b ≡ false
-or_right true b is = absurd (true≢false is)
-or_right false b is = is
-
 none_clashing : (schema : Schema) (new : Row) (rows : List Row) → list_any (clash schema.uniques new) rows ≡ false → clashing (record { schema = schema; rows = rows }) new None ≡ None
 none_clashing schema new [] none = refl
 none_clashing schema new (row ∷ rows) none =
-    rw (or_left (clash schema.uniques new row) (list_any (clash schema.uniques new) rows) none) (none_clashing schema new rows (or_right (clash schema.uniques new row) (list_any (clash schema.uniques new) rows) none))
+    rw (nor_left (clash schema.uniques new row) (list_any (clash schema.uniques new) rows) none) (none_clashing schema new rows (nor_right (clash schema.uniques new row) (list_any (clash schema.uniques new) rows) none))
 
 -- a table with a row that clashes with none
 pub orderly_put : (schema : Schema) → HasClusteredKey schema → (new : Row) (rows : List Row) → IsRow schema.columns new → list_any (clash schema.uniques new) rows ≡ false → IsTable schema rows → IsTable schema (with_row (key_places schema) new rows)

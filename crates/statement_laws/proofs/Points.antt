@@ -19,21 +19,8 @@ use Rattle.row_store.proofs.Orders.{Row}
 use Rattle.plain_server.specs.Rows.{lies_under}
 use Rattle.plain_server.specs.Needing.{lock_on, point_lock, points_from, points}
 use Rattle.statement_laws.specs.Agreeing.{covers, is_under, Among, Within}
-use Rattle.statement_laws.proofs.Standing.{or_true, is_Equal}
-
-pub same_bytes : (a : List ℕ) → bytes_eq a a ≡ true
-same_bytes a = (bytes_eq-Decides a a).1 refl
-
-pub are_same : (a b : List ℕ) → bytes_eq a b ≡ true → a ≡ b
-are_same a b is = (bytes_eq-Decides a b).0 is
-
-pub and_left : (a b : Bool) → (a && b) ≡ true → a ≡ true
-and_left true b is = refl
-and_left false b is = absurd (false≢true is)
-
-pub and_right : (a b : Bool) → (a && b) ≡ true → b ≡ true
-and_right true b is = is
-and_right false b is = absurd (false≢true is)
+use Rattle.statement_laws.proofs.Standing.{is_Equal}
+use Rattle.statement_laws.proofs.Tests.{same_bytes, or_true}
 
 pub under-append : (schema : Schema) (a b : List Lock) (row : Row) → is_under schema (a ++ b) row ≡ (is_under schema a row || is_under schema b row)
 unfolding is_under

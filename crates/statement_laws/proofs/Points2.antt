@@ -16,7 +16,7 @@ use Rattle.row_store.proofs.Orders.{Row}
 use Rattle.row_store.proofs.FoundRows.{others_not_at}
 use Rattle.plain_server.specs.Rows.{lies_under}
 use Rattle.statement_laws.proofs.Standing.{is_Equal, both_ways}
-use Rattle.statement_laws.proofs.Points.{and_right}
+use Rattle.statement_laws.proofs.Tests.{and_right}
 
 -- a point is met where the key is just that
 pub under_point : (index : Index) (key row : Row) → no_null key ≡ true → lies_under (Some index) (point key) row ≡ is_at index.places key row

@@ -25,10 +25,11 @@ use Rattle.plain_server.specs.Jobs.{table_of, job_of, says, row_needs, change_ta
 use Rattle.plain_server.specs.Alone.{line_says, line_events, line_replies, Ran, lines_run, nothing_ran}
 use Rattle.statement_laws.specs.Laws.{StatementsKeepDatabases}
 use Rattle.statement_laws.specs.Stability.{RunSo, Stable}
-use Rattle.statement_laws.proofs.Points.{are_same, within-itself}
+use Rattle.statement_laws.proofs.Points.{within-itself}
 use Rattle.statement_laws.proofs.Covers.{others_kept}
 use Rattle.statement_laws.proofs.Sound.{work_sound}
 use Rattle.statement_laws.proofs.Finding.{NamesWithin, change_if, found_after, agree_events, agree_itself, agree_then, agree_within, says_alike, says_orderly, says_covered, rows_more}
+use Rattle.statement_laws.proofs.Tests.{are_same}
 
 -- one line more
 abbrev pub one_more : Database → Ran → TxnLine → Ran

@@ -14,6 +14,7 @@ use Rattle.row_store.proofs.Orders.{Row, not_greater, turned}
 use Rattle.row_store.proofs.Ascending.{ascends-filter}
 use Rattle.plain_server.specs.Rows.{same_row, stands, without_row, change_rows, change_all}
 use Rattle.statement_laws.specs.Agreeing.{SameWhere}
+use Rattle.statement_laws.proofs.Tests.{or_true}
 
 pub is_Equal : (o : Ordering) → is_eq o ≡ true → o ≡ Equal
 is_Equal Less is = absurd cc
@@ -64,10 +65,6 @@ less_behind places row first (other ∷ rows) before less =
     (not_greater (key_of places row) (key_of places first) (key_of places other) (compare_keys (key_of places row) (key_of places first)) refl (rw before refl) less.0, less_behind places row first rows before less.1)
 
 -- rows in order are one list where the same rows stand
-pub or_true : (b : Bool) → (b || true) ≡ true
-or_true true = refl
-or_true false = refl
-
 heads : (places : List ℕ) (x y : Row) (xs ys : List Row) (o : Ordering) → compare_keys (key_of places x) (key_of places y) ≡ o → Ascends places (x ∷ xs) → Ascends places (y ∷ ys) → ((row : Row) → stands row (x ∷ xs) ≡ stands row (y ∷ ys)) → x ≡ y
 unfolding stands
 heads places x y xs ys Less is one two same =
