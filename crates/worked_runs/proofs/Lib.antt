@@ -9,3 +9,4 @@ mod Workers
 mod Sequences1
 mod Sequences2
 mod Sequences3
+mod SerialRun

@@ -32,10 +32,10 @@ use Rattle.worked_runs.proofs.Computing.{computing, Told, IsWorked}
 abbrev map_101 : List MapColumn
 map_101 = (record { kind = VarChar 4; nullable = true; origin = from.Added (Text (codes "n")) } ∷ record { kind = Int 1 false; nullable = false; origin = from.Old 0 } ∷ record { kind = Int 4 false; nullable = true; origin = from.Old 1 } ∷ record { kind = Int 4 false; nullable = true; origin = from.Old 2 } ∷ [])
 
-abbrev plan_101 : PlanData
+abbrev pub plan_101 : PlanData
 plan_101 = record { table = codes "t"; alter = (clauses.Add (record { name = codes "b"; kind = VarChar 4; nullable = None; default = (Some (Text (codes "n"))) }) First ∷ clauses.Change (codes "m0") (record { name = codes "m0"; kind = Int 4 false; nullable = None; default = None }) Unsaid ∷ []); tables = (record { schema = record { name = codes "t"; columns = (record { name = codes "id"; kind = Int 1 false; nullable = false; default = None } ∷ record { name = codes "m0"; kind = Int 4 false; nullable = true; default = (Some Null) } ∷ record { name = codes "v"; kind = Int 4 false; nullable = true; default = (Some Null) } ∷ []); uniques = (record { name = None; places = (0 ∷ []) } ∷ record { name = (Some (codes "u0")); places = (1 ∷ []) } ∷ []); indexes = []; comment = [] }; rows = (((Num (pos 5)) ∷ (Num (pos 2)) ∷ (Num (pos 6)) ∷ []) ∷ []) } ∷ record { schema = record { name = codes "_t_ghc"; columns = (record { name = codes "id"; kind = Int 4 false; nullable = false; default = None } ∷ []); uniques = (record { name = None; places = (0 ∷ []) } ∷ []); indexes = []; comment = [] }; rows = (((Num (pos 3)) ∷ []) ∷ []) } ∷ []); clients = ((record { line = 1; word = (words.Do (statements.Select (codes "t") shown.Count conditions.All)) } ∷ record { line = 2; word = (words.Do (statements.Delete (codes "t") (conditions.Equal (record { column = codes "id"; value = (Num (pos 3)) } ∷ [])))) } ∷ record { line = 3; word = words.Begin } ∷ record { line = 4; word = (words.Do (statements.Insert (codes "t") (Some (codes "id" ∷ codes "m0" ∷ [])) ((Num (pos 7)) ∷ (Num (pos 6)) ∷ []))) } ∷ record { line = 5; word = words.Commit } ∷ []) ∷ [] ∷ []); operator = (record { word = commanded.NoThrottle; units = 1 } ∷ record { word = commanded.Unpostpone; units = 1 } ∷ record { word = (commanded.ChunkSize 1); units = 1 } ∷ record { word = commanded.Wait; units = 3 } ∷ record { word = commanded.Wait; units = 1 } ∷ record { word = commanded.Wait; units = 4 } ∷ []); faults = (losses.Turn 36 (Client 2) ∷ []); turns = (record { actor = Insp; times = 5 } ∷ record { actor = Apply; times = 1 } ∷ record { actor = Op; times = 5 } ∷ record { actor = Op; times = 2 } ∷ record { actor = (Client 1); times = 5 } ∷ record { actor = Insp; times = 5 } ∷ record { actor = Lock; times = 3 } ∷ record { actor = Copy; times = 1 } ∷ record { actor = Apply; times = 5 } ∷ record { actor = Copy; times = 1 } ∷ record { actor = Op; times = 1 } ∷ record { actor = Op; times = 1 } ∷ record { actor = (Client 2); times = 5 } ∷ record { actor = Lock; times = 5 } ∷ record { actor = Op; times = 3 } ∷ record { actor = Lock; times = 1 } ∷ record { actor = (Client 2); times = 3 } ∷ record { actor = Op; times = 1 } ∷ record { actor = Ren; times = 5 } ∷ record { actor = Ren; times = 1 } ∷ record { actor = (Client 1); times = 1 } ∷ record { actor = (Client 2); times = 1 } ∷ record { actor = Insp; times = 1 } ∷ record { actor = Insp; times = 3 } ∷ record { actor = Op; times = 5 } ∷ record { actor = (Client 2); times = 2 } ∷ record { actor = Insp; times = 1 } ∷ record { actor = Lock; times = 1 } ∷ record { actor = (Client 2); times = 3 } ∷ record { actor = Insp; times = 1 } ∷ record { actor = (Client 1); times = 2 } ∷ record { actor = Ren; times = 3 } ∷ record { actor = Apply; times = 2 } ∷ record { actor = Insp; times = 1 } ∷ record { actor = Ren; times = 3 } ∷ record { actor = Copy; times = 5 } ∷ record { actor = Copy; times = 3 } ∷ record { actor = (Client 2); times = 1 } ∷ record { actor = Copy; times = 1 } ∷ record { actor = (Client 2); times = 5 } ∷ record { actor = (Client 1); times = 1 } ∷ record { actor = Ren; times = 1 } ∷ record { actor = Lock; times = 1 } ∷ record { actor = Lock; times = 5 } ∷ record { actor = Copy; times = 1 } ∷ record { actor = Lock; times = 5 } ∷ record { actor = Apply; times = 1 } ∷ record { actor = Lock; times = 2 } ∷ record { actor = Apply; times = 1 } ∷ record { actor = Lock; times = 3 } ∷ record { actor = Lock; times = 1 } ∷ record { actor = Insp; times = 1 } ∷ record { actor = Apply; times = 3 } ∷ record { actor = (Client 2); times = 1 } ∷ record { actor = Copy; times = 1 } ∷ record { actor = Insp; times = 2 } ∷ record { actor = Copy; times = 1 } ∷ record { actor = (Client 1); times = 1 } ∷ record { actor = Insp; times = 1 } ∷ record { actor = Ren; times = 5 } ∷ []); options = record { chunk_size = 2; dml_batch_size = 3; default_retries = 1; max_backlog = 100; drain_limit = 2000; client_wait = 1; tool_wait = 30; max_load = 64; turn_limit = 200000; approve_renamed_columns = true; initially_drop_ghost_table = false; initially_drop_old_table = false; ok_to_drop_table = false; postpone = false; show_history = true; show_turns = true; show_tables = true; show_replies = true } }
 
-abbrev journal_101 : List Entry
+abbrev pub journal_101 : List Entry
 journal_101 =
     record { actor = Insp; session = 1; asked = Call requests.ShowTables; side = None; answer = answers.Tables (record { name = codes "_t_ghc"; comment = [] } ∷ record { name = codes "t"; comment = [] } ∷ []); missed = None }
     ∷ record { actor = Insp; session = 1; asked = Call (requests.Drop (codes "_t_ghc")); side = None; answer = answers.Ok 0; missed = None }
