@@ -83,16 +83,16 @@ placed before entry is = at entry.asked refl (live_session before entry.actor) r
 -- WHOSE A SESSION IS
 
 -- what the turns so far say of sessions
-pub record Seats (journal : List Entry) : Type 0 where
+pub record SessionsKnown (journal : List Entry) : Type 0 where
   pub own : (a : Actor) (n : ℕ) → live_session journal a ≡ Some n → (1 ≤ n) × (n ≤ sessions_named journal)
   pub apart : (a b : Actor) (n : ℕ) → live_session journal a ≡ Some n → live_session journal b ≡ Some n → a ≡ b
   pub kinds : (a : Actor) (n : ℕ) → live_session journal a ≡ Some n → is_client_session journal n ≡ is_client a
   pub fresh : (n : ℕ) → sessions_named journal < n → is_client_session journal n ≡ false
   pub none : is_client_session journal 0 ≡ false
 
-pub seats_begin : Seats []
+pub sessions_begin : SessionsKnown []
 unfolding live_session is_client_session
-seats_begin = record {
+sessions_begin = record {
   own = λ a n is. absurd (cc);
   apart = λ a b n one two. absurd (cc);
   kinds = λ a n is. absurd (cc);
@@ -144,13 +144,13 @@ or_same : (b : Bool) → (b || b) ≡ b
 or_same true = refl
 or_same false = refl
 
-module _ (journal : List Entry) (entry : Entry) (seats : Seats journal) (at : Placed journal entry) where
+module _ (journal : List Entry) (entry : Entry) (known_sessions : SessionsKnown journal) (at : Placed journal entry) where
   -- sessions that were named keep their kind
   pub kinds_stay : (n : ℕ) → n ≤ sessions_named journal → is_client_session (journal ++ entry ∷ []) n ≡ is_client_session journal n
   kinds_stay n is = client_more journal entry n ∙ by at where
     same : (b : Bool) → (entry.session == n) ≡ b → is_command entry.asked ≡ false → live_session journal entry.actor ≡ Some entry.session → (is_client_session journal n || counts_client (is_command entry.asked) (entry.session == n) (is_client entry.actor)) ≡ is_client_session journal n
     same true eq calls live =
-        rw (calls, eq, sym (seats.kinds entry.actor entry.session live), ap (is_client_session journal) (are_one entry.session n eq)) (or_same (is_client_session journal n))
+        rw (calls, eq, sym (known_sessions.kinds entry.actor entry.session live), ap (is_client_session journal) (are_one entry.session n eq)) (or_same (is_client_session journal n))
     same false eq calls live = rw (calls, eq) (or_false (is_client_session journal n))
 
     by : Placed journal entry → (is_client_session journal n || counts_client (is_command entry.asked) (entry.session == n) (is_client entry.actor)) ≡ is_client_session journal n
@@ -163,23 +163,23 @@ module _ (journal : List Entry) (entry : Entry) (seats : Seats journal) (at : Pl
   kind_here call = client_more journal entry entry.session ∙ rw (call, same_number entry.session) (by at) where
     by : Placed journal entry → (is_client_session journal entry.session || is_client entry.actor) ≡ is_client entry.actor
     by (Commands command zero) = absurd (true≢false (sym command ∙ call))
-    by (GoesOn calls live) = rw (seats.kinds entry.actor entry.session live) (or_same (is_client entry.actor))
-    by (Begins calls uncut live more) = rw (seats.fresh entry.session more) refl
+    by (GoesOn calls live) = rw (known_sessions.kinds entry.actor entry.session live) (or_same (is_client entry.actor))
+    by (Begins calls uncut live more) = rw (known_sessions.fresh entry.session more) refl
 
   from_one : is_command entry.asked ≡ false → 1 ≤ entry.session
   from_one call = by at where
     by : Placed journal entry → 1 ≤ entry.session
     by (Commands command zero) = absurd (true≢false (sym command ∙ call))
-    by (GoesOn calls live) = (seats.own entry.actor entry.session live).0
+    by (GoesOn calls live) = (known_sessions.own entry.actor entry.session live).0
     by (Begins calls uncut live more) = omega arith
 
   -- another actor's live session is another one
   pub others_differ : (a : Actor) (n : ℕ) → same_actor entry.actor a ≡ false → live_session journal a ≡ Some n → (n == entry.session) ≡ false
   others_differ a n differ lives = here (n == entry.session) refl where
     by : Placed journal entry → n ≡ entry.session → ⊥
-    by (Commands command zero) is = absurd (omega (arith, (seats.own a n lives).0))
-    by (GoesOn calls live) is = absurd (true≢false (sym (same_actor_itself a) ∙ ap (λ (b : Actor). same_actor b a) (sym (seats.apart entry.actor a entry.session live (lives ∙ ap Some is))) ∙ differ))
-    by (Begins calls uncut live more) is = absurd (omega (arith, (seats.own a n lives).1))
+    by (Commands command zero) is = absurd (omega (arith, (known_sessions.own a n lives).0))
+    by (GoesOn calls live) is = absurd (true≢false (sym (same_actor_itself a) ∙ ap (λ (b : Actor). same_actor b a) (sym (known_sessions.apart entry.actor a entry.session live (lives ∙ ap Some is))) ∙ differ))
+    by (Begins calls uncut live more) is = absurd (omega (arith, (known_sessions.own a n lives).1))
 
     here : (b : Bool) → (n == entry.session) ≡ b → (n == entry.session) ≡ false
     here true is = absurd (by at (are_one n entry.session is))
@@ -211,19 +211,19 @@ module _ (journal : List Entry) (entry : Entry) (seats : Seats journal) (at : Pl
     by (GoesOn calls live) true is above = absurd (true≢false (sym is ∙ calls))
     by (Begins calls uncut live less) true is above = absurd (true≢false (sym is ∙ calls))
 
-  pub seats_more : Seats (journal ++ entry ∷ [])
-  seats_more = record {
+  pub sessions_more : SessionsKnown (journal ++ entry ∷ [])
+  sessions_more = record {
     own = λ a n lives. live_cases a n ((1 ≤ n) × (n ≤ sessions_named (journal ++ entry ∷ []))) lives
         (λ same call is. (subst (λ (m : ℕ). 1 ≤ m) (sym is) (from_one call), subst (λ (m : ℕ). m ≤ sessions_named (journal ++ entry ∷ [])) (sym is) (named_here call)))
-        (λ differ old. ((seats.own a n old).0, named_keeps n (seats.own a n old).1));
+        (λ differ old. ((known_sessions.own a n old).0, named_keeps n (known_sessions.own a n old).1));
     apart = λ a b n one two. live_cases a n (a ≡ b) one
         (λ same call is. live_cases b n (a ≡ b) two (λ also more here. same ∙ sym also) (λ differ old. absurd (true≢false (sym (same_number entry.session) ∙ ap (λ (m : ℕ). m == entry.session) (sym is) ∙ others_differ b n differ old))))
-        (λ differ old. live_cases b n (a ≡ b) two (λ also call is. absurd (true≢false (sym (same_number entry.session) ∙ ap (λ (m : ℕ). m == entry.session) (sym is) ∙ others_differ a n differ old))) (λ more older. seats.apart a b n old older));
+        (λ differ old. live_cases b n (a ≡ b) two (λ also call is. absurd (true≢false (sym (same_number entry.session) ∙ ap (λ (m : ℕ). m == entry.session) (sym is) ∙ others_differ a n differ old))) (λ more older. known_sessions.apart a b n old older));
     kinds = λ a n lives. live_cases a n (is_client_session (journal ++ entry ∷ []) n ≡ is_client a) lives
         (λ same call is. ap (is_client_session (journal ++ entry ∷ [])) is ∙ kind_here call ∙ ap is_client (sym same))
-        (λ differ old. kinds_stay n (seats.own a n old).1 ∙ seats.kinds a n old);
-    fresh = λ n more. client_more journal entry n ∙ rw (named_differs n more, seats.fresh n (named_less n more)) (never (is_command entry.asked));
-    none = kinds_stay 0 (omega arith) ∙ seats.none;
+        (λ differ old. kinds_stay n (known_sessions.own a n old).1 ∙ known_sessions.kinds a n old);
+    fresh = λ n more. client_more journal entry n ∙ rw (named_differs n more, known_sessions.fresh n (named_less n more)) (never (is_command entry.asked));
+    none = kinds_stay 0 (omega arith) ∙ known_sessions.none;
   } where
     never : (b : Bool) → counts_client b false (is_client entry.actor) ≡ false
     never true = refl
@@ -235,13 +235,13 @@ abbrev pub KindSo : List Entry → Entry → Type 0
 KindSo journal entry = is_command entry.asked ≡ false → (is_client_session journal entry.session ≡ is_client entry.actor) × (entry.session ≤ sessions_named journal)
 
 pub record Kinds (journal : List Entry) : Type 0 where
-  pub seats : Seats journal
+  pub known_sessions : SessionsKnown journal
   pub each : AllByRecursion (KindSo journal) journal
 
-kinds_old : (journal : List Entry) (entry : Entry) (seats : Seats journal) (at : Placed journal entry) (some : List Entry) → AllByRecursion (KindSo journal) some → AllByRecursion (KindSo (journal ++ entry ∷ [])) some
-kinds_old journal entry seats at [] all = tt
-kinds_old journal entry seats at (one ∷ some) all =
-    ((λ call. (kinds_stay journal entry seats at one.session (all.0 call).1 ∙ (all.0 call).0, named_keeps journal entry seats at one.session (all.0 call).1)), kinds_old journal entry seats at some all.1)
+kinds_old : (journal : List Entry) (entry : Entry) (known_sessions : SessionsKnown journal) (at : Placed journal entry) (some : List Entry) → AllByRecursion (KindSo journal) some → AllByRecursion (KindSo (journal ++ entry ∷ [])) some
+kinds_old journal entry known_sessions at [] all = tt
+kinds_old journal entry known_sessions at (one ∷ some) all =
+    ((λ call. (kinds_stay journal entry known_sessions at one.session (all.0 call).1 ∙ (all.0 call).0, named_keeps journal entry known_sessions at one.session (all.0 call).1)), kinds_old journal entry known_sessions at some all.1)
 
 kinds_last : (P : Entry → Type 0) (some : List Entry) (entry : Entry) → AllByRecursion P some → P entry → AllByRecursion P (some ++ entry ∷ [])
 kinds_last P [] entry all is = (is, tt)
@@ -251,11 +251,11 @@ kinds_more : (journal : List Entry) (entry : Entry) → IsSeated journal entry �
 kinds_more journal entry seated kinds =
     let at : Placed journal entry = placed journal entry seated in
     record {
-      seats = seats_more journal entry kinds.seats at;
-      each = kinds_last (KindSo (journal ++ entry ∷ [])) journal entry (kinds_old journal entry kinds.seats at journal kinds.each)
-          (λ call. (kind_here journal entry kinds.seats at call, named_here journal entry kinds.seats at call));
+      known_sessions = sessions_more journal entry kinds.known_sessions at;
+      each = kinds_last (KindSo (journal ++ entry ∷ [])) journal entry (kinds_old journal entry kinds.known_sessions at journal kinds.each)
+          (λ call. (kind_here journal entry kinds.known_sessions at call, named_here journal entry kinds.known_sessions at call));
     }
 
 pub all_kinds : (journal : List Entry) → KeepsSessions journal → Kinds journal
 unfolding KeepsSessions
-all_kinds journal kept = Along-keeps IsSeated Kinds (λ all entry seated kinds. kinds_more all entry seated kinds) [] journal kept (record { seats = seats_begin; each = tt })
+all_kinds journal kept = Along-keeps IsSeated Kinds (λ all entry seated kinds. kinds_more all entry seated kinds) [] journal kept (record { known_sessions = sessions_begin; each = tt })

@@ -37,10 +37,10 @@ by_number P number old new here besides this those n = at (n == number) refl whe
   at true is = let same : n ≡ number = are_one n number is in subst (λ (m : ℕ). P m (new m)) (sym same) (subst (P number) (sym besides.here) this)
   at false is = subst (P n) (sym (besides.there n is)) (those n is)
 
--- what two seats are to one another
-pub two_seats : (number : ℕ) (old new : ℕ → SessionHold) (here : SessionHold) → Besides number old new here → ((n : ℕ) → (n == number) ≡ false → Apart here.locks (old n).locks) → ((m n : ℕ) → (m == n) ≡ false → Apart (old m).locks (old n).locks)
+-- what two holds are to one another
+pub two_holds : (number : ℕ) (old new : ℕ → SessionHold) (here : SessionHold) → Besides number old new here → ((n : ℕ) → (n == number) ≡ false → Apart here.locks (old n).locks) → ((m n : ℕ) → (m == n) ≡ false → Apart (old m).locks (old n).locks)
     → (m n : ℕ) → (m == n) ≡ false → Apart (new m).locks (new n).locks
-two_seats number old new here besides mine theirs m n differ = at (m == number) (n == number) refl refl where
+two_holds number old new here besides mine theirs m n differ = at (m == number) (n == number) refl refl where
   at : (b c : Bool) → (m == number) ≡ b → (n == number) ≡ c → Apart (new m).locks (new n).locks
   at true true one two = let same : m ≡ n = are_one m number one ∙ sym (are_one n number two) in absurd (false≢true (sym differ ∙ grind (arith, nat_tests)))
   at true false one two =
@@ -121,18 +121,18 @@ pub fine_rest : (scene : Scene) (own : Bool) (tables : Database) → IsOrderly t
 fine_rest scene own tables is = record { lasting = lasting_rest own tables is; covered = tt; named = tt; lines = tt }
 
 -- the others, when tables become these and a session is at rest
-others_fine : (scene : Scene) (now : Stored) (after : Database) (hold seats : ℕ → SessionHold) (going goings : ℕ → Going) (past : List PlainItem) (number : ℕ) → IsKept scene now hold going past → IsOrderly after
-    → Besides number hold seats no_hold → Besides number going goings not_going → ((n : ℕ) → (n == number) ≡ false → Agree (hold n).names (hold n).locks now.tables after) → (n : ℕ) → IsFine scene (scene.client n) after (seats n) (goings n)
-others_fine scene now after hold seats going goings past number kept is besides lines agree n = two (n == number) refl where
-  two : (b : Bool) → (n == number) ≡ b → IsFine scene (scene.client n) after (seats n) (goings n)
-  two true here = let same : n ≡ number = are_one n number here in subst (λ (m : ℕ). IsFine scene (scene.client m) after (seats m) (goings m)) (sym same) (rw (besides.here, lines.here) (fine_rest scene (scene.client number) after is))
+others_fine : (scene : Scene) (now : Stored) (after : Database) (hold holds : ℕ → SessionHold) (going goings : ℕ → Going) (past : List PlainItem) (number : ℕ) → IsKept scene now hold going past → IsOrderly after
+    → Besides number hold holds no_hold → Besides number going goings not_going → ((n : ℕ) → (n == number) ≡ false → Agree (hold n).names (hold n).locks now.tables after) → (n : ℕ) → IsFine scene (scene.client n) after (holds n) (goings n)
+others_fine scene now after hold holds going goings past number kept is besides lines agree n = two (n == number) refl where
+  two : (b : Bool) → (n == number) ≡ b → IsFine scene (scene.client n) after (holds n) (goings n)
+  two true here = let same : n ≡ number = are_one n number here in subst (λ (m : ℕ). IsFine scene (scene.client m) after (holds m) (goings m)) (sym same) (rw (besides.here, lines.here) (fine_rest scene (scene.client number) after is))
   two false here = rw (besides.there n here, lines.there n here) (fine_others scene (scene.client n) now.tables after (hold n) (going n) (agree n here) (kept.fine n))
 
 -- the tool commits what it wrote
-pub kept_writes : (scene : Scene) (now after : Stored) (hold seats : ℕ → SessionHold) (going goings : ℕ → Going) (past : List PlainItem) (number : ℕ) (own : SessionHold) (line : Going) → IsKept scene now hold going past → IsFine scene false now.tables own line
-    → ((n : ℕ) → (n == number) ≡ false → Apart own.locks (hold n).locks) → Besides number hold seats no_hold → Besides number going goings not_going
-    → after.tables ≡ after_events now.tables own.writes → after.log ≡ now.log ++ own.writes → IsKept scene after seats goings past
-kept_writes scene now after hold seats going goings past number own line kept fine apart besides lines tables log =
+pub kept_writes : (scene : Scene) (now after : Stored) (hold holds : ℕ → SessionHold) (going goings : ℕ → Going) (past : List PlainItem) (number : ℕ) (own : SessionHold) (line : Going) → IsKept scene now hold going past → IsFine scene false now.tables own line
+    → ((n : ℕ) → (n == number) ≡ false → Apart own.locks (hold n).locks) → Besides number hold holds no_hold → Besides number going goings not_going
+    → after.tables ≡ after_events now.tables own.writes → after.log ≡ now.log ++ own.writes → IsKept scene after holds goings past
+kept_writes scene now after hold holds going goings past number own line kept fine apart besides lines tables log =
     let is : IsOrderly after.tables = rw tables (fine.lasting.each now.tables kept.orderly (agree_itself own.names own.locks now.tables)) in
     let same : Alike scene (seen scene now) (seen scene after) = record {
       tables = rw tables (others_alike scene now.tables own.writes fine.named);
@@ -141,38 +141,38 @@ kept_writes scene now after hold seats going goings past number own line kept fi
     record {
       orderly = is;
       serial = serial-alike scene (record { tables = scene.opening; log = [] }) (seen scene now) (seen scene after) past kept.serial same;
-      fine = others_fine scene now after.tables hold seats going goings past number kept is besides lines (λ n differ. subst (λ (d : Database). Agree (hold n).names (hold n).locks now.tables d) (sym tables) (others_agree (hold n).names own.names own.locks (hold n).locks now.tables own.writes (apart n differ) fine.covered));
-      apart = two_seats number hold seats no_hold besides (λ n differ. none_apart (hold n).locks) kept.apart;
+      fine = others_fine scene now after.tables hold holds going goings past number kept is besides lines (λ n differ. subst (λ (d : Database). Agree (hold n).names (hold n).locks now.tables d) (sym tables) (others_agree (hold n).names own.names own.locks (hold n).locks now.tables own.writes (apart n differ) fine.covered));
+      apart = two_holds number hold holds no_hold besides (λ n differ. none_apart (hold n).locks) kept.apart;
     }
 
 -- a session's transaction goes on, a client's or the tool's
-pub kept_goes : (scene : Scene) (now : Stored) (hold seats : ℕ → SessionHold) (going goings : ℕ → Going) (past : List PlainItem) (number : ℕ) (own : SessionHold) (line : Going) → IsKept scene now hold going past → IsFine scene (scene.client number) now.tables own line
-    → ((n : ℕ) → (n == number) ≡ false → Apart own.locks (hold n).locks) → Besides number hold seats own → Besides number going goings line → IsKept scene now seats goings past
-kept_goes scene now hold seats going goings past number own line kept fine apart besides lines = record {
+pub kept_goes : (scene : Scene) (now : Stored) (hold holds : ℕ → SessionHold) (going goings : ℕ → Going) (past : List PlainItem) (number : ℕ) (own : SessionHold) (line : Going) → IsKept scene now hold going past → IsFine scene (scene.client number) now.tables own line
+    → ((n : ℕ) → (n == number) ≡ false → Apart own.locks (hold n).locks) → Besides number hold holds own → Besides number going goings line → IsKept scene now holds goings past
+kept_goes scene now hold holds going goings past number own line kept fine apart besides lines = record {
   orderly = kept.orderly;
   serial = kept.serial;
   fine = λ n. two n (n == number) refl;
-  apart = two_seats number hold seats own besides apart kept.apart;
+  apart = two_holds number hold holds own besides apart kept.apart;
 } where
-  two : (n : ℕ) (b : Bool) → (n == number) ≡ b → IsFine scene (scene.client n) now.tables (seats n) (goings n)
-  two n true is = let same : n ≡ number = are_one n number is in subst (λ (m : ℕ). IsFine scene (scene.client m) now.tables (seats m) (goings m)) (sym same) (rw (besides.here, lines.here) fine)
+  two : (n : ℕ) (b : Bool) → (n == number) ≡ b → IsFine scene (scene.client n) now.tables (holds n) (goings n)
+  two n true is = let same : n ≡ number = are_one n number is in subst (λ (m : ℕ). IsFine scene (scene.client m) now.tables (holds m) (goings m)) (sym same) (rw (besides.here, lines.here) fine)
   two n false is = rw (besides.there n is, lines.there n is) (kept.fine n)
 
 -- a client's transaction ends
-pub kept_ends : (scene : Scene) (now after : Stored) (hold seats : ℕ → SessionHold) (going goings : ℕ → Going) (past : List PlainItem) (number : ℕ) (own : SessionHold) (line : Going) (ended : TxnEnd) → IsKept scene now hold going past → IsFine scene true now.tables own line
-    → ((n : ℕ) → (n == number) ≡ false → Apart own.locks (hold n).locks) → Besides number hold seats no_hold → Besides number going goings not_going
+pub kept_ends : (scene : Scene) (now after : Stored) (hold holds : ℕ → SessionHold) (going goings : ℕ → Going) (past : List PlainItem) (number : ℕ) (own : SessionHold) (line : Going) (ended : TxnEnd) → IsKept scene now hold going past → IsFine scene true now.tables own line
+    → ((n : ℕ) → (n == number) ≡ false → Apart own.locks (hold n).locks) → Besides number hold holds no_hold → Besides number going goings not_going
     → after.tables ≡ cond (stays line.lines) (after_events now.tables own.writes) now.tables → after.log ≡ now.log ++ cond (stays line.lines) own.writes []
-    → IsKept scene after seats goings (past ++ Txn (record { txn = record { lines = line.lines; ended = ended }; replies = line.replies }) ∷ [])
+    → IsKept scene after holds goings (past ++ Txn (record { txn = record { lines = line.lines; ended = ended }; replies = line.replies }) ∷ [])
 unfolding alone
-kept_ends scene now after hold seats going goings past number own line ended kept fine apart besides lines tables log =
+kept_ends scene now after hold holds going goings past number own line ended kept fine apart besides lines tables log =
     let run : RunSo line.lines (record { replies = line.replies; writes = own.writes }) now.tables = stable_end own.names own.locks line.lines (record { replies = line.replies; writes = own.writes }) now.tables kept.orderly fine.lasting in
     let is : IsOrderly after.tables = rw tables (left (stays line.lines) run.orderly) in
     record {
       orderly = is;
       serial = serial-more scene (record { tables = scene.opening; log = [] }) (seen scene now) (seen scene after) past (Txn (record { txn = record { lines = line.lines; ended = ended }; replies = line.replies })) kept.serial
           (leads (stays line.lines) run.runs tables (seen_log (stays line.lines) log));
-      fine = others_fine scene now after.tables hold seats going goings past number kept is besides lines (λ n differ. subst (λ (d : Database). Agree (hold n).names (hold n).locks now.tables d) (sym tables) (others n (stays line.lines) differ));
-      apart = two_seats number hold seats no_hold besides (λ n differ. none_apart (hold n).locks) kept.apart;
+      fine = others_fine scene now after.tables hold holds going goings past number kept is besides lines (λ n differ. subst (λ (d : Database). Agree (hold n).names (hold n).locks now.tables d) (sym tables) (others n (stays line.lines) differ));
+      apart = two_holds number hold holds no_hold besides (λ n differ. none_apart (hold n).locks) kept.apart;
     } where
       left : (b : Bool) → IsOrderly (after_events now.tables own.writes) → IsOrderly (cond b (after_events now.tables own.writes) now.tables)
       left true written = written
@@ -195,12 +195,12 @@ kept_ends scene now after hold seats going goings past number own line ended kep
       others n false is = agree_itself (hold n).names (hold n).locks now.tables
 
 -- nothing is kept less where nothing that is spoken of changes
-pub kept_same : (scene : Scene) (now : Stored) (hold seats : ℕ → SessionHold) (going goings : ℕ → Going) (past : List PlainItem) → ((n : ℕ) → seats n ≡ hold n) → ((n : ℕ) → goings n ≡ going n) → IsKept scene now hold going past → IsKept scene now seats goings past
-kept_same scene now hold seats going goings past seats_are goings_are kept = record {
+pub kept_same : (scene : Scene) (now : Stored) (hold holds : ℕ → SessionHold) (going goings : ℕ → Going) (past : List PlainItem) → ((n : ℕ) → holds n ≡ hold n) → ((n : ℕ) → goings n ≡ going n) → IsKept scene now hold going past → IsKept scene now holds goings past
+kept_same scene now hold holds going goings past holds_are goings_are kept = record {
   orderly = kept.orderly;
   serial = kept.serial;
-  fine = λ n. rw (seats_are n, goings_are n) (kept.fine n);
-  apart = λ m n differ. rw (seats_are m, seats_are n) (kept.apart m n differ);
+  fine = λ n. rw (holds_are n, goings_are n) (kept.fine n);
+  apart = λ m n differ. rw (holds_are m, holds_are n) (kept.apart m n differ);
 }
 
 -- whole tables change whose names nobody holds

@@ -42,7 +42,7 @@ use Rattle.history_laws.specs.Turns as law
 use Rattle.history_laws.specs.Holdings.{Face, Fits, face_in, face_of}
 use Rattle.plain_server.specs.declared.session.Session.{Session}
 use Rattle.history_laws.specs.Plans.{client_names, is_client_session, scene_of, AsksAway, AsksIdle, IsAway, KeepsAway}
-use Rattle.history_laws.proofs.Actors.{same_actor_is, same_actor_itself, live_more, Placed, Commands, GoesOn, Begins, Seats, live_cases, others_differ, named_less, named_differs, seats_more}
+use Rattle.history_laws.proofs.Actors.{same_actor_is, same_actor_itself, live_more, Placed, Commands, GoesOn, Begins, SessionsKnown, live_cases, others_differ, named_less, named_differs, sessions_more}
 use Rattle.history_laws.proofs.Faces.{faces_opened}
 use Rattle.history_laws.proofs.Journals.{opened_waits, state_more, word_back}
 use Rattle.history_laws.proofs.Waiting.{waits_there, waits_called, waits_polled, none_waits, filter_gone}
@@ -78,7 +78,7 @@ own_waits (Some After) state number Cut answer old call is same idle = ap reques
 -- ALL THAT GOES TOGETHER
 
 pub record Linked (plan : PlanData) (journal : List Entry) (going : ℕ → Going) (past : List PlainItem) : Type 0 where
-  pub seats : Seats journal
+  pub known_sessions : SessionsKnown journal
   pub waiting : (a : Actor) (n : ℕ) → live_session journal a ≡ Some n → request_of (waiting_of n (state_at plan journal).waiting) ≡ request_waiting journal a
   pub unheld : (a : Actor) → live_session journal a ≡ None → request_waiting journal a ≡ None
   pub fresh : (n : ℕ) → sessions_named journal < n → (waiting_of n (state_at plan journal).waiting ≡ None) × (going n ≡ not_going)
@@ -294,7 +294,7 @@ module _ (plan : PlanData) (whole journal : List Entry) (entry : Entry) (going :
   state_is = state_more (scene_of plan whole) (opening plan) journal entry
 
   waiting_after : (a : Actor) (n : ℕ) → live_session more a ≡ Some n → request_of (waiting_of n (state_at plan more).waiting) ≡ request_waiting more a
-  waiting_after a n lives = rw (state_is, waiting_more journal entry a) (live_cases journal entry linked.seats known.placed a n (request_of (waiting_of n (after_entry now entry).waiting) ≡ waits_in a (request_waiting journal a) entry) lives here there) where
+  waiting_after a n lives = rw (state_is, waiting_more journal entry a) (live_cases journal entry linked.known_sessions known.placed a n (request_of (waiting_of n (after_entry now entry).waiting) ≡ waits_in a (request_waiting journal a) entry) lives here there) where
     here : a ≡ entry.actor → is_command entry.asked ≡ false → n ≡ entry.session → request_of (waiting_of n (after_entry now entry).waiting) ≡ waits_in a (request_waiting journal a) entry
     here same call is =
         subst (λ (b : Actor). request_of (waiting_of n (after_entry now entry).waiting) ≡ waits_in b (request_waiting journal b) entry) (sym same)
@@ -302,7 +302,7 @@ module _ (plan : PlanData) (whole journal : List Entry) (entry : Entry) (going :
         ∙ sym (ap (λ (b : Bool). cond b (waits_behind entry.asked entry.answer (request_waiting journal entry.actor)) (request_waiting journal entry.actor)) (same_actor_itself entry.actor)))
 
     there : same_actor entry.actor a ≡ false → live_session journal a ≡ Some n → request_of (waiting_of n (after_entry now entry).waiting) ≡ waits_in a (request_waiting journal a) entry
-    there differ old = ap request_of (other_waits n (others_differ journal entry linked.seats known.placed a n differ old)) ∙ linked.waiting a n old ∙ sym (ap (λ (b : Bool). cond b (waits_behind entry.asked entry.answer (request_waiting journal a)) (request_waiting journal a)) differ)
+    there differ old = ap request_of (other_waits n (others_differ journal entry linked.known_sessions known.placed a n differ old)) ∙ linked.waiting a n old ∙ sym (ap (λ (b : Bool). cond b (waits_behind entry.asked entry.answer (request_waiting journal a)) (request_waiting journal a)) differ)
 
   none_cases : (a : Actor) (P : Type 0) → live_session more a ≡ None → (same_actor entry.actor a ≡ true → session_left entry.asked entry.answer entry.session ≡ None → P) → (same_actor entry.actor a ≡ false → live_session journal a ≡ None → P) → P
   none_cases a P none here there = by (same_actor entry.actor a) refl (sym (live_more journal entry a) ∙ none) where
@@ -334,8 +334,8 @@ module _ (plan : PlanData) (whole journal : List Entry) (entry : Entry) (going :
 
   fresh_after : (n : ℕ) → sessions_named more < n → (waiting_of n (state_at plan more).waiting ≡ None) × (goings n ≡ not_going)
   fresh_after n above =
-      let differ : (n == entry.session) ≡ false = turned entry.session n (named_differs journal entry linked.seats known.placed n above) in
-      let old = linked.fresh n (named_less journal entry linked.seats known.placed n above) in
+      let differ : (n == entry.session) ≡ false = turned entry.session n (named_differs journal entry linked.known_sessions known.placed n above) in
+      let old = linked.fresh n (named_less journal entry linked.known_sessions known.placed n above) in
       (ap (λ (s : State). waiting_of n s.waiting) state_is ∙ other_waits n differ ∙ old.0, goings_there n differ ∙ old.1)
 
   client_same : (c : ℕ) → entry.actor ≡ Client c → client_at plan more c ≡ client_after (became (client_at plan journal c) entry) (client_at plan journal c)
@@ -345,9 +345,9 @@ module _ (plan : PlanData) (whole journal : List Entry) (entry : Entry) (going :
   client_other c differ = client_more plan journal entry c ∙ ap (λ (b : Bool). cond b (client_after (became (client_at plan journal c) entry) (client_at plan journal c)) (client_at plan journal c)) differ
 
   runs_after : (c n : ℕ) → live_session more (Client c) ≡ Some n → goings n ≡ going_of (client_at plan more c)
-  runs_after c n lives = live_cases journal entry linked.seats known.placed (Client c) n (goings n ≡ going_of (client_at plan more c)) lives
+  runs_after c n lives = live_cases journal entry linked.known_sessions known.placed (Client c) n (goings n ≡ going_of (client_at plan more c)) lives
       (λ same call is. ap goings is ∙ goings_here ∙ ap (going_on fate_now) (going_here c (sym same)) ∙ (own_alike c (sym same)).going ∙ ap going_of (sym (client_same c (sym same))))
-      (λ differ old. goings_there n (others_differ journal entry linked.seats known.placed (Client c) n differ old) ∙ linked.runs c n old ∙ ap going_of (sym (client_other c differ)))
+      (λ differ old. goings_there n (others_differ journal entry linked.known_sessions known.placed (Client c) n differ old) ∙ linked.runs c n old ∙ ap going_of (sym (client_other c differ)))
 
   closed_after : (c : ℕ) → live_session more (Client c) ≡ None → going_of (client_at plan more c) ≡ not_going
   closed_after c none = none_cases (Client c) (going_of (client_at plan more c) ≡ not_going) none
@@ -459,7 +459,7 @@ module _ (plan : PlanData) (whole journal : List Entry) (entry : Entry) (going :
 
   pub linked_more : Linked plan more goings (past ++ happens fate_now (going entry.session))
   linked_more = record {
-    seats = seats_more journal entry linked.seats known.placed;
+    known_sessions = sessions_more journal entry linked.known_sessions known.placed;
     waiting = waiting_after;
     unheld = unheld_after;
     fresh = fresh_after;

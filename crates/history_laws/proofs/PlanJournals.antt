@@ -23,7 +23,7 @@ use Rattle.history_laws.specs.Turns.{goings_at, goings_from, entry_adds, history
 use Rattle.history_laws.specs.Holdings.{stored}
 use Rattle.history_laws.specs.Laws.{SceneSerial, PlanRunsAreSceneRuns, JournalsAreSerial}
 use Rattle.history_laws.specs.Plans.{client_names, is_client_session, limits_of, scene_of, KeepsAway, IsSerialPlan, IsPlanRun}
-use Rattle.history_laws.proofs.Actors.{placed, seats_begin, Kinds, KindSo, all_kinds}
+use Rattle.history_laws.proofs.Actors.{placed, sessions_begin, Kinds, KindSo, all_kinds}
 use Rattle.history_laws.proofs.Journals.{JournalHolds, scene_serial, step, begins, goings_more}
 use Rattle.history_laws.proofs.Joined.{faithful_told, told_answer, told_missed, SerialPlain, LeadsPlain, AltersAs, serial_plain}
 use Rattle.history_laws.proofs.Linking.{Linked, Known, linked_more, allowed_here}
@@ -77,7 +77,7 @@ unfolding live_session request_waiting client_at history goings_from histories.h
 plan_begins plan whole is = record {
   holds = begins (limits_of plan) (scene_of plan whole) (opening_orderly plan.tables is.tables);
   linked = record {
-    seats = seats_begin;
+    known_sessions = sessions_begin;
     waiting = λ a n live. absurd (cc);
     unheld = λ a none. refl;
     fresh = λ n more. (refl, refl);
@@ -111,7 +111,7 @@ plan_goes : (plan : PlanData) (journal : List Entry) → IsPlanRun plan journal 
 unfolding KeepsPlan KeepsSessions
 plan_goes plan journal run =
     let kinds : Kinds journal = all_kinds journal run.seated in
-    goes plan journal [] journal kinds.seats.none (all_good plan journal [] journal run.faithful run.planned run.seated run.away kinds.each) (plan_begins plan journal run.serial)
+    goes plan journal [] journal kinds.known_sessions.none (all_good plan journal [] journal run.faithful run.planned run.seated run.away kinds.each) (plan_begins plan journal run.serial)
 
 -- *A plan's run is a scene's*
 pub plan_runs_are_scene_runs : PlanRunsAreSceneRuns

@@ -23,9 +23,9 @@ use Rattle.std.specs.Str.{bytes_eq}
 use Rattle.history_laws.proofs.Kept.{kept_goes, kept_ends, kept_same, kept_writes, kept_moves, fine_rest}
 use Rattle.statement_laws.proofs.Tests.{are_one}
 
--- seats of faces
-seats_besides : (number : ℕ) (old new : ℕ → Face) (own : Face) → Besides number old new own → Besides number (λ n. (old n).hold) (λ n. (new n).hold) own.hold
-seats_besides number old new own besides = record { there = λ n differ. ap (λ (f : Face). f.hold) (besides.there n differ); here = ap (λ (f : Face). f.hold) besides.here }
+-- new_holds of faces
+holds_besides : (number : ℕ) (old new : ℕ → Face) (own : Face) → Besides number old new own → Besides number (λ n. (old n).hold) (λ n. (new n).hold) own.hold
+holds_besides number old new own besides = record { there = λ n differ. ap (λ (f : Face). f.hold) (besides.there n differ); here = ap (λ (f : Face). f.hold) besides.here }
 
 pub besides_then : {A : Type 0} (number : ℕ) (one two three : ℕ → A) (a b : A) → Besides number one two a → Besides number two three b → Besides number one three b
 besides_then number one two three a b first second = record { there = λ n differ. second.there n differ ∙ first.there n differ; here = second.here }
@@ -68,7 +68,7 @@ turned_adds scene now old new number going past own word got client holds faces 
     let lines = goings_besides number (Adds word marks.Answered got) going in
     record {
       kept = rw (append-nil past) (kept_goes scene now (λ n. (old n).hold) (λ n. (new n).hold) going (goings_after number (Adds word marks.Answered got) going) past number own (lines_after (going number) word marks.Answered got) holds.kept (rw client fine) apart
-          (seats_besides number old new (record { hold = own; locked = []; busy = true }) faces) lines);
+          (holds_besides number old new (record { hold = own; locked = []; busy = true }) faces) lines);
       fits = fits_each scene number old new going (goings_after number (Adds word marks.Answered got) going) (record { hold = own; locked = []; busy = true }) (lines_after (going number) word marks.Answered got) faces lines
           (record { rests = λ is. absurd (true≢false is); goes = λ own is. some (going number).lines; answered = more (going number).lines (holds.fits number).answered; unended = never; tools = λ is. absurd (true≢false (sym client ∙ is)); unlocked = λ is. refl }) holds.fits;
     } where
@@ -89,7 +89,7 @@ turned_ends scene now after old new number going past own word mark got ended cl
     let lines = goings_besides number (Ends word mark got ended) going in
     record {
       kept = kept_ends scene now after (λ n. (old n).hold) (λ n. (new n).hold) going (goings_after number (Ends word mark got ended) going) past number own (lines_after (going number) word mark got) ended holds.kept fine apart
-          (seats_besides number old new no_face faces) lines tables log;
+          (holds_besides number old new no_face faces) lines tables log;
       fits = fits_each scene number old new going (goings_after number (Ends word mark got ended) going) no_face not_going faces lines (fits_none (scene.client number)) holds.fits;
     }
 
@@ -101,7 +101,7 @@ turned_breaks scene now old new number going past ended client holds faces never
     record {
       kept = kept_ends scene now now (λ n. (old n).hold) (λ n. (new n).hold) going (goings_after number (Breaks ended) going) past number (old number).hold (going number) ended holds.kept (subst (λ (b : Bool). IsFine scene b now.tables (old number).hold (going number)) client (holds.kept.fine number))
           (λ n differ. holds.kept.apart number n (turn n differ))
-          (seats_besides number old new no_face faces) lines (rw never refl) (rw never (sym (append-nil now.log)));
+          (holds_besides number old new no_face faces) lines (rw never refl) (rw never (sym (append-nil now.log)));
       fits = fits_each scene number old new going (goings_after number (Breaks ended) going) no_face not_going faces lines (fits_none (scene.client number)) holds.fits;
     } where
       turn : (n : ℕ) → (n == number) ≡ false → (number == n) ≡ false
@@ -130,7 +130,7 @@ pub tool_grows : (scene : Scene) (now : Stored) (old new : ℕ → Face) (number
 tool_grows scene now old new number going past own locked tool holds faces fine apart =
     let none : going number ≡ not_going = (holds.fits number).tools tool in
     holds_still scene now new number going past (record {
-      kept = kept_goes scene now (λ n. (old n).hold) (λ n. (new n).hold) going going past number own (going number) holds.kept (rw (tool, none) fine) apart (seats_besides number old new (record { hold = own; locked = locked; busy = true }) faces) (still_besides number going);
+      kept = kept_goes scene now (λ n. (old n).hold) (λ n. (new n).hold) going going past number own (going number) holds.kept (rw (tool, none) fine) apart (holds_besides number old new (record { hold = own; locked = locked; busy = true }) faces) (still_besides number going);
       fits = fits_each scene number old new going going (record { hold = own; locked = locked; busy = true }) (going number) faces (still_besides number going) (tool_fits (scene.client number) own locked true (going number) tool none (λ is. absurd (true≢false is))) holds.fits;
     })
 
@@ -141,7 +141,7 @@ tool_writes scene now after old new number going past own locked tool holds face
     let none : going number ≡ not_going = (holds.fits number).tools tool in
     let lines : Besides number going going not_going = record { there = λ n differ. refl; here = none } in
     holds_still scene after new number going past (record {
-      kept = kept_writes scene now after (λ n. (old n).hold) (λ n. (new n).hold) going going past number own not_going holds.kept fine apart (seats_besides number old new (record { hold = no_hold; locked = locked; busy = false }) faces) lines tables log;
+      kept = kept_writes scene now after (λ n. (old n).hold) (λ n. (new n).hold) going going past number own not_going holds.kept fine apart (holds_besides number old new (record { hold = no_hold; locked = locked; busy = false }) faces) lines tables log;
       fits = fits_each scene number old new going going (record { hold = no_hold; locked = locked; busy = false }) not_going faces lines (tool_fits (scene.client number) no_hold locked false not_going tool refl (λ is. refl)) holds.fits;
     })
 
@@ -166,8 +166,8 @@ pub tool_moves : (scene : Scene) (now after : Stored) (old new : ℕ → Face) (
 tool_moves scene now after old new number going past locked alters tool holds faces serial is others =
     let none : going number ≡ not_going = (holds.fits number).tools tool in
     let lines : Besides number going going not_going = record { there = λ n differ. refl; here = none } in
-    let seats : Besides number (λ n. (old n).hold) (λ n. (new n).hold) no_hold = seats_besides number old new (record { hold = no_hold; locked = locked; busy = false }) faces in
-    let rest = kept_writes scene now now (λ n. (old n).hold) (λ n. (new n).hold) going going past number no_hold not_going holds.kept (fine_rest scene false now.tables holds.kept.orderly) (λ n differ lock other one two. absurd one) seats lines (nothing_after now.tables) (sym (append-nil now.log)) in
+    let new_holds : Besides number (λ n. (old n).hold) (λ n. (new n).hold) no_hold = holds_besides number old new (record { hold = no_hold; locked = locked; busy = false }) faces in
+    let rest = kept_writes scene now now (λ n. (old n).hold) (λ n. (new n).hold) going going past number no_hold not_going holds.kept (fine_rest scene false now.tables holds.kept.orderly) (λ n differ lock other one two. absurd one) new_holds lines (nothing_after now.tables) (sym (append-nil now.log)) in
     let kept = kept_moves scene now after (λ n. (new n).hold) going past (past ++ happens (moving alters) (going number)) rest serial is (λ n name held. found n (n == number) refl name held) in
     let fits = fits_each scene number old new going going (record { hold = no_hold; locked = locked; busy = false }) not_going faces lines (tool_fits (scene.client number) no_hold locked false not_going tool refl (λ is. refl)) holds.fits in
     record {
@@ -193,9 +193,9 @@ tool_locks scene now old new number going past locked tool holds faces =
     let none : going number ≡ not_going = (holds.fits number).tools tool in
     let own : Face = record { hold = (old number).hold; locked = locked; busy = (old number).busy } in
     holds_still scene now new number going past (record {
-      kept = kept_same scene now (λ n. (old n).hold) (λ n. (new n).hold) going going past (λ n. seats n (n == number) refl) (λ n. refl) holds.kept;
+      kept = kept_same scene now (λ n. (old n).hold) (λ n. (new n).hold) going going past (λ n. new_holds n (n == number) refl) (λ n. refl) holds.kept;
       fits = fits_each scene number old new going going own (going number) faces (still_besides number going) (tool_fits (scene.client number) (old number).hold locked (old number).busy (going number) tool none (λ is. ((holds.fits number).rests is).0)) holds.fits;
     }) where
-      seats : (n : ℕ) (b : Bool) → (n == number) ≡ b → (new n).hold ≡ (old n).hold
-      seats n true is = let same : n ≡ number = are_one n number is in subst (λ (m : ℕ). (new m).hold ≡ (old m).hold) (sym same) (ap (λ (f : Face). f.hold) faces.here)
-      seats n false is = ap (λ (f : Face). f.hold) (faces.there n is)
+      new_holds : (n : ℕ) (b : Bool) → (n == number) ≡ b → (new n).hold ≡ (old n).hold
+      new_holds n true is = let same : n ≡ number = are_one n number is in subst (λ (m : ℕ). (new m).hold ≡ (old m).hold) (sym same) (ap (λ (f : Face). f.hold) faces.here)
+      new_holds n false is = ap (λ (f : Face). f.hold) (faces.there n is)

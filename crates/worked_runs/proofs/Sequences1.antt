@@ -70,7 +70,6 @@ asked_1 =
     ∷ record { actor = Insp; session = 4; asked = Poll; side = None; answer = answers.Waits 1; missed = None }
     ∷ record { actor = Insp; session = 6; asked = Call (requests.ReadLog 1 1 (codes "u" ∷ [])); side = None; answer = answers.Events [] 2; missed = None }
     ∷ []
-
 served_1 : IsServed (record { client_wait = 1; tool_wait = 4 }) tables_1 asked_1
 unfolding computing
 served_1 = record { answers = refl; sides = refl }

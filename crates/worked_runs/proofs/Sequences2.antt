@@ -69,7 +69,6 @@ asked_15 =
     ∷ record { actor = Insp; session = 6; asked = Call (requests.Do (statements.Replace (codes "t") (Some (codes "id" ∷ codes "m0" ∷ codes "m1" ∷ [])) ((Num (pos 7)) ∷ (Num (pos 3)) ∷ (Num (pos 6)) ∷ []))); side = None; answer = answers.Refused 1146 None; missed = None }
     ∷ record { actor = Insp; session = 6; asked = Call requests.Rollback; side = None; answer = answers.Ok 0; missed = None }
     ∷ []
-
 served_15 : IsServed (record { client_wait = 1; tool_wait = 1 }) tables_15 asked_15
 unfolding computing
 served_15 = record { answers = refl; sides = refl }
