@@ -1,6 +1,6 @@
 -- *Sessions of a journal*: each actor's turns are in a session of its own, and after a loss in a new one. (This project's
 -- rule.)
-use Rattle.std.specs.Prelude.{◌≡◌, ◌<◌, ℕ, max, if◌then◌else◌, List, [], fold, Option, Some, None}
+use Rattle.std.specs.Prelude.{◌≡◌, ◌<◌, ℕ, ◌+◌, max, if◌then◌else◌, List, [], fold, Option, Some, None}
 use Rattle.script_text.specs.declared.actor.Actor.{Actor}
 use Rattle.plain_server.specs.Along.{Along}
 use Rattle.plain_server.specs.declared.answer.Answer.{Answer}
@@ -40,3 +40,14 @@ pub record IsSeated (before : List Entry) (entry : Entry) : Type 0 where
 
 unfoldable pub KeepsSessions : List Entry → Type 0
 KeepsSessions journal = Along IsSeated [] journal
+
+-- A new session has the number next to the greatest before it.
+abbrev pub IsNumbered : List Entry → Entry → Asked → Option ℕ → Type 0
+IsNumbered before entry (Command word) live = Unit {0}
+IsNumbered before entry Cut live = Unit {0}
+IsNumbered before entry asked (Some session) = Unit {0}
+IsNumbered before entry asked None = entry.session ≡ sessions_named before + 1
+
+-- *Numbering sessions*: so each new one is, where no step was out of memory behind the session that it had opened.
+unfoldable pub NumbersSessions : List Entry → Type 0
+NumbersSessions journal = Along (λ before entry. IsNumbered before entry entry.asked (live_session before entry.actor)) [] journal

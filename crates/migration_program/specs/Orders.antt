@@ -12,7 +12,10 @@ use Rattle.plain_server.specs.declared.entry.Asked.TheVariants.{Poll}
 use Rattle.plain_server.specs.declared.entry.Entry.{Entry}
 use Rattle.plain_server.specs.Entries.{same_actor, is_cut}
 use Rattle.plan_words.specs.PlanData.{PlanData}
-use Rattle.migration_program.specs.Programs.{given}
+use Rattle.journal_words.specs.Journals.{IsFaithful}
+use Rattle.journal_words.specs.Keeping.{KeepsPlan}
+use Rattle.journal_words.specs.Sessions.{NumbersSessions}
+use Rattle.migration_program.specs.Programs.{given, Follows}
 
 -- the clients from this number on
 unfoldable pub clients_from : ℕ → List (List ScriptLine) → List Actor
@@ -112,6 +115,15 @@ IsNext false next actor = next ≡ Some actor
 -- *Replay order*: each turn but a loss between calls is the next actor's.
 unfoldable pub ReplayOrder : PlanData → List Entry → Type 0
 ReplayOrder plan journal = Along (λ before entry. IsNext (is_cut entry.asked) (next_actor plan before) entry.actor) [] journal
+
+-- *Replay*: a journal that is faithful, keeps the plan and follows the program, in replay order, and numbers its sessions one
+-- by one.
+pub record IsReplay (plan : PlanData) (journal : List Entry) : Type 0 where
+  pub faithful : IsFaithful plan journal
+  pub planned : KeepsPlan plan journal
+  pub follows : Follows plan journal
+  pub order : ReplayOrder plan journal
+  pub numbered : NumbersSessions journal
 
 -- RUN
 

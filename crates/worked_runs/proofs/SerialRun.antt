@@ -17,7 +17,9 @@ use Rattle.plain_server.specs.declared.entry.Asked.{Asked}
 use Rattle.plain_server.specs.declared.entry.Asked.TheVariants.{Cut}
 use Rattle.journal_words.specs.Journals.{IsFaithful}
 use Rattle.journal_words.specs.Keeping.{KeepsPlan}
-use Rattle.journal_words.specs.Sessions.{KeepsSessions}
+use Rattle.journal_words.specs.Sessions.{KeepsSessions, NumbersSessions}
+use Rattle.migration_program.specs.Programs.{Follows}
+use Rattle.migration_program.specs.Orders.{ReplayOrder, IsReplay}
 use Rattle.journal_words.specs.Histories.{history, is_alter}
 use Rattle.journal_words.specs.Serials.{IsSerial}
 use Rattle.statement_laws.specs.Covering.{StoresDefault, IsOrderlyTable}
@@ -276,6 +278,175 @@ away =
 -- *The run is one of its plan*, and so its history is serial
 run_101 : IsPlanRun plan_101 journal_101
 run_101 = record { serial = opening; faithful = faithful; planned = planned; seated = seated; away = away }
+
+follows : Follows plan_101 journal_101
+unfolding computing Follows
+follows =
+    (record { given = refl; session = grind (arith) }
+    , (record { given = refl; session = refl }
+    , (record { given = refl; session = refl }
+    , (record { given = refl; session = refl }
+    , (record { given = refl; session = refl }
+    , (record { given = refl; session = refl }
+    , (record { given = refl; session = refl }
+    , (record { given = refl; session = refl }
+    , (record { given = refl; session = refl }
+    , (record { given = refl; session = refl }
+    , (record { given = refl; session = refl }
+    , (record { given = refl; session = refl }
+    , (record { given = refl; session = grind (arith) }
+    , (record { given = refl; session = refl }
+    , (record { given = refl; session = refl }
+    , (record { given = refl; session = refl }
+    , (record { given = refl; session = refl }
+    , (record { given = refl; session = refl }
+    , (record { given = refl; session = grind (arith) }
+    , (record { given = refl; session = grind (arith) }
+    , (record { given = refl; session = refl }
+    , (record { given = refl; session = refl }
+    , (record { given = refl; session = refl }
+    , (record { given = refl; session = refl }
+    , (record { given = refl; session = refl }
+    , (record { given = refl; session = refl }
+    , (record { given = refl; session = refl }
+    , (record { given = refl; session = refl }
+    , (record { given = refl; session = refl }
+    , (record { given = refl; session = refl }
+    , (record { given = refl; session = refl }
+    , (record { given = refl; session = refl }
+    , (record { given = refl; session = refl }
+    , (record { given = refl; session = refl }
+    , (record { given = refl; session = grind (arith) }
+    , (record { given = refl; session = refl }
+    , (record { given = refl; session = refl }
+    , (record { given = refl; session = refl }
+    , (record { given = refl; session = grind (arith) }
+    , (record { given = refl; session = refl }
+    , (record { given = refl; session = refl }
+    , (record { given = refl; session = refl }
+    , (record { given = refl; session = refl }
+    , (record { given = refl; session = refl }
+    , (record { given = refl; session = refl }
+    , (record { given = refl; session = refl }
+    , (record { given = refl; session = refl }
+    , (record { given = refl; session = refl }
+    , (record { given = refl; session = refl }
+    , (record { given = refl; session = refl }
+    , tt))))))))))))))))))))))))))))))))))))))))))))))))))
+
+order : ReplayOrder plan_101 journal_101
+unfolding computing ReplayOrder
+order =
+    (refl
+    , (refl
+    , (refl
+    , (refl
+    , (refl
+    , (refl
+    , (refl
+    , (refl
+    , (refl
+    , (refl
+    , (refl
+    , (refl
+    , (refl
+    , (refl
+    , (refl
+    , (refl
+    , (refl
+    , (refl
+    , (refl
+    , (refl
+    , (refl
+    , (refl
+    , (refl
+    , (refl
+    , (refl
+    , (refl
+    , (refl
+    , (refl
+    , (refl
+    , (refl
+    , (refl
+    , (refl
+    , (refl
+    , (refl
+    , (refl
+    , (refl
+    , (refl
+    , (refl
+    , (refl
+    , (refl
+    , (refl
+    , (refl
+    , (refl
+    , (refl
+    , (refl
+    , (refl
+    , (refl
+    , (refl
+    , (refl
+    , (refl
+    , tt))))))))))))))))))))))))))))))))))))))))))))))))))
+
+numbered : NumbersSessions journal_101
+unfolding computing NumbersSessions
+numbered =
+    (refl
+    , (tt
+    , (tt
+    , (tt
+    , (tt
+    , (tt
+    , (tt
+    , (tt
+    , (tt
+    , (tt
+    , (tt
+    , (tt
+    , (refl
+    , (tt
+    , (tt
+    , (tt
+    , (tt
+    , (tt
+    , (refl
+    , (refl
+    , (tt
+    , (tt
+    , (tt
+    , (tt
+    , (tt
+    , (tt
+    , (tt
+    , (tt
+    , (tt
+    , (tt
+    , (tt
+    , (tt
+    , (tt
+    , (tt
+    , (refl
+    , (tt
+    , (tt
+    , (tt
+    , (refl
+    , (tt
+    , (tt
+    , (tt
+    , (tt
+    , (tt
+    , (tt
+    , (tt
+    , (tt
+    , (tt
+    , (tt
+    , (tt
+    , tt))))))))))))))))))))))))))))))))))))))))))))))))))
+
+-- *It is a replay of its plan*
+replay_101 : IsReplay plan_101 journal_101
+replay_101 = record { faithful = faithful; planned = planned; follows = follows; order = order; numbered = numbered }
 
 once : count_by is_alter (history plan_101 journal_101) ≤ 1
 unfolding computing

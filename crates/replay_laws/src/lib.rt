@@ -1,0 +1,4 @@
+//! That a plan has one replay.
+#![tactic(auto)]
+
+pub mod laws;
