@@ -1,5 +1,5 @@
 -- *The tool*: how far it is, as a fold over the journal's entries. Each actor's machine takes what the actor was answered,
--- and nothing else; the tasks' failures are counted, and the first ground of a revert is kept.
+-- and nothing else; the tasks' failures are counted, and the first reason for a revert is kept.
 use Rattle.std.specs.Prelude.{ℕ, ◌+◌, ◌==◌, Bool, true, false, ◌&&◌, if◌then◌else◌, List, [], ◌∷◌, ◌++◌, fold, length, Option, Some, None}
 use Rattle.gho_values.specs.declared.span.Bound.TheVariants.{Closed}
 use Rattle.script_text.specs.declared.actor.Actor.{Actor}

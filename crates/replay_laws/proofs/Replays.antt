@@ -38,7 +38,7 @@ agree plan before (entry ∷ one) [] a b = (entry ∷ one, inr refl)
 agree plan before (entry ∷ one) (other ∷ two) a b =
     let same : entry ≡ other = one_turn plan before entry other a.0 b.0 in
     subst (λ (e : Entry). Agrees (entry ∷ one) (e ∷ two)) same
-      (more entry one two (agree plan (before ++ entry ∷ []) one two a.1 (subst (λ (e : Entry). Along (IsTurn plan) (before ++ e ∷ []) two) (sym same) b.1)))
+    (more entry one two (agree plan (before ++ entry ∷ []) one two a.1 (subst (λ (e : Entry). Along (IsTurn plan) (before ++ e ∷ []) two) (sym same) b.1)))
 
 -- *Replays agree*
 pub replays_agree : ReplaysAgree

@@ -1,5 +1,5 @@
 -- The next turn of a replay is one that its turns before it decide.
-use Rattle.std.proofs.Common.{◌≡◌, ◌≢◌, ℕ, ◌+◌, Bool, true, false, List, [], ◌∷◌, ◌++◌, Option, Some, None, refl, sym, ap, ◌∙◌, subst}
+use Rattle.std.proofs.Common.{◌≡◌, ◌≢◌, ℕ, ◌+◌, Bool, false, List, Option, Some, None, refl, sym, ap, ◌∙◌, subst}
 use Rattle.script_text.specs.declared.actor.Actor.{Actor}
 use Rattle.script_text.specs.declared.actor.Side.{Side}
 use Rattle.plain_server.specs.declared.answer.Answer.{Answer}
@@ -104,14 +104,15 @@ one_of o a b first second = some_same (sym first ∙ second) where
 pub one_turn : (plan : PlanData) (before : List Entry) (one two : Entry) → IsTurn plan before one → IsTurn plan before two → one ≡ two
 one_turn plan before one two first second =
     entry_is (state_at plan before) one first.answered ∙ ap (answered (state_at plan before)) (by (cut_due plan before) first.planned.struck second.planned.struck) ∙ sym (entry_is (state_at plan before) two second.answered) where
-  same : one.actor ≡ two.actor → one.asked ≡ two.asked → one.side ≡ two.side → turn_of one ≡ turn_of two
-  same = turns_same before one two (session_is before one one.asked (live_session before one.actor) first.followed.session first.numbered) (session_is before two two.asked (live_session before two.actor) second.followed.session second.numbered)
-  by : (due : Option Actor) → IsStruck plan before one due → IsStruck plan before two due → turn_of one ≡ turn_of two
-  by (Some actor) a b = same (a.0 ∙ sym b.0) (a.1 ∙ sym b.1) (a.2 ∙ sym b.2)
-  by None a b =
-      let next_one : next_actor plan before ≡ Some one.actor = subst (λ (c : Bool). IsNext c (next_actor plan before) one.actor) (no_cut one.asked a.0) first.next in
-      let next_two : next_actor plan before ≡ Some two.actor = subst (λ (c : Bool). IsNext c (next_actor plan before) two.actor) (no_cut two.asked b.0) second.next in
-      let actor : one.actor ≡ two.actor = one_of (next_actor plan before) one.actor two.actor next_one next_two in
-      let given_two : given plan before one.actor ≡ Some two.asked = ap (given plan before) actor ∙ is_given plan before two two.asked b.0 second.followed.given in
-      same actor (one_of (given plan before one.actor) one.asked two.asked (is_given plan before one one.asked a.0 first.followed.given) given_two)
-        (a.1 ∙ ap (side_due plan before) actor ∙ sym b.1)
+      same : one.actor ≡ two.actor → one.asked ≡ two.asked → one.side ≡ two.side → turn_of one ≡ turn_of two
+      same = turns_same before one two (session_is before one one.asked (live_session before one.actor) first.followed.session first.numbered) (session_is before two two.asked (live_session before two.actor) second.followed.session second.numbered)
+
+      by : (due : Option Actor) → IsStruck plan before one due → IsStruck plan before two due → turn_of one ≡ turn_of two
+      by (Some actor) a b = same (a.0 ∙ sym b.0) (a.1 ∙ sym b.1) (a.2 ∙ sym b.2)
+      by None a b =
+          let next_one : next_actor plan before ≡ Some one.actor = subst (λ (c : Bool). IsNext c (next_actor plan before) one.actor) (no_cut one.asked a.0) first.next in
+          let next_two : next_actor plan before ≡ Some two.actor = subst (λ (c : Bool). IsNext c (next_actor plan before) two.actor) (no_cut two.asked b.0) second.next in
+          let actor : one.actor ≡ two.actor = one_of (next_actor plan before) one.actor two.actor next_one next_two in
+          let given_two : given plan before one.actor ≡ Some two.asked = ap (given plan before) actor ∙ is_given plan before two two.asked b.0 second.followed.given in
+          same actor (one_of (given plan before one.actor) one.asked two.asked (is_given plan before one one.asked a.0 first.followed.given) given_two)
+          (a.1 ∙ ap (side_due plan before) actor ∙ sym b.1)

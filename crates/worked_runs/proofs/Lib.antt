@@ -9,4 +9,5 @@ mod Workers
 mod Sequences1
 mod Sequences2
 mod Sequences3
+mod Sequences4
 mod SerialRun

@@ -70,6 +70,7 @@ asked_1 =
     ∷ record { actor = Insp; session = 4; asked = Poll; side = None; answer = answers.Waits 1; missed = None }
     ∷ record { actor = Insp; session = 6; asked = Call (requests.ReadLog 1 1 (codes "u" ∷ [])); side = None; answer = answers.Events [] 2; missed = None }
     ∷ []
+
 served_1 : IsServed (record { client_wait = 1; tool_wait = 4 }) tables_1 asked_1
 unfolding computing
 served_1 = record { answers = refl; sides = refl }
@@ -742,58 +743,3 @@ asked_13 =
 served_13 : IsServed (record { client_wait = 2; tool_wait = 2 }) tables_13 asked_13
 unfolding computing
 served_13 = record { answers = refl; sides = refl }
-
--- Sequence 14
-abbrev tables_14 : Database
-tables_14 = (record { schema = record { name = codes "t"; columns = (record { name = codes "id"; kind = Int 4 false; nullable = false; default = None } ∷ record { name = codes "m0"; kind = VarChar 3; nullable = true; default = (Some (Text (codes "1"))) } ∷ []); uniques = (record { name = None; places = (0 ∷ []) } ∷ record { name = (Some (codes "u0")); places = (1 ∷ []) } ∷ []); indexes = []; comment = [] }; rows = (((Num (pos 5)) ∷ (Text (codes "a")) ∷ []) ∷ []) } ∷ record { schema = record { name = codes "u"; columns = (record { name = codes "v"; kind = VarChar 6; nullable = true; default = (Some (Text (codes "5"))) } ∷ record { name = codes "id"; kind = Int 4 false; nullable = false; default = None } ∷ record { name = codes "m0"; kind = VarChar 3; nullable = false; default = None } ∷ []); uniques = (record { name = None; places = (1 ∷ []) } ∷ record { name = (Some (codes "u0")); places = (2 ∷ []) } ∷ []); indexes = []; comment = [] }; rows = [] } ∷ record { schema = record { name = codes "w"; columns = (record { name = codes "id"; kind = Int 8 false; nullable = false; default = None } ∷ record { name = codes "m0"; kind = Int 1 false; nullable = false; default = (Some (Num (pos 1))) } ∷ record { name = codes "v"; kind = VarChar 6; nullable = true; default = (Some (Text (codes "5"))) } ∷ []); uniques = (record { name = None; places = (0 ∷ []) } ∷ record { name = (Some (codes "u0")); places = (1 ∷ []) } ∷ []); indexes = (record { name = (Some (codes "v")); places = (2 ∷ []) } ∷ []); comment = [] }; rows = (((Num (pos 1)) ∷ (Num (pos 6)) ∷ Null ∷ []) ∷ ((Num (pos 5)) ∷ (Num (pos 2)) ∷ (Text (codes "4")) ∷ []) ∷ ((Num (pos 6)) ∷ (Num (pos 3)) ∷ (Text (codes "d")) ∷ []) ∷ []) } ∷ [])
-
-abbrev asked_14 : List Entry
-asked_14 =
-    record { actor = (Client 1); session = 1; asked = Call (requests.Ends (codes "t")); side = None; answer = answers.Ends (Some (record { least = ((Num (pos 5)) ∷ []); greatest = ((Num (pos 5)) ∷ []) })); missed = None }
-    ∷ record { actor = (Client 1); session = 1; asked = Call requests.ShowTables; side = None; answer = answers.Tables (record { name = codes "t"; comment = [] } ∷ record { name = codes "u"; comment = [] } ∷ record { name = codes "w"; comment = [] } ∷ []); missed = None }
-    ∷ record { actor = (Client 1); session = 1; asked = Call (requests.Ends (codes "w")); side = None; answer = answers.Ends (Some (record { least = ((Num (pos 1)) ∷ []); greatest = ((Num (pos 6)) ∷ []) })); missed = None }
-    ∷ record { actor = (Client 1); session = 1; asked = Call (requests.Ends (codes "w")); side = None; answer = answers.Ends (Some (record { least = ((Num (pos 1)) ∷ []); greatest = ((Num (pos 6)) ∷ []) })); missed = None }
-    ∷ record { actor = (Client 2); session = 2; asked = Call (requests.Create (record { name = codes "t"; columns = (record { name = codes "id"; kind = Int 8 false; nullable = false; default = None } ∷ record { name = codes "m0"; kind = Int 1 false; nullable = false; default = (Some (Num (pos 1))) } ∷ record { name = codes "v"; kind = VarChar 6; nullable = true; default = (Some (Text (codes "5"))) } ∷ []); uniques = (record { name = None; places = (0 ∷ []) } ∷ record { name = (Some (codes "u0")); places = (1 ∷ []) } ∷ []); indexes = (record { name = (Some (codes "v")); places = (2 ∷ []) } ∷ []); comment = [] })); side = None; answer = answers.Refused 1050 None; missed = None }
-    ∷ record { actor = Insp; session = 3; asked = Call (requests.Do (statements.Delete (codes "w") (conditions.Equal (record { column = codes "id"; value = (Num (pos 3)) } ∷ [])))); side = None; answer = answers.Ok 0; missed = None }
-    ∷ record { actor = Insp; session = 3; asked = Call (requests.ChunkEnd (codes "t") Free ((Num (pos 5)) ∷ []) 1); side = None; answer = answers.End ((Num (pos 5)) ∷ []); missed = None }
-    ∷ record { actor = Insp; session = 3; asked = Call (requests.Drop (codes "u")); side = None; answer = answers.Ok 0; missed = None }
-    ∷ record { actor = (Client 2); session = 2; asked = Call (requests.Create (record { name = codes "w"; columns = (record { name = codes "id"; kind = Int 4 false; nullable = false; default = None } ∷ record { name = codes "m0"; kind = VarChar 3; nullable = true; default = (Some (Text (codes "1"))) } ∷ []); uniques = (record { name = None; places = (0 ∷ []) } ∷ record { name = (Some (codes "u0")); places = (1 ∷ []) } ∷ []); indexes = []; comment = codes "z" })); side = None; answer = answers.Refused 1050 None; missed = None }
-    ∷ record { actor = (Client 1); session = 1; asked = Call (requests.BeginSpan (codes "t") (record { low = (Open ((Num (pos 5)) ∷ [])); high = (Closed ((Num (pos 5)) ∷ [])) }) 2); side = None; answer = answers.Keys [] ((Num (pos 5)) ∷ []); missed = None }
-    ∷ record { actor = Insp; session = 3; asked = Call (requests.Ends (codes "w")); side = None; answer = answers.Ends (Some (record { least = ((Num (pos 1)) ∷ []); greatest = ((Num (pos 6)) ∷ []) })); missed = None }
-    ∷ record { actor = (Client 2); session = 2; asked = Call requests.Begin; side = (Some sides_at.Before); answer = answers.Lost; missed = None }
-    ∷ record { actor = (Client 1); session = 1; asked = Call (requests.Do (statements.Select (codes "w") (shown.Columns (codes "id" ∷ [])) (conditions.Equal (record { column = codes "id"; value = (Num (pos 1)) } ∷ [])))); side = None; answer = answers.Rows (((Num (pos 1)) ∷ []) ∷ []); missed = None }
-    ∷ record { actor = Insp; session = 3; asked = Call (requests.Do (statements.Insert (codes "t") None ((Num (pos 7)) ∷ (Num (pos 2)) ∷ []))); side = None; answer = answers.Ok 1; missed = None }
-    ∷ record { actor = (Client 4); session = 4; asked = Call (requests.Do (statements.Update (codes "u") (record { column = codes "v"; value = (Num (pos 5)) } ∷ record { column = codes "id"; value = (Num (pos 2)) } ∷ []) (conditions.Equal (record { column = codes "id"; value = (Num (pos 4)) } ∷ [])))); side = None; answer = answers.Refused 1146 None; missed = None }
-    ∷ record { actor = Insp; session = 3; asked = Call (requests.BeginSpan (codes "t") (record { low = Free; high = (Closed ((Num (pos 5)) ∷ [])) }) 3); side = (Some sides_at.After); answer = answers.Lost; missed = (Some (answers.Keys (((Num (pos 5)) ∷ []) ∷ []) ((Num (pos 5)) ∷ []))) }
-    ∷ record { actor = (Client 1); session = 1; asked = Call requests.ShowWaiting; side = None; answer = answers.Waiting []; missed = None }
-    ∷ record { actor = (Client 4); session = 4; asked = Call (requests.Drop (codes "w")); side = None; answer = answers.Waits 1; missed = None }
-    ∷ record { actor = Insp; session = 6; asked = Call (requests.Do (statements.Delete (codes "w") (conditions.Equal (record { column = codes "id"; value = (Num (pos 4)) } ∷ [])))); side = (Some sides_at.Before); answer = answers.Lost; missed = None }
-    ∷ record { actor = (Client 1); session = 1; asked = Call (requests.Do (statements.Replace (codes "t") None ((Num (pos 1)) ∷ Null ∷ []))); side = None; answer = answers.Ok 1; missed = None }
-    ∷ record { actor = (Client 4); session = 4; asked = Poll; side = None; answer = answers.TimedOut 1; missed = None }
-    ∷ record { actor = (Client 5); session = 5; asked = Call requests.Begin; side = None; answer = answers.Ok 0; missed = None }
-    ∷ record { actor = (Client 4); session = 4; asked = Call requests.LogEnd; side = None; answer = answers.At 1; missed = None }
-    ∷ record { actor = (Client 5); session = 5; asked = Call (requests.Do (statements.Update (codes "u") (record { column = codes "v"; value = (Text (codes "d")) } ∷ record { column = codes "m0"; value = (Text (codes "f")) } ∷ []) conditions.All)); side = None; answer = answers.Refused 1146 None; missed = None }
-    ∷ record { actor = (Client 4); session = 4; asked = Call (requests.ChunkEnd (codes "u") (Closed ((Num (pos 1)) ∷ [])) ((Num (pos 1)) ∷ []) 1); side = None; answer = answers.Refused 1146 None; missed = None }
-    ∷ record { actor = (Client 1); session = 1; asked = Call (requests.Create (record { name = codes "u"; columns = (record { name = codes "id"; kind = Int 8 false; nullable = false; default = None } ∷ record { name = codes "m0"; kind = Int 1 false; nullable = false; default = (Some (Num (pos 1))) } ∷ record { name = codes "v"; kind = VarChar 6; nullable = true; default = (Some (Text (codes "5"))) } ∷ []); uniques = (record { name = None; places = (0 ∷ []) } ∷ record { name = (Some (codes "u0")); places = (1 ∷ []) } ∷ []); indexes = (record { name = (Some (codes "v")); places = (2 ∷ []) } ∷ []); comment = [] })); side = None; answer = answers.Waits 5; missed = None }
-    ∷ record { actor = (Client 5); session = 5; asked = Call (requests.Ends (codes "w")); side = None; answer = answers.Ends (Some (record { least = ((Num (pos 1)) ∷ []); greatest = ((Num (pos 6)) ∷ []) })); missed = None }
-    ∷ record { actor = (Client 1); session = 1; asked = Poll; side = None; answer = answers.TimedOut 1; missed = None }
-    ∷ record { actor = (Client 4); session = 4; asked = Call (requests.Do (statements.Replace (codes "t") None ((Num (pos 7)) ∷ (Num (pos 5)) ∷ []))); side = None; answer = answers.Ok 2; missed = None }
-    ∷ record { actor = Insp; session = 7; asked = Call (requests.ReadLog 2 5 (codes "u" ∷ codes "x" ∷ [])); side = None; answer = answers.Events [] 3; missed = None }
-    ∷ record { actor = (Client 1); session = 1; asked = Call (requests.Do (statements.Update (codes "w") (record { column = codes "id"; value = (Num (pos 6)) } ∷ record { column = codes "m0"; value = (Num (pos 7)) } ∷ record { column = codes "v"; value = (Num (pos 6)) } ∷ []) (conditions.Equal (record { column = codes "id"; value = (Num (pos 4)) } ∷ [])))); side = None; answer = answers.Ok 0; missed = None }
-    ∷ record { actor = Insp; session = 7; asked = Call requests.ShowWaiting; side = None; answer = answers.Waiting []; missed = None }
-    ∷ record { actor = Insp; session = 7; asked = Call (requests.Drop (codes "w")); side = None; answer = answers.Ok 0; missed = None }
-    ∷ record { actor = (Client 1); session = 1; asked = Call (requests.Do (statements.Update (codes "t") (record { column = codes "id"; value = (Text (codes "1")) } ∷ []) (conditions.Range (record { column = codes "id"; sign = signs.AtMost; value = (Num (pos 1)) } ∷ [])))); side = None; answer = answers.Ok 0; missed = None }
-    ∷ record { actor = Insp; session = 7; asked = Call requests.Begin; side = None; answer = answers.Ok 0; missed = None }
-    ∷ record { actor = (Client 5); session = 5; asked = Call requests.ShowWaiting; side = None; answer = answers.Waiting []; missed = None }
-    ∷ record { actor = (Client 1); session = 1; asked = Call (requests.Do (statements.Insert (codes "w") None ((Num (pos 4)) ∷ (Num (pos 3)) ∷ Null ∷ []))); side = None; answer = answers.Refused 1146 None; missed = None }
-    ∷ record { actor = (Client 1); session = 1; asked = Call (requests.Drop (codes "w")); side = None; answer = answers.Refused 1051 None; missed = None }
-    ∷ record { actor = (Client 5); session = 5; asked = Call (requests.CopyRow (codes "t") (codes "t") (record { kind = Int 4 false; nullable = false; origin = from.Old 1 } ∷ record { kind = VarChar 3; nullable = true; origin = from.Old 1 } ∷ []) ((Num (pos 7)) ∷ [])); side = None; answer = answers.Ok 0; missed = None }
-    ∷ record { actor = (Client 1); session = 1; asked = Call (requests.Rename (record { old = codes "w"; new = codes "w" } ∷ record { old = codes "w"; new = codes "u" } ∷ record { old = codes "u"; new = codes "t" } ∷ [])); side = None; answer = answers.Waits 5; missed = None }
-    ∷ record { actor = (Client 4); session = 4; asked = Call (requests.Do (statements.Select (codes "t") shown.Count (conditions.Equal (record { column = codes "id"; value = (Num (pos 4)) } ∷ [])))); side = None; answer = answers.Waits 1; missed = None }
-    ∷ record { actor = (Client 5); session = 5; asked = Call (requests.CopyRow (codes "t") (codes "t") (record { kind = Int 4 false; nullable = false; origin = from.Old 0 } ∷ record { kind = VarChar 3; nullable = true; origin = from.Old 1 } ∷ []) ((Num (pos 7)) ∷ [])); side = None; answer = answers.Ok 0; missed = None }
-    ∷ record { actor = (Client 1); session = 1; asked = Cut; side = None; answer = answers.Lost; missed = None }
-    ∷ []
-
-served_14 : IsServed (record { client_wait = 1; tool_wait = 4 }) tables_14 asked_14
-unfolding computing
-served_14 = record { answers = refl; sides = refl }

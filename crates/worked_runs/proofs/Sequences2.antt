@@ -69,6 +69,7 @@ asked_15 =
     ∷ record { actor = Insp; session = 6; asked = Call (requests.Do (statements.Replace (codes "t") (Some (codes "id" ∷ codes "m0" ∷ codes "m1" ∷ [])) ((Num (pos 7)) ∷ (Num (pos 3)) ∷ (Num (pos 6)) ∷ []))); side = None; answer = answers.Refused 1146 None; missed = None }
     ∷ record { actor = Insp; session = 6; asked = Call requests.Rollback; side = None; answer = answers.Ok 0; missed = None }
     ∷ []
+
 served_15 : IsServed (record { client_wait = 1; tool_wait = 1 }) tables_15 asked_15
 unfolding computing
 served_15 = record { answers = refl; sides = refl }
@@ -742,58 +743,3 @@ asked_27 =
 served_27 : IsServed (record { client_wait = 4; tool_wait = 2 }) tables_27 asked_27
 unfolding computing
 served_27 = record { answers = refl; sides = refl }
-
--- Sequence 28
-abbrev tables_28 : Database
-tables_28 = (record { schema = record { name = codes "t"; columns = (record { name = codes "id"; kind = Int 4 false; nullable = false; default = None } ∷ record { name = codes "m0"; kind = Int 4 false; nullable = true; default = (Some Null) } ∷ record { name = codes "m1"; kind = Int 4 false; nullable = true; default = (Some Null) } ∷ record { name = codes "v"; kind = Int 4 false; nullable = true; default = (Some (Num (pos 5))) } ∷ []); uniques = (record { name = None; places = (0 ∷ []) } ∷ record { name = (Some (codes "u0")); places = (1 ∷ []) } ∷ record { name = (Some (codes "u1")); places = (1 ∷ 2 ∷ []) } ∷ []); indexes = []; comment = [] }; rows = (((Num (pos 2)) ∷ (Num (pos 5)) ∷ Null ∷ (Num (pos 1)) ∷ []) ∷ ((Num (pos 5)) ∷ Null ∷ Null ∷ (Num (pos 7)) ∷ []) ∷ ((Num (pos 7)) ∷ Null ∷ (Num (pos 4)) ∷ (Num (pos 7)) ∷ []) ∷ []) } ∷ record { schema = record { name = codes "u"; columns = (record { name = codes "m0"; kind = VarChar 3; nullable = true; default = (Some Null) } ∷ record { name = codes "id"; kind = Int 4 false; nullable = false; default = None } ∷ []); uniques = (record { name = None; places = (1 ∷ []) } ∷ record { name = (Some (codes "u0")); places = (0 ∷ []) } ∷ []); indexes = []; comment = [] }; rows = (((Text (codes "6")) ∷ (Num (pos 4)) ∷ []) ∷ (Null ∷ (Num (pos 5)) ∷ []) ∷ ((Text (codes "e")) ∷ (Num (pos 7)) ∷ []) ∷ []) } ∷ record { schema = record { name = codes "w"; columns = (record { name = codes "id"; kind = VarBinary 3; nullable = false; default = None } ∷ record { name = codes "v"; kind = Int 2 false; nullable = false; default = None } ∷ []); uniques = (record { name = None; places = (0 ∷ []) } ∷ []); indexes = []; comment = [] }; rows = (((Blob (3 ∷ [])) ∷ (Num (pos 7)) ∷ []) ∷ ((Blob (52 ∷ [])) ∷ (Num (pos 1000)) ∷ []) ∷ ((Blob (103 ∷ [])) ∷ (Num (pos 2)) ∷ []) ∷ []) } ∷ [])
-
-abbrev asked_28 : List Entry
-asked_28 =
-    record { actor = Insp; session = 1; asked = Call (requests.LockTables (codes "u" ∷ [])); side = None; answer = answers.Ok 0; missed = None }
-    ∷ record { actor = Insp; session = 1; asked = Call requests.ShowWaiting; side = None; answer = answers.Waiting []; missed = None }
-    ∷ record { actor = Insp; session = 2; asked = Call (requests.Do (statements.Insert (codes "w") (Some (codes "id" ∷ codes "v" ∷ [])) ((Blob (4 ∷ [])) ∷ (Num (pos 2)) ∷ []))); side = None; answer = answers.Ok 1; missed = None }
-    ∷ record { actor = Insp; session = 2; asked = Call (requests.Create (record { name = codes "t"; columns = (record { name = codes "m0"; kind = VarChar 3; nullable = true; default = (Some Null) } ∷ record { name = codes "id"; kind = Int 4 false; nullable = false; default = None } ∷ []); uniques = (record { name = None; places = (1 ∷ []) } ∷ record { name = (Some (codes "u0")); places = (0 ∷ []) } ∷ []); indexes = []; comment = codes "z" })); side = None; answer = answers.Refused 1050 None; missed = None }
-    ∷ record { actor = (Client 3); session = 3; asked = Call requests.ShowWaiting; side = None; answer = answers.Waiting []; missed = None }
-    ∷ record { actor = Insp; session = 1; asked = Call (requests.Drop (codes "u")); side = None; answer = answers.Ok 0; missed = None }
-    ∷ record { actor = Insp; session = 2; asked = Call (requests.Do (statements.Delete (codes "w") (conditions.Equal (record { column = codes "id"; value = (Num (pos 3)) } ∷ [])))); side = None; answer = answers.Ok 0; missed = None }
-    ∷ record { actor = Insp; session = 2; asked = Call (requests.Do (statements.Select (codes "u") shown.Count (conditions.Equal (record { column = codes "id"; value = (Text (codes "4")) } ∷ [])))); side = None; answer = answers.Waits 1; missed = None }
-    ∷ record { actor = Insp; session = 2; asked = Poll; side = None; answer = answers.Waits 1; missed = None }
-    ∷ record { actor = Insp; session = 1; asked = Call (requests.Rename (record { old = codes "u"; new = codes "x" } ∷ record { old = codes "u"; new = codes "x" } ∷ record { old = codes "w"; new = codes "x" } ∷ [])); side = None; answer = answers.Refused 1100 None; missed = None }
-    ∷ record { actor = Insp; session = 1; asked = Cut; side = None; answer = answers.Lost; missed = None }
-    ∷ record { actor = (Client 3); session = 3; asked = Call (requests.Rename (record { old = codes "w"; new = codes "w" } ∷ record { old = codes "t"; new = codes "u" } ∷ record { old = codes "x"; new = codes "u" } ∷ [])); side = None; answer = answers.Refused 1050 None; missed = None }
-    ∷ record { actor = Insp; session = 2; asked = Poll; side = None; answer = answers.Refused 1146 None; missed = None }
-    ∷ record { actor = (Client 3); session = 3; asked = Call (requests.Do (statements.Delete (codes "t") (conditions.Equal (record { column = codes "m0"; value = (Num (pos 2)) } ∷ record { column = codes "m1"; value = (Num (pos 5)) } ∷ [])))); side = None; answer = answers.Ok 0; missed = None }
-    ∷ record { actor = (Client 3); session = 3; asked = Call requests.ShowTables; side = None; answer = answers.Tables (record { name = codes "t"; comment = [] } ∷ record { name = codes "w"; comment = [] } ∷ []); missed = None }
-    ∷ record { actor = Insp; session = 2; asked = Call (requests.Rename (record { old = codes "y"; new = codes "t" } ∷ record { old = codes "w"; new = codes "t" } ∷ [])); side = None; answer = answers.Refused 1050 None; missed = None }
-    ∷ record { actor = (Client 3); session = 3; asked = Call (requests.Create (record { name = codes "u"; columns = (record { name = codes "id"; kind = VarBinary 3; nullable = false; default = None } ∷ record { name = codes "v"; kind = Int 2 false; nullable = false; default = None } ∷ []); uniques = (record { name = None; places = (0 ∷ []) } ∷ []); indexes = []; comment = [] })); side = None; answer = answers.Ok 0; missed = None }
-    ∷ record { actor = Insp; session = 2; asked = Call (requests.Drop (codes "u")); side = None; answer = answers.Ok 0; missed = None }
-    ∷ record { actor = (Client 3); session = 3; asked = Call (requests.Create (record { name = codes "t"; columns = (record { name = codes "id"; kind = Int 4 false; nullable = false; default = None } ∷ record { name = codes "m0"; kind = Int 4 false; nullable = true; default = (Some Null) } ∷ record { name = codes "m1"; kind = Int 4 false; nullable = true; default = (Some Null) } ∷ record { name = codes "v"; kind = Int 4 false; nullable = true; default = (Some (Num (pos 5))) } ∷ []); uniques = (record { name = None; places = (0 ∷ []) } ∷ record { name = (Some (codes "u0")); places = (1 ∷ []) } ∷ record { name = (Some (codes "u1")); places = (1 ∷ 2 ∷ []) } ∷ []); indexes = []; comment = codes "z" })); side = None; answer = answers.Refused 1050 None; missed = None }
-    ∷ record { actor = (Client 4); session = 4; asked = Call (requests.ReadLog 1 1 (codes "y" ∷ codes "u" ∷ [])); side = None; answer = answers.Events [] 1; missed = None }
-    ∷ record { actor = Insp; session = 2; asked = Call (requests.Rename (record { old = codes "t"; new = codes "y" } ∷ [])); side = None; answer = answers.Ok 0; missed = None }
-    ∷ record { actor = (Client 3); session = 3; asked = Call requests.Begin; side = None; answer = answers.Ok 0; missed = None }
-    ∷ record { actor = (Client 5); session = 5; asked = Call (requests.Drop (codes "y")); side = None; answer = answers.Ok 0; missed = None }
-    ∷ record { actor = (Client 3); session = 3; asked = Call requests.LogEnd; side = None; answer = answers.At 1; missed = None }
-    ∷ record { actor = (Client 3); session = 3; asked = Call (requests.Ends (codes "y")); side = None; answer = answers.Refused 1146 None; missed = None }
-    ∷ record { actor = (Client 3); session = 3; asked = Call (requests.ChunkEnd (codes "u") (Closed ((Num (pos 1)) ∷ [])) ((Num (pos 1)) ∷ []) 1); side = None; answer = answers.Refused 1146 None; missed = None }
-    ∷ record { actor = (Client 5); session = 5; asked = Call (requests.Do (statements.Insert (codes "t") None ((Num (pos 4)) ∷ (Num (pos 7)) ∷ (Num (pos 4)) ∷ Null ∷ (Num (pos 1)) ∷ []))); side = None; answer = answers.Refused 1146 None; missed = None }
-    ∷ record { actor = (Client 5); session = 5; asked = Call (requests.Do (statements.Select (codes "t") shown.Count (conditions.Equal (record { column = codes "m0"; value = (Num (pos 6)) } ∷ record { column = codes "m1"; value = (Num (pos 5)) } ∷ [])))); side = None; answer = answers.Refused 1146 None; missed = None }
-    ∷ record { actor = (Client 5); session = 5; asked = Cut; side = None; answer = answers.Lost; missed = None }
-    ∷ record { actor = Insp; session = 2; asked = Call (requests.ReadLog 2 2 (codes "x" ∷ codes "w" ∷ [])); side = (Some sides_at.Before); answer = answers.Lost; missed = None }
-    ∷ record { actor = (Client 4); session = 4; asked = Call (requests.Do (statements.Update (codes "u") (record { column = codes "id"; value = (Num (pos 2)) } ∷ []) (conditions.Equal (record { column = codes "id"; value = (Num (pos 2)) } ∷ [])))); side = None; answer = answers.Refused 1146 None; missed = None }
-    ∷ record { actor = (Client 3); session = 3; asked = Call (requests.Do (statements.Select (codes "w") shown.Count (conditions.Equal (record { column = codes "id"; value = (Num (pos 7)) } ∷ [])))); side = None; answer = answers.Rows (((Num (pos 0)) ∷ []) ∷ []); missed = None }
-    ∷ record { actor = (Client 4); session = 4; asked = Call requests.Begin; side = None; answer = answers.Ok 0; missed = None }
-    ∷ record { actor = (Client 3); session = 3; asked = Call (requests.Do (statements.Delete (codes "t") (conditions.Equal (record { column = codes "id"; value = (Text (codes "1")) } ∷ [])))); side = None; answer = answers.Refused 1146 None; missed = None }
-    ∷ record { actor = (Client 6); session = 6; asked = Call (requests.Do (statements.Delete (codes "u") (conditions.Equal (record { column = codes "id"; value = (Num (pos 1)) } ∷ [])))); side = None; answer = answers.Refused 1146 None; missed = None }
-    ∷ record { actor = (Client 4); session = 4; asked = Call (requests.CopyRow (codes "w") (codes "w") (record { kind = VarBinary 3; nullable = false; origin = from.Old 0 } ∷ record { kind = Int 2 false; nullable = false; origin = from.Old 0 } ∷ []) ((Blob (4 ∷ [])) ∷ [])); side = None; answer = answers.Refused 1366 (Some 1); missed = None }
-    ∷ record { actor = Insp; session = 7; asked = Call (requests.Do (statements.Select (codes "t") shown.All (conditions.Range (record { column = codes "id"; sign = signs.AtLeast; value = (Num (pos 2)) } ∷ record { column = codes "id"; sign = signs.AtMost; value = (Num (pos 2)) } ∷ [])))); side = None; answer = answers.Refused 1146 None; missed = None }
-    ∷ record { actor = (Client 6); session = 6; asked = Call requests.ShowTables; side = None; answer = answers.Tables (record { name = codes "w"; comment = [] } ∷ []); missed = None }
-    ∷ record { actor = (Client 4); session = 4; asked = Call (requests.Do (statements.Replace (codes "t") (Some (codes "id" ∷ codes "m0" ∷ [])) ((Num (pos 2)) ∷ (Num (pos 4)) ∷ []))); side = None; answer = answers.Refused 1146 None; missed = None }
-    ∷ record { actor = Insp; session = 7; asked = Cut; side = None; answer = answers.Lost; missed = None }
-    ∷ record { actor = (Client 4); session = 4; asked = Call requests.Rollback; side = None; answer = answers.Ok 0; missed = None }
-    ∷ record { actor = (Client 6); session = 6; asked = Call (requests.Ends (codes "w")); side = None; answer = answers.Ends (Some (record { least = ((Blob (3 ∷ [])) ∷ []); greatest = ((Blob (103 ∷ [])) ∷ []) })); missed = None }
-    ∷ record { actor = (Client 4); session = 4; asked = Call (requests.Do (statements.Insert (codes "t") (Some (codes "id" ∷ codes "m0" ∷ codes "m1" ∷ codes "v" ∷ [])) ((Num (pos 3)) ∷ (Num (pos 4)) ∷ (Num (pos 3)) ∷ (Num (pos 2)) ∷ []))); side = None; answer = answers.Refused 1146 None; missed = None }
-    ∷ []
-
-served_28 : IsServed (record { client_wait = 1; tool_wait = 4 }) tables_28 asked_28
-unfolding computing
-served_28 = record { answers = refl; sides = refl }

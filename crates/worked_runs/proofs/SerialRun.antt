@@ -1,14 +1,13 @@
 -- One worked run of a plan, with all that the law of journals asks of it; so its history is serial by the law.
 use Rattle.gho_values.specs.declared.value.Value.TheVariants.{Null, Num, Text}
 use Rattle.gho_values.specs.declared.kind.Kind.TheVariants.{Int, VarChar}
-use Rattle.std.proofs.Common.{pos, true, None, ◌≡◌, ◌≢◌, ◌≤◌, ℕ, false, List, [], ◌∷◌, Some, refl, sym, ap, ◌∙◌, inr, arith}
+use Rattle.std.proofs.Common.{pos, true, None, ◌≡◌, ◌≢◌, ◌≤◌, ℕ, false, [], ◌∷◌, Some, refl, sym, ap, ◌∙◌, inr, arith}
 use Rattle.std.specs.Prelude.{count_by, codes}
 use Rattle.std.specs.List.{AllByRecursion}
 use Rattle.std.proofs.lemmas.Bool.{false≢true}
 use Rattle.script_text.specs.declared.operator.OperatorWord.TheVariants as commanded
 use Rattle.gho_schema.specs.declared.schema.Schema.{Schema}
 use Rattle.row_store.specs.ClusteredKeys.{HasClusteredKey}
-use Rattle.row_store.specs.Databases.{TableRows}
 use Rattle.plain_server.specs.Along.{Along}
 use Rattle.plain_server.specs.Answers.{ok}
 use Rattle.plain_server.specs.Entries.{is_cut}
@@ -30,6 +29,11 @@ use Rattle.history_laws.proofs.Exchanging.{exchange_alters}
 use Rattle.worked_runs.proofs.Computing.{computing}
 use Rattle.worked_runs.proofs.Plans1.{plan_101, journal_101}
 
+infixr 5 ◌▸◌
+-- one turn, and those behind it
+abbrev ◌▸◌ : {A B : Type 0} → A → B → A × B
+first ▸ others = (first, others)
+
 -- a wait is not done
 waits_no_ok : (by : ℕ) → Some (answers.Waits by) ≡ Some ok → ⊥
 waits_no_ok by same = cc
@@ -45,8 +49,8 @@ opening : IsSerialPlan plan_101
 unfolding computing plans.client_names plans.client_tables plans.script_names
 opening = record {
   tables = (
-    record { keyed = record { some = grind (arith); not_null = (refl, tt) }; defaults = (tt, (refl, (refl, tt))); is_table = record { rows_fit = ((refl, (refl, (refl, tt))), tt); ascends = (tt, tt); apart = (tt, tt) } }
-    , (record { keyed = record { some = grind (arith); not_null = (refl, tt) }; defaults = (tt, tt); is_table = record { rows_fit = ((refl, tt), tt); ascends = (tt, tt); apart = (tt, tt) } }, tt)
+    record { keyed = record { some = grind (arith); not_null = (refl, tt) }; defaults = (tt, (refl, (refl, tt))); is_table = record { rows_fit = ((refl, (refl, (refl, tt))), tt); ascends = (tt, tt); apart = (tt, tt) } },
+    (record { keyed = record { some = grind (arith); not_null = (refl, tt) }; defaults = (tt, tt); is_table = record { rows_fit = ((refl, tt), tt); ascends = (tt, tt); apart = (tt, tt) } }, tt),
   );
   scripts = (refl, (refl, (refl, tt)));
 }
@@ -54,226 +58,238 @@ opening = record {
 faithful : IsFaithful plan_101 journal_101
 unfolding computing
 faithful =
-    (record { sides = λ is. refl; answer = refl; missed = refl }
-    , (record { sides = λ is. refl; answer = refl; missed = refl }
-    , (record { sides = λ is. refl; answer = refl; missed = refl }
-    , (record { sides = λ is. refl; answer = refl; missed = refl }
-    , (record { sides = λ is. refl; answer = refl; missed = refl }
-    , (record { sides = λ is. refl; answer = refl; missed = refl }
-    , (record { sides = λ is. refl; answer = refl; missed = refl }
-    , (record { sides = λ is. refl; answer = refl; missed = refl }
-    , (record { sides = λ is. refl; answer = refl; missed = refl }
-    , (record { sides = λ is. refl; answer = refl; missed = refl }
-    , (record { sides = λ is. refl; answer = refl; missed = refl }
-    , (record { sides = λ is. refl; answer = refl; missed = refl }
-    , (record { sides = λ is. refl; answer = refl; missed = refl }
-    , (record { sides = λ is. refl; answer = refl; missed = refl }
-    , (record { sides = λ is. refl; answer = refl; missed = refl }
-    , (record { sides = λ is. refl; answer = refl; missed = refl }
-    , (record { sides = λ is. refl; answer = refl; missed = refl }
-    , (record { sides = λ is. refl; answer = refl; missed = refl }
-    , (record { sides = λ is. refl; answer = refl; missed = refl }
-    , (record { sides = λ is. refl; answer = refl; missed = refl }
-    , (record { sides = λ is. refl; answer = refl; missed = refl }
-    , (record { sides = λ is. refl; answer = refl; missed = refl }
-    , (record { sides = λ is. refl; answer = refl; missed = refl }
-    , (record { sides = λ is. refl; answer = refl; missed = refl }
-    , (record { sides = λ is. refl; answer = refl; missed = refl }
-    , (record { sides = λ is. refl; answer = refl; missed = refl }
-    , (record { sides = λ is. refl; answer = refl; missed = refl }
-    , (record { sides = λ is. refl; answer = refl; missed = refl }
-    , (record { sides = λ is. refl; answer = refl; missed = refl }
-    , (record { sides = λ is. refl; answer = refl; missed = refl }
-    , (record { sides = λ is. refl; answer = refl; missed = refl }
-    , (record { sides = λ is. refl; answer = refl; missed = refl }
-    , (record { sides = λ is. refl; answer = refl; missed = refl }
-    , (record { sides = λ is. refl; answer = refl; missed = refl }
-    , (record { sides = λ is. refl; answer = refl; missed = refl }
-    , (record { sides = λ is. refl; answer = refl; missed = refl }
-    , (record { sides = λ is. refl; answer = refl; missed = refl }
-    , (record { sides = λ is. refl; answer = refl; missed = refl }
-    , (record { sides = λ is. refl; answer = refl; missed = refl }
-    , (record { sides = λ is. refl; answer = refl; missed = refl }
-    , (record { sides = λ is. refl; answer = refl; missed = refl }
-    , (record { sides = λ is. refl; answer = refl; missed = refl }
-    , (record { sides = λ is. refl; answer = refl; missed = refl }
-    , (record { sides = λ is. refl; answer = refl; missed = refl }
-    , (record { sides = λ is. refl; answer = refl; missed = refl }
-    , (record { sides = λ is. refl; answer = refl; missed = refl }
-    , (record { sides = λ is. refl; answer = refl; missed = refl }
-    , (record { sides = λ is. refl; answer = refl; missed = refl }
-    , (record { sides = λ is. refl; answer = refl; missed = refl }
-    , (record { sides = λ is. refl; answer = refl; missed = refl }
-    , tt))))))))))))))))))))))))))))))))))))))))))))))))))
+    record { sides = λ is. refl; answer = refl; missed = refl }
+    ▸ record { sides = λ is. refl; answer = refl; missed = refl }
+    ▸ record { sides = λ is. refl; answer = refl; missed = refl }
+    ▸ record { sides = λ is. refl; answer = refl; missed = refl }
+    ▸ record { sides = λ is. refl; answer = refl; missed = refl }
+    ▸ record { sides = λ is. refl; answer = refl; missed = refl }
+    ▸ record { sides = λ is. refl; answer = refl; missed = refl }
+    ▸ record { sides = λ is. refl; answer = refl; missed = refl }
+    ▸ record { sides = λ is. refl; answer = refl; missed = refl }
+    ▸ record { sides = λ is. refl; answer = refl; missed = refl }
+    ▸ record { sides = λ is. refl; answer = refl; missed = refl }
+    ▸ record { sides = λ is. refl; answer = refl; missed = refl }
+    ▸ record { sides = λ is. refl; answer = refl; missed = refl }
+    ▸ record { sides = λ is. refl; answer = refl; missed = refl }
+    ▸ record { sides = λ is. refl; answer = refl; missed = refl }
+    ▸ record { sides = λ is. refl; answer = refl; missed = refl }
+    ▸ record { sides = λ is. refl; answer = refl; missed = refl }
+    ▸ record { sides = λ is. refl; answer = refl; missed = refl }
+    ▸ record { sides = λ is. refl; answer = refl; missed = refl }
+    ▸ record { sides = λ is. refl; answer = refl; missed = refl }
+    ▸ record { sides = λ is. refl; answer = refl; missed = refl }
+    ▸ record { sides = λ is. refl; answer = refl; missed = refl }
+    ▸ record { sides = λ is. refl; answer = refl; missed = refl }
+    ▸ record { sides = λ is. refl; answer = refl; missed = refl }
+    ▸ record { sides = λ is. refl; answer = refl; missed = refl }
+    ▸ record { sides = λ is. refl; answer = refl; missed = refl }
+    ▸ record { sides = λ is. refl; answer = refl; missed = refl }
+    ▸ record { sides = λ is. refl; answer = refl; missed = refl }
+    ▸ record { sides = λ is. refl; answer = refl; missed = refl }
+    ▸ record { sides = λ is. refl; answer = refl; missed = refl }
+    ▸ record { sides = λ is. refl; answer = refl; missed = refl }
+    ▸ record { sides = λ is. refl; answer = refl; missed = refl }
+    ▸ record { sides = λ is. refl; answer = refl; missed = refl }
+    ▸ record { sides = λ is. refl; answer = refl; missed = refl }
+    ▸ record { sides = λ is. refl; answer = refl; missed = refl }
+    ▸ record { sides = λ is. refl; answer = refl; missed = refl }
+    ▸ record { sides = λ is. refl; answer = refl; missed = refl }
+    ▸ record { sides = λ is. refl; answer = refl; missed = refl }
+    ▸ record { sides = λ is. refl; answer = refl; missed = refl }
+    ▸ record { sides = λ is. refl; answer = refl; missed = refl }
+    ▸ record { sides = λ is. refl; answer = refl; missed = refl }
+    ▸ record { sides = λ is. refl; answer = refl; missed = refl }
+    ▸ record { sides = λ is. refl; answer = refl; missed = refl }
+    ▸ record { sides = λ is. refl; answer = refl; missed = refl }
+    ▸ record { sides = λ is. refl; answer = refl; missed = refl }
+    ▸ record { sides = λ is. refl; answer = refl; missed = refl }
+    ▸ record { sides = λ is. refl; answer = refl; missed = refl }
+    ▸ record { sides = λ is. refl; answer = refl; missed = refl }
+    ▸ record { sides = λ is. refl; answer = refl; missed = refl }
+    ▸ record { sides = λ is. refl; answer = refl; missed = refl }
+    ▸ tt
 
 planned : KeepsPlan plan_101 journal_101
 unfolding computing KeepsPlan
 planned =
-    (record { next = refl; struck = (not_cut _ refl, refl) }
-    , (record { next = refl; struck = (not_cut _ refl, refl) }
-    , (record { next = refl; struck = (not_cut _ refl, refl) }
-    , (record { next = refl; struck = (not_cut _ refl, refl) }
-    , (record { next = refl; struck = (not_cut _ refl, refl) }
-    , (record { next = (commanded.NoThrottle, refl, refl); struck = (not_cut _ refl, refl) }
-    , (record { next = (commanded.Unpostpone, refl, refl); struck = (not_cut _ refl, refl) }
-    , (record { next = ((commanded.ChunkSize 1), refl, refl); struck = (not_cut _ refl, refl) }
-    , (record { next = (commanded.Wait, refl, refl); struck = (not_cut _ refl, refl) }
-    , (record { next = (commanded.Wait, refl, refl); struck = (not_cut _ refl, refl) }
-    , (record { next = (commanded.Wait, refl, refl); struck = (not_cut _ refl, refl) }
-    , (record { next = (commanded.Wait, refl, refl); struck = (not_cut _ refl, refl) }
-    , (record { next = refl; struck = (not_cut _ refl, refl) }
-    , (record { next = refl; struck = (not_cut _ refl, refl) }
-    , (record { next = refl; struck = (not_cut _ refl, refl) }
-    , (record { next = refl; struck = (not_cut _ refl, refl) }
-    , (record { next = refl; struck = (not_cut _ refl, refl) }
-    , (record { next = refl; struck = (not_cut _ refl, refl) }
-    , (record { next = refl; struck = (not_cut _ refl, refl) }
-    , (record { next = refl; struck = (not_cut _ refl, refl) }
-    , (record { next = refl; struck = (not_cut _ refl, refl) }
-    , (record { next = refl; struck = (not_cut _ refl, refl) }
-    , (record { next = refl; struck = (not_cut _ refl, refl) }
-    , (record { next = refl; struck = (not_cut _ refl, refl) }
-    , (record { next = (commanded.Wait, refl, refl); struck = (not_cut _ refl, refl) }
-    , (record { next = (commanded.Wait, refl, refl); struck = (not_cut _ refl, refl) }
-    , (record { next = (commanded.Wait, refl, refl); struck = (not_cut _ refl, refl) }
-    , (record { next = (commanded.Wait, refl, refl); struck = (not_cut _ refl, refl) }
-    , (record { next = refl; struck = (not_cut _ refl, refl) }
-    , (record { next = refl; struck = (not_cut _ refl, refl) }
-    , (record { next = refl; struck = (not_cut _ refl, refl) }
-    , (record { next = refl; struck = (not_cut _ refl, refl) }
-    , (record { next = refl; struck = (not_cut _ refl, refl) }
-    , (record { next = refl; struck = (not_cut _ refl, refl) }
-    , (record { next = refl; struck = (not_cut _ refl, refl) }
-    , (record { next = refl; struck = (not_cut _ refl, refl) }
-    , (record { next = refl; struck = (not_cut _ refl, refl) }
-    , (record { next = refl; struck = (not_cut _ refl, refl) }
-    , (record { next = refl; struck = (not_cut _ refl, refl) }
-    , (record { next = refl; struck = (not_cut _ refl, refl) }
-    , (record { next = refl; struck = (not_cut _ refl, refl) }
-    , (record { next = refl; struck = (not_cut _ refl, refl) }
-    , (record { next = refl; struck = (not_cut _ refl, refl) }
-    , (record { next = refl; struck = (not_cut _ refl, refl) }
-    , (record { next = refl; struck = (not_cut _ refl, refl) }
-    , (record { next = refl; struck = (not_cut _ refl, refl) }
-    , (record { next = refl; struck = (not_cut _ refl, refl) }
-    , (record { next = refl; struck = (not_cut _ refl, refl) }
-    , (record { next = refl; struck = (not_cut _ refl, refl) }
-    , (record { next = refl; struck = (not_cut _ refl, refl) }
-    , tt))))))))))))))))))))))))))))))))))))))))))))))))))
+    record { next = refl; struck = (not_cut _ refl, refl) }
+    ▸ record { next = refl; struck = (not_cut _ refl, refl) }
+    ▸ record { next = refl; struck = (not_cut _ refl, refl) }
+    ▸ record { next = refl; struck = (not_cut _ refl, refl) }
+    ▸ record { next = refl; struck = (not_cut _ refl, refl) }
+    ▸ record { next = (commanded.NoThrottle, refl, refl); struck = (not_cut _ refl, refl) }
+    ▸ record { next = (commanded.Unpostpone, refl, refl); struck = (not_cut _ refl, refl) }
+    ▸ record { next = ((commanded.ChunkSize 1), refl, refl); struck = (not_cut _ refl, refl) }
+    ▸ record { next = (commanded.Wait, refl, refl); struck = (not_cut _ refl, refl) }
+    ▸ record { next = (commanded.Wait, refl, refl); struck = (not_cut _ refl, refl) }
+    ▸ record { next = (commanded.Wait, refl, refl); struck = (not_cut _ refl, refl) }
+    ▸ record { next = (commanded.Wait, refl, refl); struck = (not_cut _ refl, refl) }
+    ▸ record { next = refl; struck = (not_cut _ refl, refl) }
+    ▸ record { next = refl; struck = (not_cut _ refl, refl) }
+    ▸ record { next = refl; struck = (not_cut _ refl, refl) }
+    ▸ record { next = refl; struck = (not_cut _ refl, refl) }
+    ▸ record { next = refl; struck = (not_cut _ refl, refl) }
+    ▸ record { next = refl; struck = (not_cut _ refl, refl) }
+    ▸ record { next = refl; struck = (not_cut _ refl, refl) }
+    ▸ record { next = refl; struck = (not_cut _ refl, refl) }
+    ▸ record { next = refl; struck = (not_cut _ refl, refl) }
+    ▸ record { next = refl; struck = (not_cut _ refl, refl) }
+    ▸ record { next = refl; struck = (not_cut _ refl, refl) }
+    ▸ record { next = refl; struck = (not_cut _ refl, refl) }
+    ▸ record { next = (commanded.Wait, refl, refl); struck = (not_cut _ refl, refl) }
+    ▸ record { next = (commanded.Wait, refl, refl); struck = (not_cut _ refl, refl) }
+    ▸ record { next = (commanded.Wait, refl, refl); struck = (not_cut _ refl, refl) }
+    ▸ record { next = (commanded.Wait, refl, refl); struck = (not_cut _ refl, refl) }
+    ▸ record { next = refl; struck = (not_cut _ refl, refl) }
+    ▸ record { next = refl; struck = (not_cut _ refl, refl) }
+    ▸ record { next = refl; struck = (not_cut _ refl, refl) }
+    ▸ record { next = refl; struck = (not_cut _ refl, refl) }
+    ▸ record { next = refl; struck = (not_cut _ refl, refl) }
+    ▸ record { next = refl; struck = (not_cut _ refl, refl) }
+    ▸ record { next = refl; struck = (not_cut _ refl, refl) }
+    ▸ record { next = refl; struck = (not_cut _ refl, refl) }
+    ▸ record { next = refl; struck = (not_cut _ refl, refl) }
+    ▸ record { next = refl; struck = (not_cut _ refl, refl) }
+    ▸ record { next = refl; struck = (not_cut _ refl, refl) }
+    ▸ record { next = refl; struck = (not_cut _ refl, refl) }
+    ▸ record { next = refl; struck = (not_cut _ refl, refl) }
+    ▸ record { next = refl; struck = (not_cut _ refl, refl) }
+    ▸ record { next = refl; struck = (not_cut _ refl, refl) }
+    ▸ record { next = refl; struck = (not_cut _ refl, refl) }
+    ▸ record { next = refl; struck = (not_cut _ refl, refl) }
+    ▸ record { next = refl; struck = (not_cut _ refl, refl) }
+    ▸ record { next = refl; struck = (not_cut _ refl, refl) }
+    ▸ record { next = refl; struck = (not_cut _ refl, refl) }
+    ▸ record { next = refl; struck = (not_cut _ refl, refl) }
+    ▸ record { next = refl; struck = (not_cut _ refl, refl) }
+    ▸ tt
 
 seated : KeepsSessions journal_101
 unfolding computing KeepsSessions
 seated =
-    (record { session = grind (arith) }
-    , (record { session = refl }
-    , (record { session = refl }
-    , (record { session = refl }
-    , (record { session = refl }
-    , (record { session = refl }
-    , (record { session = refl }
-    , (record { session = refl }
-    , (record { session = refl }
-    , (record { session = refl }
-    , (record { session = refl }
-    , (record { session = refl }
-    , (record { session = grind (arith) }
-    , (record { session = refl }
-    , (record { session = refl }
-    , (record { session = refl }
-    , (record { session = refl }
-    , (record { session = refl }
-    , (record { session = grind (arith) }
-    , (record { session = grind (arith) }
-    , (record { session = refl }
-    , (record { session = refl }
-    , (record { session = refl }
-    , (record { session = refl }
-    , (record { session = refl }
-    , (record { session = refl }
-    , (record { session = refl }
-    , (record { session = refl }
-    , (record { session = refl }
-    , (record { session = refl }
-    , (record { session = refl }
-    , (record { session = refl }
-    , (record { session = refl }
-    , (record { session = refl }
-    , (record { session = grind (arith) }
-    , (record { session = refl }
-    , (record { session = refl }
-    , (record { session = refl }
-    , (record { session = grind (arith) }
-    , (record { session = refl }
-    , (record { session = refl }
-    , (record { session = refl }
-    , (record { session = refl }
-    , (record { session = refl }
-    , (record { session = refl }
-    , (record { session = refl }
-    , (record { session = refl }
-    , (record { session = refl }
-    , (record { session = refl }
-    , (record { session = refl }
-    , tt))))))))))))))))))))))))))))))))))))))))))))))))))
+    record { session = grind (arith) }
+    ▸ record { session = refl }
+    ▸ record { session = refl }
+    ▸ record { session = refl }
+    ▸ record { session = refl }
+    ▸ record { session = refl }
+    ▸ record { session = refl }
+    ▸ record { session = refl }
+    ▸ record { session = refl }
+    ▸ record { session = refl }
+    ▸ record { session = refl }
+    ▸ record { session = refl }
+    ▸ record { session = grind (arith) }
+    ▸ record { session = refl }
+    ▸ record { session = refl }
+    ▸ record { session = refl }
+    ▸ record { session = refl }
+    ▸ record { session = refl }
+    ▸ record { session = grind (arith) }
+    ▸ record { session = grind (arith) }
+    ▸ record { session = refl }
+    ▸ record { session = refl }
+    ▸ record { session = refl }
+    ▸ record { session = refl }
+    ▸ record { session = refl }
+    ▸ record { session = refl }
+    ▸ record { session = refl }
+    ▸ record { session = refl }
+    ▸ record { session = refl }
+    ▸ record { session = refl }
+    ▸ record { session = refl }
+    ▸ record { session = refl }
+    ▸ record { session = refl }
+    ▸ record { session = refl }
+    ▸ record { session = grind (arith) }
+    ▸ record { session = refl }
+    ▸ record { session = refl }
+    ▸ record { session = refl }
+    ▸ record { session = grind (arith) }
+    ▸ record { session = refl }
+    ▸ record { session = refl }
+    ▸ record { session = refl }
+    ▸ record { session = refl }
+    ▸ record { session = refl }
+    ▸ record { session = refl }
+    ▸ record { session = refl }
+    ▸ record { session = refl }
+    ▸ record { session = refl }
+    ▸ record { session = refl }
+    ▸ record { session = refl }
+    ▸ tt
 
 away : Along (λ before entry. KeepsAway plan_101 before entry entry.actor) [] journal_101
 unfolding computing plans.client_names plans.client_tables plans.script_names
 away =
-    (record { asks = tt; idle = refl; rests = tt; exchanges = λ told. tt }
-    , (record { asks = refl; idle = refl; rests = refl; exchanges = λ told. tt }
-    , (record { asks = (refl, empty_orderly _ (record { some = grind (arith); not_null = (refl, tt) }) (tt, (tt, (tt, tt)))); idle = refl; rests = refl; exchanges = λ told. tt }
-    , (record { asks = (refl, empty_orderly _ (record { some = grind (arith); not_null = (refl, tt) }) (refl, (tt, (refl, (refl, tt))))); idle = refl; rests = refl; exchanges = λ told. tt }
-    , (record { asks = tt; idle = refl; rests = tt; exchanges = λ told. tt }
-    , (record { asks = tt; idle = tt; rests = tt; exchanges = λ told. tt }
-    , (record { asks = tt; idle = tt; rests = tt; exchanges = λ told. tt }
-    , (record { asks = tt; idle = tt; rests = tt; exchanges = λ told. tt }
-    , (record { asks = tt; idle = tt; rests = tt; exchanges = λ told. tt }
-    , (record { asks = tt; idle = tt; rests = tt; exchanges = λ told. tt }
-    , (record { asks = tt; idle = tt; rests = tt; exchanges = λ told. tt }
-    , (record { asks = tt; idle = tt; rests = tt; exchanges = λ told. tt }
-    , (tt
-    , (tt
-    , (tt
-    , (tt
-    , (tt
-    , (record { asks = tt; idle = refl; rests = tt; exchanges = λ told. tt }
-    , (record { asks = tt; idle = refl; rests = tt; exchanges = λ told. tt }
-    , (record { asks = tt; idle = refl; rests = tt; exchanges = λ told. tt }
-    , (record { asks = tt; idle = refl; rests = tt; exchanges = λ told. tt }
-    , (record { asks = refl; idle = refl; rests = tt; exchanges = λ told. tt }
-    , (record { asks = tt; idle = refl; rests = tt; exchanges = λ told. tt }
-    , (record { asks = tt; idle = refl; rests = tt; exchanges = λ told. tt }
-    , (record { asks = tt; idle = tt; rests = tt; exchanges = λ told. tt }
-    , (record { asks = tt; idle = tt; rests = tt; exchanges = λ told. tt }
-    , (record { asks = tt; idle = tt; rests = tt; exchanges = λ told. tt }
-    , (record { asks = tt; idle = tt; rests = tt; exchanges = λ told. tt }
-    , (record { asks = refl; idle = refl; rests = tt; exchanges = λ told. tt }
-    , (record { asks = tt; idle = refl; rests = tt; exchanges = λ told. tt }
-    , (record { asks = tt; idle = refl; rests = tt; exchanges = λ told. tt }
-    , (record { asks = tt; idle = refl; rests = tt; exchanges = λ told. tt }
-    , (record { asks = refl; idle = refl; rests = tt; exchanges = λ told. tt }
-    , (record { asks = tt; idle = refl; rests = tt; exchanges = λ told. tt }
-    , (record { asks = (refl, empty_orderly _ (record { some = grind (arith); not_null = (refl, tt) }) (tt, tt)); idle = refl; rests = refl; exchanges = λ told. tt }
-    , (record { asks = tt; idle = refl; rests = tt; exchanges = λ told. tt }
-    , (record { asks = refl; idle = refl; rests = tt; exchanges = λ told. tt }
-    , (record { asks = tt; idle = refl; rests = tt; exchanges = λ told. tt }
-    , (record { asks = inr (refl, refl); idle = refl; rests = refl; exchanges = λ told. absurd (waits_no_ok _ told) }
-    , (record { asks = tt; idle = tt; rests = refl; exchanges = λ told. absurd (waits_no_ok _ told) }
-    , (record { asks = tt; idle = tt; rests = refl; exchanges = λ told. absurd (waits_no_ok _ told) }
-    , (record { asks = tt; idle = tt; rests = refl; exchanges = λ told. absurd (waits_no_ok _ told) }
-    , (record { asks = tt; idle = tt; rests = refl; exchanges = λ told. absurd (waits_no_ok _ told) }
-    , (record { asks = tt; idle = refl; rests = tt; exchanges = λ told. tt }
-    , (record { asks = refl; idle = refl; rests = refl; exchanges = λ told. tt }
-    , (record { asks = tt; idle = tt; rests = refl; exchanges = λ told. absurd (waits_no_ok _ told) }
-    , (record { asks = tt; idle = refl; rests = tt; exchanges = λ told. tt }
-    , (record { asks = tt; idle = tt; rests = refl; exchanges = λ told. exchange_alters (scene_of plan_101 []) _ _ refl (record {
-      ghost = codes "_t_gho"; kept = codes "_t_del"; pairs_are = refl; ghost_other = refl; kept_other = refl; was = refl; stands = refl; made = refl;
-      old = record { schema = record { name = codes "t"; columns = (record { name = codes "id"; kind = Int 1 false; nullable = false; default = None } ∷ record { name = codes "m0"; kind = Int 4 false; nullable = true; default = (Some Null) } ∷ record { name = codes "v"; kind = Int 4 false; nullable = true; default = (Some Null) } ∷ []); uniques = (record { name = None; places = (0 ∷ []) } ∷ record { name = (Some (codes "u0")); places = (1 ∷ []) } ∷ []); indexes = []; comment = [] }; rows = (Num (pos 5) ∷ Num (pos 2) ∷ Num (pos 6) ∷ []) ∷ (Num (pos 7) ∷ Num (pos 6) ∷ Null ∷ []) ∷ [] };
-      new = record { schema = record { name = codes "_t_gho"; columns = (record { name = codes "b"; kind = VarChar 4; nullable = true; default = (Some (Text (codes "n"))) } ∷ record { name = codes "id"; kind = Int 1 false; nullable = false; default = None } ∷ record { name = codes "m0"; kind = Int 4 false; nullable = true; default = (Some Null) } ∷ record { name = codes "v"; kind = Int 4 false; nullable = true; default = (Some Null) } ∷ []); uniques = (record { name = None; places = (1 ∷ []) } ∷ record { name = (Some (codes "u0")); places = (2 ∷ []) } ∷ []); indexes = []; comment = [] }; rows = (Text (codes "n") ∷ Num (pos 5) ∷ Num (pos 2) ∷ Num (pos 6) ∷ []) ∷ (Text (codes "n") ∷ Num (pos 7) ∷ Num (pos 6) ∷ Null ∷ []) ∷ [] };
-    }) }
-    , (record { asks = tt; idle = refl; rests = tt; exchanges = λ told. tt }
-    , (record { asks = refl; idle = refl; rests = refl; exchanges = λ told. tt }
-    , tt))))))))))))))))))))))))))))))))))))))))))))))))))
+    record { asks = tt; idle = refl; rests = tt; exchanges = λ told. tt }
+    ▸ record { asks = refl; idle = refl; rests = refl; exchanges = λ told. tt }
+    ▸ record { asks = (refl, empty_orderly _ (record { some = grind (arith); not_null = (refl, tt) }) (tt, (tt, (tt, tt)))); idle = refl; rests = refl; exchanges = λ told. tt }
+    ▸ record { asks = (refl, empty_orderly _ (record { some = grind (arith); not_null = (refl, tt) }) (refl, (tt, (refl, (refl, tt))))); idle = refl; rests = refl; exchanges = λ told. tt }
+    ▸ record { asks = tt; idle = refl; rests = tt; exchanges = λ told. tt }
+    ▸ record { asks = tt; idle = tt; rests = tt; exchanges = λ told. tt }
+    ▸ record { asks = tt; idle = tt; rests = tt; exchanges = λ told. tt }
+    ▸ record { asks = tt; idle = tt; rests = tt; exchanges = λ told. tt }
+    ▸ record { asks = tt; idle = tt; rests = tt; exchanges = λ told. tt }
+    ▸ record { asks = tt; idle = tt; rests = tt; exchanges = λ told. tt }
+    ▸ record { asks = tt; idle = tt; rests = tt; exchanges = λ told. tt }
+    ▸ record { asks = tt; idle = tt; rests = tt; exchanges = λ told. tt }
+    ▸ tt
+    ▸ tt
+    ▸ tt
+    ▸ tt
+    ▸ tt
+    ▸ record { asks = tt; idle = refl; rests = tt; exchanges = λ told. tt }
+    ▸ record { asks = tt; idle = refl; rests = tt; exchanges = λ told. tt }
+    ▸ record { asks = tt; idle = refl; rests = tt; exchanges = λ told. tt }
+    ▸ record { asks = tt; idle = refl; rests = tt; exchanges = λ told. tt }
+    ▸ record { asks = refl; idle = refl; rests = tt; exchanges = λ told. tt }
+    ▸ record { asks = tt; idle = refl; rests = tt; exchanges = λ told. tt }
+    ▸ record { asks = tt; idle = refl; rests = tt; exchanges = λ told. tt }
+    ▸ record { asks = tt; idle = tt; rests = tt; exchanges = λ told. tt }
+    ▸ record { asks = tt; idle = tt; rests = tt; exchanges = λ told. tt }
+    ▸ record { asks = tt; idle = tt; rests = tt; exchanges = λ told. tt }
+    ▸ record { asks = tt; idle = tt; rests = tt; exchanges = λ told. tt }
+    ▸ record { asks = refl; idle = refl; rests = tt; exchanges = λ told. tt }
+    ▸ record { asks = tt; idle = refl; rests = tt; exchanges = λ told. tt }
+    ▸ record { asks = tt; idle = refl; rests = tt; exchanges = λ told. tt }
+    ▸ record { asks = tt; idle = refl; rests = tt; exchanges = λ told. tt }
+    ▸ record { asks = refl; idle = refl; rests = tt; exchanges = λ told. tt }
+    ▸ record { asks = tt; idle = refl; rests = tt; exchanges = λ told. tt }
+    ▸ record { asks = (refl, empty_orderly _ (record { some = grind (arith); not_null = (refl, tt) }) (tt, tt)); idle = refl; rests = refl; exchanges = λ told. tt }
+    ▸ record { asks = tt; idle = refl; rests = tt; exchanges = λ told. tt }
+    ▸ record { asks = refl; idle = refl; rests = tt; exchanges = λ told. tt }
+    ▸ record { asks = tt; idle = refl; rests = tt; exchanges = λ told. tt }
+    ▸ record { asks = inr (refl, refl); idle = refl; rests = refl; exchanges = λ told. absurd (waits_no_ok _ told) }
+    ▸ record { asks = tt; idle = tt; rests = refl; exchanges = λ told. absurd (waits_no_ok _ told) }
+    ▸ record { asks = tt; idle = tt; rests = refl; exchanges = λ told. absurd (waits_no_ok _ told) }
+    ▸ record { asks = tt; idle = tt; rests = refl; exchanges = λ told. absurd (waits_no_ok _ told) }
+    ▸ record { asks = tt; idle = tt; rests = refl; exchanges = λ told. absurd (waits_no_ok _ told) }
+    ▸ record { asks = tt; idle = refl; rests = tt; exchanges = λ told. tt }
+    ▸ record { asks = refl; idle = refl; rests = refl; exchanges = λ told. tt }
+    ▸ record { asks = tt; idle = tt; rests = refl; exchanges = λ told. absurd (waits_no_ok _ told) }
+    ▸ record { asks = tt; idle = refl; rests = tt; exchanges = λ told. tt }
+    ▸ record {
+      asks = tt;
+      idle = tt;
+      rests = refl;
+      exchanges = λ told. exchange_alters (scene_of plan_101 []) _ _ refl (record {
+        ghost = codes "_t_gho";
+        kept = codes "_t_del";
+        pairs_are = refl;
+        ghost_other = refl;
+        kept_other = refl;
+        was = refl;
+        stands = refl;
+        made = refl;
+        old = record { schema = record { name = codes "t"; columns = (record { name = codes "id"; kind = Int 1 false; nullable = false; default = None } ∷ record { name = codes "m0"; kind = Int 4 false; nullable = true; default = (Some Null) } ∷ record { name = codes "v"; kind = Int 4 false; nullable = true; default = (Some Null) } ∷ []); uniques = (record { name = None; places = (0 ∷ []) } ∷ record { name = (Some (codes "u0")); places = (1 ∷ []) } ∷ []); indexes = []; comment = [] }; rows = (Num (pos 5) ∷ Num (pos 2) ∷ Num (pos 6) ∷ []) ∷ (Num (pos 7) ∷ Num (pos 6) ∷ Null ∷ []) ∷ [] };
+        new = record { schema = record { name = codes "_t_gho"; columns = (record { name = codes "b"; kind = VarChar 4; nullable = true; default = (Some (Text (codes "n"))) } ∷ record { name = codes "id"; kind = Int 1 false; nullable = false; default = None } ∷ record { name = codes "m0"; kind = Int 4 false; nullable = true; default = (Some Null) } ∷ record { name = codes "v"; kind = Int 4 false; nullable = true; default = (Some Null) } ∷ []); uniques = (record { name = None; places = (1 ∷ []) } ∷ record { name = (Some (codes "u0")); places = (2 ∷ []) } ∷ []); indexes = []; comment = [] }; rows = (Text (codes "n") ∷ Num (pos 5) ∷ Num (pos 2) ∷ Num (pos 6) ∷ []) ∷ (Text (codes "n") ∷ Num (pos 7) ∷ Num (pos 6) ∷ Null ∷ []) ∷ [] };
+      });
+    }
+    ▸ record { asks = tt; idle = refl; rests = tt; exchanges = λ told. tt }
+    ▸ record { asks = refl; idle = refl; rests = refl; exchanges = λ told. tt }
+    ▸ tt
 
 -- *The run is one of its plan*, and so its history is serial
 run_101 : IsPlanRun plan_101 journal_101
@@ -282,167 +298,167 @@ run_101 = record { serial = opening; faithful = faithful; planned = planned; sea
 follows : Follows plan_101 journal_101
 unfolding computing Follows
 follows =
-    (record { given = refl; session = grind (arith) }
-    , (record { given = refl; session = refl }
-    , (record { given = refl; session = refl }
-    , (record { given = refl; session = refl }
-    , (record { given = refl; session = refl }
-    , (record { given = refl; session = refl }
-    , (record { given = refl; session = refl }
-    , (record { given = refl; session = refl }
-    , (record { given = refl; session = refl }
-    , (record { given = refl; session = refl }
-    , (record { given = refl; session = refl }
-    , (record { given = refl; session = refl }
-    , (record { given = refl; session = grind (arith) }
-    , (record { given = refl; session = refl }
-    , (record { given = refl; session = refl }
-    , (record { given = refl; session = refl }
-    , (record { given = refl; session = refl }
-    , (record { given = refl; session = refl }
-    , (record { given = refl; session = grind (arith) }
-    , (record { given = refl; session = grind (arith) }
-    , (record { given = refl; session = refl }
-    , (record { given = refl; session = refl }
-    , (record { given = refl; session = refl }
-    , (record { given = refl; session = refl }
-    , (record { given = refl; session = refl }
-    , (record { given = refl; session = refl }
-    , (record { given = refl; session = refl }
-    , (record { given = refl; session = refl }
-    , (record { given = refl; session = refl }
-    , (record { given = refl; session = refl }
-    , (record { given = refl; session = refl }
-    , (record { given = refl; session = refl }
-    , (record { given = refl; session = refl }
-    , (record { given = refl; session = refl }
-    , (record { given = refl; session = grind (arith) }
-    , (record { given = refl; session = refl }
-    , (record { given = refl; session = refl }
-    , (record { given = refl; session = refl }
-    , (record { given = refl; session = grind (arith) }
-    , (record { given = refl; session = refl }
-    , (record { given = refl; session = refl }
-    , (record { given = refl; session = refl }
-    , (record { given = refl; session = refl }
-    , (record { given = refl; session = refl }
-    , (record { given = refl; session = refl }
-    , (record { given = refl; session = refl }
-    , (record { given = refl; session = refl }
-    , (record { given = refl; session = refl }
-    , (record { given = refl; session = refl }
-    , (record { given = refl; session = refl }
-    , tt))))))))))))))))))))))))))))))))))))))))))))))))))
+    record { given = refl; session = grind (arith) }
+    ▸ record { given = refl; session = refl }
+    ▸ record { given = refl; session = refl }
+    ▸ record { given = refl; session = refl }
+    ▸ record { given = refl; session = refl }
+    ▸ record { given = refl; session = refl }
+    ▸ record { given = refl; session = refl }
+    ▸ record { given = refl; session = refl }
+    ▸ record { given = refl; session = refl }
+    ▸ record { given = refl; session = refl }
+    ▸ record { given = refl; session = refl }
+    ▸ record { given = refl; session = refl }
+    ▸ record { given = refl; session = grind (arith) }
+    ▸ record { given = refl; session = refl }
+    ▸ record { given = refl; session = refl }
+    ▸ record { given = refl; session = refl }
+    ▸ record { given = refl; session = refl }
+    ▸ record { given = refl; session = refl }
+    ▸ record { given = refl; session = grind (arith) }
+    ▸ record { given = refl; session = grind (arith) }
+    ▸ record { given = refl; session = refl }
+    ▸ record { given = refl; session = refl }
+    ▸ record { given = refl; session = refl }
+    ▸ record { given = refl; session = refl }
+    ▸ record { given = refl; session = refl }
+    ▸ record { given = refl; session = refl }
+    ▸ record { given = refl; session = refl }
+    ▸ record { given = refl; session = refl }
+    ▸ record { given = refl; session = refl }
+    ▸ record { given = refl; session = refl }
+    ▸ record { given = refl; session = refl }
+    ▸ record { given = refl; session = refl }
+    ▸ record { given = refl; session = refl }
+    ▸ record { given = refl; session = refl }
+    ▸ record { given = refl; session = grind (arith) }
+    ▸ record { given = refl; session = refl }
+    ▸ record { given = refl; session = refl }
+    ▸ record { given = refl; session = refl }
+    ▸ record { given = refl; session = grind (arith) }
+    ▸ record { given = refl; session = refl }
+    ▸ record { given = refl; session = refl }
+    ▸ record { given = refl; session = refl }
+    ▸ record { given = refl; session = refl }
+    ▸ record { given = refl; session = refl }
+    ▸ record { given = refl; session = refl }
+    ▸ record { given = refl; session = refl }
+    ▸ record { given = refl; session = refl }
+    ▸ record { given = refl; session = refl }
+    ▸ record { given = refl; session = refl }
+    ▸ record { given = refl; session = refl }
+    ▸ tt
 
 order : ReplayOrder plan_101 journal_101
 unfolding computing ReplayOrder
 order =
-    (refl
-    , (refl
-    , (refl
-    , (refl
-    , (refl
-    , (refl
-    , (refl
-    , (refl
-    , (refl
-    , (refl
-    , (refl
-    , (refl
-    , (refl
-    , (refl
-    , (refl
-    , (refl
-    , (refl
-    , (refl
-    , (refl
-    , (refl
-    , (refl
-    , (refl
-    , (refl
-    , (refl
-    , (refl
-    , (refl
-    , (refl
-    , (refl
-    , (refl
-    , (refl
-    , (refl
-    , (refl
-    , (refl
-    , (refl
-    , (refl
-    , (refl
-    , (refl
-    , (refl
-    , (refl
-    , (refl
-    , (refl
-    , (refl
-    , (refl
-    , (refl
-    , (refl
-    , (refl
-    , (refl
-    , (refl
-    , (refl
-    , (refl
-    , tt))))))))))))))))))))))))))))))))))))))))))))))))))
+    refl
+    ▸ refl
+    ▸ refl
+    ▸ refl
+    ▸ refl
+    ▸ refl
+    ▸ refl
+    ▸ refl
+    ▸ refl
+    ▸ refl
+    ▸ refl
+    ▸ refl
+    ▸ refl
+    ▸ refl
+    ▸ refl
+    ▸ refl
+    ▸ refl
+    ▸ refl
+    ▸ refl
+    ▸ refl
+    ▸ refl
+    ▸ refl
+    ▸ refl
+    ▸ refl
+    ▸ refl
+    ▸ refl
+    ▸ refl
+    ▸ refl
+    ▸ refl
+    ▸ refl
+    ▸ refl
+    ▸ refl
+    ▸ refl
+    ▸ refl
+    ▸ refl
+    ▸ refl
+    ▸ refl
+    ▸ refl
+    ▸ refl
+    ▸ refl
+    ▸ refl
+    ▸ refl
+    ▸ refl
+    ▸ refl
+    ▸ refl
+    ▸ refl
+    ▸ refl
+    ▸ refl
+    ▸ refl
+    ▸ refl
+    ▸ tt
 
 numbered : NumbersSessions journal_101
 unfolding computing NumbersSessions
 numbered =
-    (refl
-    , (tt
-    , (tt
-    , (tt
-    , (tt
-    , (tt
-    , (tt
-    , (tt
-    , (tt
-    , (tt
-    , (tt
-    , (tt
-    , (refl
-    , (tt
-    , (tt
-    , (tt
-    , (tt
-    , (tt
-    , (refl
-    , (refl
-    , (tt
-    , (tt
-    , (tt
-    , (tt
-    , (tt
-    , (tt
-    , (tt
-    , (tt
-    , (tt
-    , (tt
-    , (tt
-    , (tt
-    , (tt
-    , (tt
-    , (refl
-    , (tt
-    , (tt
-    , (tt
-    , (refl
-    , (tt
-    , (tt
-    , (tt
-    , (tt
-    , (tt
-    , (tt
-    , (tt
-    , (tt
-    , (tt
-    , (tt
-    , (tt
-    , tt))))))))))))))))))))))))))))))))))))))))))))))))))
+    refl
+    ▸ tt
+    ▸ tt
+    ▸ tt
+    ▸ tt
+    ▸ tt
+    ▸ tt
+    ▸ tt
+    ▸ tt
+    ▸ tt
+    ▸ tt
+    ▸ tt
+    ▸ refl
+    ▸ tt
+    ▸ tt
+    ▸ tt
+    ▸ tt
+    ▸ tt
+    ▸ refl
+    ▸ refl
+    ▸ tt
+    ▸ tt
+    ▸ tt
+    ▸ tt
+    ▸ tt
+    ▸ tt
+    ▸ tt
+    ▸ tt
+    ▸ tt
+    ▸ tt
+    ▸ tt
+    ▸ tt
+    ▸ tt
+    ▸ tt
+    ▸ refl
+    ▸ tt
+    ▸ tt
+    ▸ tt
+    ▸ refl
+    ▸ tt
+    ▸ tt
+    ▸ tt
+    ▸ tt
+    ▸ tt
+    ▸ tt
+    ▸ tt
+    ▸ tt
+    ▸ tt
+    ▸ tt
+    ▸ tt
+    ▸ tt
 
 -- *It is a replay of its plan*
 replay_101 : IsReplay plan_101 journal_101
