@@ -1,5 +1,5 @@
 -- BeginSpan that is answered keys holds the span.
-use Rattle.std.proofs.Common.{◌≡◌, ℕ, Bool, true, false, not, List, [], ◌∷◌, ◌++◌, Option, Some, None, refl, sym, ap, ◌∙◌, subst, inl, inr}
+use Rattle.std.proofs.Common.{◌≡◌, ℕ, Bool, true, false, not, List, [], ◌∷◌, ◌++◌, Option, Some, None, refl, sym, ap, ◌∙◌, subst, inl}
 use Rattle.std.specs.List.{list_any}
 use Rattle.std.specs.Str.{bytes_eq}
 use Rattle.gho_values.specs.declared.value.Value.{Value}
@@ -39,6 +39,7 @@ use Rattle.plain_server.specs.declared.session.Waiting.{Waiting}
 use Rattle.plain_server.specs.Deeds.{begins, deed_unless, is_outside}
 use Rattle.plain_server.specs.Serving.{called_unless, calls, does, done, holding, is_over, leaves, polled_of, polled_over, polled_unless, polls, serves, without_waiting}
 use Rattle.journal_words.specs.Journals.{after_entry, opens}
+use Rattle.statement_laws.proofs.Points.{among-right}
 
 -- events leave a table's schema
 schema_if : (b : Bool) (change : Change) (found : Option TableRows) (table : TableRows) → found ≡ Some table → (later : TableRows) × (change_if b change found ≡ Some later) × (later.schema ≡ table.schema)
@@ -58,10 +59,6 @@ schema_after name (event ∷ events) tables table is =
     let one = schema_if (bytes_eq event.table name) event.change (find_table name tables) table is in
     let rest = schema_after name events (with_change event.table (change_table event.change) tables) one.0 (found_after event.table name event.change tables ∙ one.1) in
     (rest.0, rest.1, rest.2 ∙ one.2)
-
-among_end : (lock : Lock) (a b : List Lock) → Among lock b → Among lock (a ++ b)
-among_end lock [] b is = is
-among_end lock (x ∷ a) b is = inr (among_end lock a b is)
 
 abbrev pub clustered_lock : Schema → Span → ℕ → Lock
 clustered_lock schema span place = lock_on schema false (record { key = place; span = span })
@@ -101,7 +98,7 @@ done_held base number table span size keys end session is false busy given = at 
         tables = refl;
         keys = refl;
         named = subst (λ (f : Face). list_any (bytes_eq table) f.hold.names ≡ true) (sym face) (names_last (hold_in session).names table);
-        locked = λ place at. subst (λ (f : Face). Among (clustered_lock found.schema span place) f.hold.locks) (sym face) (among_end (clustered_lock found.schema span place) (hold_in session).locks need'.locks (span_locked (view number base) table span later.0 found later.1 later.2 place at));
+        locked = λ place at. subst (λ (f : Face). Among (clustered_lock found.schema span place) f.hold.locks) (sym face) (among-right (clustered_lock found.schema span place) (hold_in session).locks need'.locks (span_locked (view number base) table span later.0 found later.1 later.2 place at));
       }
 
 called_held : (state : State) (number : ℕ) (table : List ℕ) (span : Span) (size : ℕ) (keys : List (List Value)) (end : List Value) (session : Session) → session_of number state.sessions ≡ Some session → (by : Option ℕ) → (called_unless by state number (BeginSpan table span size)).answer ≡ (answers.Keys keys end)
