@@ -1,0 +1,4 @@
+pub mod Timelines
+pub mod Views
+pub mod Applying
+pub mod Laws
