@@ -1,0 +1,5 @@
+pub mod PageLists
+pub mod PageEdits
+pub mod PagePlaces
+pub mod PageRuns
+pub mod Tested

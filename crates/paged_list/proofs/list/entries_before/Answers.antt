@@ -1,0 +1,10 @@
+use Rattle.std.proofs.Common.{rules}
+use Rattle.std.proofs.lemmas.List.Sorted.{IsPartitionPoint-from_clause}
+use Rattle.paged_list.proofs.Tested.{partitioned, point_is}
+use Rattle.paged_list.proofs.list.entries_before.Goals as goal
+
+pub returns-clause-count : goal.returns-clause-count
+returns-clause-count g c =
+    let on = g.T.Test.on c.args.test.now in
+    let parted = partitioned on c.args.entries.now c.requires in
+    point_is on c.args.entries.now _ c.partition_point.ensures.bound (IsPartitionPoint-from_clause on _ _ c.partition_point.ensures.partitioned parted (λ a r q k. search rules))
