@@ -1,0 +1,119 @@
+"""The comparison of many plans: runs them on both sides, explains what differs, and tells it."""
+import copy
+import re
+import sys
+
+from judge import Count, Judge
+from program import Ran
+from rules import OWN, REPHRASINGS
+from server import Server
+from serving import Bench
+
+
+class Comparison:
+    def __init__(self, server):
+        self.bench, self.count = Bench(server), Count()
+        self.by_rule, self.unexplained = {}, []
+
+    def plan(self, plan, check, replay):
+        """The differences of a plan, each with its rule."""
+        differences = Judge(plan, check, replay, self.bench.serve(plan), self.count).judge()
+        for difference in differences:
+            difference.rule = next((rule.name for rule in OWN if rule.explains(plan, difference)), None)
+        if any(it.rule is None for it in differences):
+            self.rephrase(plan, check, replay, differences)
+        for difference in differences:
+            if difference.rule is None:
+                self.unexplained.append((plan, difference))
+            else:
+                self.by_rule.setdefault(difference.rule, []).append((plan, difference))
+        return differences
+
+    def rephrase(self, plan, check, replay, differences):
+        """Says the plan to the server in the words that a rule takes it for: what then is the same, the rule explains."""
+        chosen = [rule for rule in REPHRASINGS if rule.rephrased(plan) is not None]
+        tried = [[rule] for rule in chosen] + ([chosen] if len(chosen) > 1 else [])
+        for rules in tried:
+            other = plan
+            for rule in rules:
+                other = rule.rephrased(other) or other
+            again = Judge(plan, check, replay, self.bench.serve(other), Count()).judge()
+            left = {it.key() for it in again if not any(rule.explains(plan, it) for rule in OWN)}
+            open_now = [it for it in differences if it.rule is None]
+            if left <= {it.key() for it in open_now}:
+                for difference in open_now:
+                    if difference.key() not in left:
+                        difference.rule = " and ".join(rule.name for rule in rules)
+
+
+def run_both(comparison, program, plans):
+    checks, replays = program.run("check", plans), program.run("replay", plans)
+    for number, (plan, check, replay) in enumerate(zip(plans, checks, replays)):
+        comparison.plan(plan, check, replay)
+        if sys.stderr.isatty() and number % 50 == 0:
+            print(f"\r{number} of {len(plans)} plans", end="", file=sys.stderr)
+
+
+def tell(plan, difference):
+    print(f"plan {plan.name}, {difference.kind} {difference.place}")
+    print(f"  ghost:  {difference.ours}\n  server: {difference.theirs}")
+    print("  " + plan.toml().strip().replace("\n", "\n  "))
+
+
+def tell_counts(comparison, plans, version):
+    count = comparison.count
+    print(f"server: {version}")
+    print(f"plans: {len(plans)}, of which {count.done} ended with the ALTER done")
+    titles = {"create": "CREATE TABLEs", "rows": "lists of opening rows", "answer": "statements", "alter": "ALTERs", "table": "tables at the end"}
+    for kind, title in titles.items():
+        print(f"{title}: {count.same[kind]} of {count.compared[kind]} the same")
+    print(f"rows in those tables: {count.rows_left}")
+    differing = sum(len(found) for found in comparison.by_rule.values())
+    print(f"differences: {differing} by a rule of this project's own, {len(comparison.unexplained)} unexplained")
+    for rule, found in sorted(comparison.by_rule.items(), key=lambda it: -len(it[1])):
+        print(f"  {len(found):5} {rule}")
+
+
+def compare(program, plans, tells_all):
+    """The status of the whole: 0 where nothing is unexplained."""
+    with Server() as server:
+        comparison = Comparison(server)
+        run_both(comparison, program, plans)
+        for rule, found in comparison.by_rule.items() if tells_all else ():
+            print(f"== {rule}")
+            for plan, difference in found:
+                tell(plan, difference)
+        for plan, difference in comparison.unexplained:
+            print("== unexplained")
+            tell(plan, difference)
+        tell_counts(comparison, plans, server.version)
+    return 1 if comparison.unexplained else 0
+
+
+def planted(ran):
+    """The same output with one count of an answer changed; none where it has no such answer."""
+    text, changes = re.subn(r"^(\d+\.\d+ ok )(\d+)$", lambda it: f"{it.group(1)}{int(it.group(2)) + 1}", ran.text, count=1, flags=re.M)
+    return Ran(text, ran.status) if changes else None
+
+
+def plant(program, plans):
+    """Changes one count in a copy of an output, and wants exactly that to be told as unexplained."""
+    with Server() as server:
+        plans = [plan for plan in plans if plan.clients]
+        checks, replays = program.run("check", plans), program.run("replay", plans)
+        for plan, check, replay in zip(plans, checks, replays):
+            before = Comparison(server)
+            wrong = planted(replay)
+            if wrong is None or before.plan(plan, check, replay):
+                continue
+            after = Comparison(server)
+            after.plan(copy.copy(plan), check, wrong)
+            if [difference.kind for _, difference in after.unexplained] == ["answer"] and not after.by_rule:
+                print("the planted difference was found:")
+                tell(*after.unexplained[0])
+                return 0
+            print("the planted difference was NOT found:")
+            print(wrong.text)
+            return 1
+    print("no plan was fit for planting a difference")
+    return 1

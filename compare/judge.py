@@ -1,0 +1,138 @@
+"""Compares what the program printed for a plan with what a server answered to it."""
+import dataclasses
+
+from reports import Report, shape_of
+
+# For each of the program's codes that MySQL has too: the numbers by which a server refuses the same.
+SAME_NUMBERS = {
+    10: (1064,),
+    12: (1060, 1061, 1068),
+    13: (1072,),
+    15: (1117,),
+    17: (1059, 1103, 1166),
+    19: (1067,),
+    20: (1064,),
+    21: (1054, 1072, 1091, 1176),
+    22: (1060, 1061),
+    27: (1067,),
+    30: (1090,),
+}
+
+
+@dataclasses.dataclass
+class Difference:
+    """`kind` is what was compared: create, rows, answer, alter, shape, unfit or table; `place` says which."""
+
+    kind: str
+    place: str
+    ours: str
+    theirs: str
+    rule: str = None
+
+    def key(self):
+        return self.kind, self.place
+
+
+class Count:
+    """How many were compared, and how many were the same."""
+
+    KINDS = ("create", "rows", "answer", "alter", "table")
+
+    def __init__(self):
+        self.compared = dict.fromkeys(self.KINDS, 0)
+        self.same = dict.fromkeys(self.KINDS, 0)
+        self.rows_left = 0
+        self.done = 0
+
+    def add(self, kind, is_same):
+        self.compared[kind] += 1
+        self.same[kind] += is_same
+        return is_same
+
+
+class Judge:
+    """One plan's comparison: the differences, and counts of what was compared."""
+
+    def __init__(self, plan, check, replay, served, count):
+        self.plan, self.served, self.count = plan, served, count
+        self.report, self.check = Report(replay), check
+        self.differences = []
+
+    def judge(self):
+        code = self.report.refused or 0
+        if not self.is_created(code) or self.is_refused_by_words(code):
+            return self.differences
+        self.shape()
+        if self.are_rows_taken(code):
+            self.answers()
+            self.end()
+        return self.differences
+
+    def differ(self, kind, place, ours, theirs):
+        self.differences.append(Difference(kind, place, str(ours), str(theirs)))
+
+    def is_created(self, code):
+        ours, theirs = code if 10 <= code <= 19 else 0, self.served.created
+        same = ours == theirs == 0 or theirs in SAME_NUMBERS.get(ours, ())
+        if not self.count.add("create", same):
+            self.differ("create", "", ours, theirs)
+        return ours == theirs == 0
+
+    def is_refused_by_words(self, code):
+        """Whether the ALTER is refused, whatever rows there are."""
+        ours, theirs = code if 20 <= code <= 31 else 0, self.served.altered
+        if ours == theirs == 0:
+            return False
+        if not self.count.add("alter", ours != 0 and theirs in SAME_NUMBERS.get(ours, ())):
+            self.differ("alter", "", ours, theirs)
+        return True
+
+    def shape(self):
+        ours, theirs = shape_of(self.check.text), self.served.shape
+        told = ["none" if it is None else it.told() for it in (ours, theirs)]
+        self.is_shaped = told[0] == told[1] if ours else True
+        if not self.is_shaped:
+            self.differ("shape", "", *told)
+
+    def are_rows_taken(self, code):
+        ours, theirs = code == 60, bool(self.served.rows_refused)
+        if not self.count.add("rows", ours == theirs):
+            self.differ("rows", "", code, self.served.rows_refused)
+        if code and not 60 == code:
+            self.differ("rows", "", code, "")
+        return not ours and not theirs and not code
+
+    def answers(self):
+        for client, place, line in self.plan.turns():
+            replies = self.report.replies[client] if client < len(self.report.replies) else []
+            ours = replies[place] if place < len(replies) else ("none", 0)
+            theirs = self.served.answers[client, place]
+            if not self.count.add("answer", ours == theirs):
+                self.differ("answer", f"client {client + 1} line {place + 1}: {line}", told(ours), told(theirs))
+
+    def end(self):
+        """The ALTER of the table with its rows, and the rows that are left."""
+        same = self.is_fit() and self.is_shaped
+        self.count.add("alter", same)
+        theirs = self.served.columns
+        tables = (self.report.columns, self.report.rows), (theirs and ", ".join(theirs), self.served.rows)
+        self.count.rows_left += len(self.report.rows)
+        self.count.done += self.report.done()
+        if not self.count.add("table", tables[0] == tables[1]):
+            self.differ("table", "", f"({tables[0][0]}) {' '.join(tables[0][1])}", f"({tables[1][0]}) {' '.join(tables[1][1] or [])}")
+
+    def is_fit(self):
+        ours = self.report.unfit or (0, None)
+        theirs = (self.served.copied, self.served.column if self.report.unfit else None)
+        if ours == (0, None) and not self.report.done():
+            self.differ("unfit", "", f"status {self.report.status}", theirs)
+            return False
+        if ours[0] != theirs[0] or (ours[1] and ours[1] != theirs[1]):
+            self.differ("unfit", "", f"{ours[0]} column {ours[1]}", f"{theirs[0]} column {theirs[1]}")
+            return False
+        return True
+
+
+def told(answer):
+    form, what = answer
+    return f"{form} {what}" if form != "rows" else f"rows {' '.join(what)}"

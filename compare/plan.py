@@ -1,0 +1,67 @@
+"""A plan: what `ghost` reads as TOML, and the same for a server in SQL."""
+import dataclasses
+import json
+
+
+@dataclasses.dataclass
+class Plan:
+    name: str
+    create: str
+    rows: list
+    alter: str
+    clients: list
+    approve: bool = True
+    # The ALTERs that a server runs; none: `alter` itself. A rule may take a text in pieces.
+    steps: list = None
+
+    def toml(self):
+        text = f'version = 1\ntable = "t"\nalter = {quoted(self.alter)}\n'
+        if self.clients:
+            scripts = ", ".join(quoted("\n".join(script)) for script in self.clients)
+            text += f"clients = [{scripts}]\n"
+        text += f"[[tables]]\ncreate = {quoted(self.create)}\n"
+        if self.rows:
+            text += f"rows = [{', '.join(quoted(row) for row in self.rows)}]\n"
+        if self.approve:
+            text += "[options]\napprove_renamed_columns = true\n"
+        return text
+
+    def alters(self):
+        return [with_front(it) for it in (self.steps if self.steps is not None else [self.alter])]
+
+    def turns(self):
+        """The clients' lines in the order of their turns: round after round, a line of each client that has one left."""
+        longest = max((len(script) for script in self.clients), default=0)
+        for place in range(longest):
+            for number, script in enumerate(self.clients):
+                if place < len(script):
+                    yield number, place, script[place]
+
+
+def quoted(text):
+    return json.dumps(text, ensure_ascii=False).replace("\x7f", "\\u007f")
+
+
+def with_front(alter):
+    """A server takes an ALTER with its front alone."""
+    return alter if alter.upper().split()[:2] == ["ALTER", "TABLE"] else f"ALTER TABLE t {alter}"
+
+
+def plan_of_file(path):
+    """A plan of a file, as far as the comparison reads one; none where it has another form or table."""
+    import tomllib
+
+    try:
+        with open(path, "rb") as file:
+            read = tomllib.load(file)
+    except (tomllib.TOMLDecodeError, UnicodeDecodeError):
+        return None
+    tables = read.get("tables", [])
+    if set(read) - {"version", "table", "alter", "clients", "tables", "options"} or len(tables) != 1:
+        return None
+    scripts = [[it for it in script.split("\n") if it.strip()] for script in read.get("clients", [])]
+    options = read.get("options", {})
+    approve = options.get("approve_renamed_columns", False)
+    if read["table"] != "t" or set(options) - {"approve_renamed_columns"}:
+        return None
+    return Plan(path, tables[0]["create"], tables[0].get("rows", []), read["alter"], scripts, approve)

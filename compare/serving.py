@@ -1,0 +1,153 @@
+"""What a server says to a plan: the table's shape before and after the ALTER, each answer, and the rows that are left."""
+import re
+
+from wire import Ok, Refused
+
+COLUMN_OF_REFUSAL = re.compile(r"olumn [`']?(?:[^`'.]*[`']?\.[`']?)*([^`']*)[`'] at row")
+
+
+class Served:
+    """None stands where a step wasn't reached."""
+
+    def __init__(self):
+        self.created = None  # the number of CREATE's refusal, 0 where it was done
+        self.rows_refused = []  # (place of the row, number)
+        self.answers = {}  # (client, place of the line): ("ok", N), ("error", number) or ("rows", [texts])
+        self.altered = None  # the number of the refusal of the ALTER on the table without rows, or 0
+        self.shape = None  # the shape that the ALTER leaves
+        self.copied = None  # the number of the refusal of the ALTER on the table with its rows, or 0
+        self.column = None  # the column that this refusal names
+        self.columns, self.rows = None, None  # the table at the end
+
+
+class Shape:
+    """A table as SHOW CREATE TABLE would tell it: columns as (name, kind, nullable, has a default, default), keys and comment."""
+
+    def __init__(self, columns, keys, comment):
+        self.columns, self.keys, self.comment = columns, sorted(keys), comment
+
+    def told(self):
+        listed = [f"{name} {kind}{'' if nullable else ' NOT NULL'}{f' DEFAULT {default}' if has else ''}" for name, kind, nullable, has, default in self.columns]
+        return "; ".join([*listed, *self.keys, f"COMMENT {self.comment}"])
+
+
+def printed(value):
+    """A value by the printing rules of docs/FORMATS.md."""
+    if value is None:
+        return "NULL"
+    if isinstance(value, int):
+        return str(value)
+    if isinstance(value, bytes):
+        return f"x'{value.hex()}'"
+    text = value.replace("\\", "\\\\").replace("'", "''").replace("\n", "\\n").replace("\r", "\\r")
+    return "'" + text.replace("\t", "\\t").replace("\0", "\\0") + "'"
+
+
+def printed_row(row):
+    return f"({', '.join(printed(value) for value in row)})"
+
+
+def answer_of(answer):
+    if isinstance(answer, Ok):
+        return "ok", answer.changed
+    if isinstance(answer, Refused):
+        return "error", answer.number
+    return "rows", sorted(printed_row(row) for row in answer.rows)
+
+
+def number_of(answer):
+    return answer.number if isinstance(answer, Refused) else 0
+
+
+def kind_of(column_type):
+    """A kind in the model's words: without the width of display."""
+    kind, _, rest = column_type.partition("(")
+    unsigned = " UNSIGNED" if "unsigned" in column_type else ""
+    length = f"({rest.partition(')')[0]})" if kind.startswith("var") else ""
+    return kind.split(" ")[0].upper() + length + unsigned
+
+
+class Bench:
+    """A session with two databases: in `shape` tables stay without rows, in `plan` they have them."""
+
+    def __init__(self, server):
+        self.server = server
+        self.session = server.session()
+        for name in ("plan", "shape"):
+            server.database(self.session, name)
+
+    def serve(self, plan):
+        served = Served()
+        served.created = self.create("shape", plan)
+        if served.created:
+            return served
+        served.altered = self.alter(plan)[0]
+        served.shape = self.shape() if not served.altered else None
+        self.create("plan", plan)
+        for place, row in enumerate(plan.rows):
+            number = number_of(self.session.ask(f"INSERT INTO t VALUES {row}"))
+            served.rows_refused += [(place, number)] if number else []
+        for client, place, line in plan.turns():
+            served.answers[client, place] = answer_of(self.session.ask(line))
+        self.session.ask("ROLLBACK")
+        served.copied, served.column = self.alter(plan)
+        left = self.session.ask("SELECT * FROM t")
+        served.columns, served.rows = left.names, sorted(printed_row(row) for row in left.rows)
+        return served
+
+    def create(self, database, plan):
+        self.session.need(f"USE {database}")
+        for (name,) in self.session.need("SHOW TABLES").rows:
+            self.session.need(f"DROP TABLE `{name}`")
+        return number_of(self.session.ask(plan.create))
+
+    def alter(self, plan):
+        for text in plan.alters():
+            answer = self.session.ask(text)
+            if isinstance(answer, Refused):
+                column = COLUMN_OF_REFUSAL.search(answer.text)
+                return answer.number, column.group(1) if column else None
+        return 0, None
+
+    def shape(self):
+        """Of the table `t`, which has no rows, and none afterwards."""
+        told = "SELECT COLUMN_NAME, COLUMN_TYPE, IS_NULLABLE, COLUMN_DEFAULT FROM information_schema.COLUMNS"
+        columns = self.session.need(f"{told} WHERE TABLE_SCHEMA = 'shape' AND TABLE_NAME = 't' ORDER BY ORDINAL_POSITION").rows
+        if not columns:
+            return None
+        columns = [[text_of(it) for it in column] for column in columns]
+        defaults = self.defaults(columns)
+        listed = []
+        for (name, column_type, nullable, default), stored in zip(columns, defaults):
+            has = default not in (None, "NULL")
+            listed.append((name, kind_of(column_type), nullable == "YES", has, stored if has else None))
+        comment = "SELECT TABLE_COMMENT FROM information_schema.TABLES WHERE TABLE_SCHEMA = 'shape' AND TABLE_NAME = 't'"
+        return Shape(listed, self.keys(), printed(text_of(self.session.need(comment).rows[0][0])))
+
+    def defaults(self, columns):
+        """What each column stores where nothing is said."""
+        needed = [(name, column_type) for name, column_type, nullable, default in columns if default is None and nullable == "NO"]
+        names = ", ".join(f"`{name}`" for name, _ in needed)
+        values = ", ".join("''" if column_type.startswith("var") else "0" for _, column_type in needed)
+        self.session.need(f"INSERT INTO t ({names}) VALUES ({values})")
+        row = self.session.need("SELECT * FROM t").rows[0]
+        self.session.need("DELETE FROM t")
+        return [printed(value) for value in row]
+
+    def keys(self):
+        found = {}
+        index = self.session.need("SHOW INDEX FROM t")
+        at = [index.names.index(it) for it in ("Key_name", "Non_unique", "Column_name")]
+        for row in index.rows:
+            name, common, column = (row[place] for place in at)
+            found.setdefault((name, common), []).append(f"`{column}`")
+        return [key_text(name, int(common), columns) for (name, common), columns in found.items()]
+
+
+def text_of(value):
+    return value.decode("utf-8", errors="replace") if isinstance(value, bytes) else value
+
+
+def key_text(name, common, columns):
+    kind = "PRIMARY KEY" if name == "PRIMARY" else f"{'KEY' if common else 'UNIQUE KEY'} `{name}`"
+    return f"{kind} ({', '.join(columns)})"
