@@ -7,7 +7,7 @@ ADD COLUMN z INT AFTER nothing|DROP COLUMN nothing|DROP INDEX nothing|MODIFY not
 ADD INDEX i9 (nothing)|ADD COLUMN z INT NOT NULL|ADD COLUMN z INT DEFAULT 'x'|ADD COLUMN z TINYINT DEFAULT 200|ADD COLUMN z INT NOT NULL DEFAULT NULL
 ADD z|MODIFY|ADD COLUMN z INT INT|DROP id|ALTER COLUMN id DROP DEFAULT|ADD COLUMN z INT DEFAULT x'05'|ADD COLUMN z VARCHAR(3) DEFAULT x'41'
 ADD COLUMN z INT,,|RENAME COLUMN id TO id|RENAME INDEX k0 TO k9|ADD COLUMN z VARCHAR(3) DEFAULT 'abc '|ADD COLUMN z INT DEFAULT ' 5'
-DROP INDEX `PRIMARY`|ADD COLUMN (z INT)|ADD COLUMN z INT DEFAULT 5.5|ADD COLUMN z INT AUTO_INCREMENT|DROP FOREIGN KEY f""".replace("\n", "|").split("|")
+DROP INDEX `PRIMARY`|ADD INDEX i1 (id), ADD INDEX i1 (id)|ADD COLUMN z INT, ADD COLUMN Z INT|ADD INDEX i9 (id, id)|ADD COLUMN z INT AFTER z|ADD COLUMN (z INT)|ADD COLUMN z INT DEFAULT 5.5|ADD COLUMN z INT AUTO_INCREMENT|DROP FOREIGN KEY f""".replace("\n", "|").split("|")
 FAMILIES = {"VARCHAR": "VARCHAR", "VARBINARY": "VARBINARY"}
 ALLOWED = {"integer": ["integer", "VARCHAR", "VARBINARY"], "VARCHAR": ["VARCHAR", "VARBINARY"], "VARBINARY": ["VARBINARY"]}
 
@@ -34,12 +34,23 @@ class Altering:
             self.untouched.remove(column)
         return column
 
+    def cased(self, name):
+        """A name as a clause may write it: columns are named without regard to case."""
+        return name.swapcase() if making.chance(self.r, 12) else name
+
     def spot(self):
         if making.chance(self.r, 70):
             return ""
         if making.chance(self.r, 40) or not self.untouched:
             return " FIRST"
-        return f" AFTER {self.r.choice(self.untouched).name}"
+        return f" AFTER {self.cased(self.name_one().name)}"
+
+    def name_one(self):
+        """A column that is only named, and left alone by the clauses to come, as a rule."""
+        column = self.r.choice(self.untouched)
+        if not making.chance(self.r, making.ODD):
+            self.untouched.remove(column)
+        return column
 
     def column_text(self, column, name=None):
         return f"{name or column.name} {column.written(self.r)}{making.attributes(self.r, column)}"
@@ -53,7 +64,7 @@ class Altering:
 
     def drop_column(self):
         column = self.take(lambda it: not it.in_unique or making.chance(self.r, 3))
-        return column and f"DROP {self.r.choice(['COLUMN ', ''])}{column.name}"
+        return column and f"DROP {self.r.choice(['COLUMN ', ''])}{self.cased(column.name)}"
 
     def converted(self, column):
         """The same column with another kind, one that is allowed as a rule."""
@@ -79,19 +90,21 @@ class Altering:
         if column is None:
             return None
         name = self.fresh.pop() if making.chance(self.r, 70) else column.name
-        return f"CHANGE {self.r.choice(['COLUMN ', ''])}{column.name} {self.column_text(self.converted(column), name)}{self.spot()}"
+        return f"CHANGE {self.r.choice(['COLUMN ', ''])}{self.cased(column.name)} {self.column_text(self.converted(column), name)}{self.spot()}"
 
     def rename(self):
         column = self.take()
-        return column and f"RENAME COLUMN {column.name} TO {self.fresh.pop()}"
+        return column and f"RENAME COLUMN {self.cased(column.name)} TO {self.fresh.pop()}"
 
     def add_index(self):
         if not self.untouched:
             return None
         self.added += 1
-        listed = self.r.sample(self.untouched, min(len(self.untouched), self.r.choice([1, 1, 2])))
+        listed = [self.name_one()]
+        if self.untouched and making.chance(self.r, 30):
+            listed = list(dict.fromkeys([*listed, self.name_one()]))
         name = f"i{self.added} " if making.chance(self.r, 70) else ""
-        return f"ADD {self.r.choice(['INDEX', 'KEY'])} {name}({', '.join(it.name for it in listed)})"
+        return f"ADD {self.r.choice(['INDEX', 'KEY'])} {name}({', '.join(self.cased(it.name) for it in listed)})"
 
     def drop_index(self):
         if not self.indexes:
@@ -114,5 +127,5 @@ def alter_of(r, table):
         clauses += [clause] if clause else []
     if not clauses:
         clauses = [altering.add_column()]
-    text = ", ".join(clauses)
-    return f"ALTER TABLE t {text}" if making.chance(r, 15) else text
+    text = making.with_remark(r, ", ".join(clauses))
+    return f"{making.letters(r, 'ALTER TABLE')} {r.choice(['t', '`t`'])} {text}" if making.chance(r, 15) else text

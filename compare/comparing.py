@@ -32,18 +32,34 @@ class Comparison:
     def rephrase(self, plan, check, replay, differences):
         """Says the plan to the server in the words that a rule takes it for: what then is the same, the rule explains."""
         chosen = [rule for rule in REPHRASINGS if rule.rephrased(plan) is not None]
-        tried = [[rule] for rule in chosen] + ([chosen] if len(chosen) > 1 else [])
-        for rules in tried:
-            other = plan
-            for rule in rules:
-                other = rule.rephrased(other) or other
-            again = Judge(plan, check, replay, self.bench.serve(other), Count()).judge()
-            left = {it.key() for it in again if not any(rule.explains(plan, it) for rule in OWN)}
-            open_now = [it for it in differences if it.rule is None]
-            if left <= {it.key() for it in open_now}:
-                for difference in open_now:
-                    if difference.key() not in left:
-                        difference.rule = " and ".join(rule.name for rule in rules)
+        for rules in [[rule] for rule in chosen]:
+            self.explain(plan, check, replay, differences, rules)
+        if len(chosen) > 1 and self.explained(plan, check, replay, differences, chosen):
+            self.explain(plan, check, replay, differences, self.least(plan, check, replay, differences, chosen))
+
+    def least(self, plan, check, replay, differences, rules):
+        """The same rules without those that aren't needed."""
+        for rule in list(rules):
+            fewer = [it for it in rules if it is not rule]
+            if self.explained(plan, check, replay, differences, fewer) == self.explained(plan, check, replay, differences, rules):
+                rules = fewer
+        return rules
+
+    def explain(self, plan, check, replay, differences, rules):
+        keys = self.explained(plan, check, replay, differences, rules)
+        for difference in differences:
+            if difference.rule is None and difference.key() in keys:
+                difference.rule = " and ".join(rule.name for rule in rules)
+
+    def explained(self, plan, check, replay, differences, rules):
+        """The keys of the differences that these rules together leave none of; nothing where they bring a new one."""
+        other = plan
+        for rule in rules:
+            other = rule.rephrased(other) or other
+        again = Judge(plan, check, replay, self.bench.serve(other), Count()).judge()
+        left = {it.key() for it in again if not any(rule.explains(plan, it) for rule in OWN)}
+        unexplained = {it.key() for it in differences if it.rule is None}
+        return unexplained - left if left <= unexplained else set()
 
 
 def run_both(comparison, program, plans):
@@ -88,6 +104,23 @@ def compare(program, plans, tells_all):
             tell(plan, difference)
         tell_counts(comparison, plans, server.version)
     return 1 if comparison.unexplained else 0
+
+
+def show_rules(program, plans):
+    """Each example begins with the rule that it shows, and differs by that rule alone; and each rule has an example."""
+    wrong, shown = [], set()
+    with Server() as server:
+        checks, replays = program.run("check", plans), program.run("replay", plans)
+        for plan, check, replay in zip(plans, checks, replays):
+            with open(plan.name, encoding="utf-8") as file:
+                wanted = file.readline().removeprefix("# ").strip()
+            found = {difference.rule for difference in Comparison(server).plan(plan, check, replay)}
+            shown |= found
+            if found != {wanted}:
+                wrong.append(f"{plan.name} shows {found or 'no difference'}, and not: {wanted}")
+    wrong += [f"no example shows: {rule.name}" for rule in [*OWN, *REPHRASINGS] if rule.name not in shown]
+    print("\n".join(wrong) if wrong else f"{len(plans)} plans show {len(shown)} rules")
+    return 1 if wrong else 0
 
 
 def planted(ran):

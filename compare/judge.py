@@ -98,9 +98,9 @@ class Judge:
         ours, theirs = code == 60, bool(self.served.rows_refused)
         if not self.count.add("rows", ours == theirs):
             self.differ("rows", "", code, self.served.rows_refused)
-        if code and not 60 == code:
+        if code not in (0, 60):
             self.differ("rows", "", code, "")
-        return not ours and not theirs and not code
+        return not theirs and not code
 
     def answers(self):
         for client, place, line in self.plan.turns():

@@ -23,6 +23,8 @@ ODD = 4
 NAMES = ["a", "b", "c", "d", "e", "Name", "note", "v1", "_x", "`key`", "`group`", "n", "Total", "`a b`", "`to`", "flag"]
 WORDS_OF_MYSQL = ["rank", "groups", "order", "select", "interval", "range"]
 LETTERS = ["a", "b", "ab", "B", "x", "yz", "abc", "é", "ß", "", " ", "0", "7", "12", "日本", "A-7", "long text"]
+LETTERS += ["it's", "a\nb", "\\", "%_", "\t", '"', "a\0b", "\r", "😀", "-5", "+5", "1e3"]
+ESCAPES = {"\\": "\\\\", "'": "''", "\n": "\\n", "\t": "\\t", "\r": "\\r", "\0": "\\0"}
 WIDTHS = {"TINYINT": 8, "SMALLINT": 16, "MEDIUMINT": 24, "INT": 32, "BIGINT": 64}
 
 
@@ -41,12 +43,19 @@ class Column:
         if not self.is_integer():
             return f"{letters(r, self.kind)}({self.length})"
         kind = "INTEGER" if self.kind == "INT" and chance(r, 10) else self.kind
-        width = f"({r.choice([1, 5, 11])})" if chance(r, 15) else ""
+        width = f"({r.choice([1, 5, 11, 255])})" if chance(r, 15) else ""
         return letters(r, kind) + width + (" " + letters(r, "UNSIGNED") if self.unsigned else "")
 
     def limits(self):
         bits = WIDTHS[self.kind]
         return (0, 2**bits - 1) if self.unsigned else (-(2 ** (bits - 1)), 2 ** (bits - 1) - 1)
+
+
+def with_remark(r, text):
+    """Now and then a comment or white space of another kind behind a comma."""
+    if chance(r, 5):
+        return text.replace(", ", r.choice([", -- a remark\n", ",\t", ", # it's\n", ",\r\n"]), 1)
+    return text
 
 
 def chance(r, percent):
@@ -65,9 +74,17 @@ def random_column(r, name):
 
 
 def text_literal(r, text):
-    if chance(r, 15):
-        return '"' + text.replace('"', '""') + '"'
-    return "'" + text.replace("\\", "\\\\").replace("'", "''") + "'"
+    """A text between quotes of either kind; each sign that may be escaped is."""
+    mark = '"' if chance(r, 15) else "'"
+    escapes = {**ESCAPES, "'": "'" if mark == '"' else r.choice(["''", "\\'"]), '"': '""' if mark == '"' else '"'}
+    return mark + "".join(escapes.get(it, it) for it in text) + mark
+
+
+def number_text(r, number):
+    """A number as it may be written: with a sign, or with zeros ahead."""
+    if number >= 0 and chance(r, 8):
+        return r.choice(["+", "0", "00"]) + str(number)
+    return "-0" if number == 0 and chance(r, 8) else str(number)
 
 
 def number_for(r, column):
@@ -84,12 +101,12 @@ def literal_for(r, column):
         return "NULL"
     if column.is_integer():
         number = number_for(r, column)
-        return text_literal(r, str(number)) if chance(r, 6) else f"{number}"
+        return text_literal(r, number_text(r, number)) if chance(r, 6) else number_text(r, number)
     if column.kind == "VARBINARY":
         size = r.randrange(min(column.length, 4) + 1)
         return "x'" + bytes(r.randrange(256) for _ in range(size)).hex() + "'"
     if chance(r, 8):
-        return str(r.randrange(10 ** min(column.length, 3)))
+        return number_text(r, r.randrange(10 ** min(column.length, 3)))
     fitting = [it for it in LETTERS if len(it) <= column.length]
     return text_literal(r, r.choice(fitting))
 
@@ -107,6 +124,8 @@ def attributes(r, column):
     listed = [] if column.nullable else ["NOT NULL"]
     if column.nullable and chance(r, 10):
         listed.append("NULL")
+    if chance(r, 2):
+        return " NULL NOT NULL" if not column.nullable else " NOT NULL NULL"
     if column.default is not None:
         listed.append(f"DEFAULT {column.default}")
     if chance(r, 8):
@@ -142,7 +161,7 @@ class Table:
     def __init__(self, r):
         self.columns, self.key = make_columns(r)
         self.clustered = [self.key]
-        self.uniques, self.indexes, self.lines = [], [], []
+        self.uniques, self.indexes, self.lines, self.marks = [], [], [], {}
         self.make_keys(r)
         for column in self.columns:
             if column is not self.key or chance(r, 30):
@@ -162,7 +181,12 @@ class Table:
     def add_key(self, r):
         listed = r.sample(self.columns, min(len(self.columns), r.choice([1, 1, 2])))
         name = f"k{len(self.lines)}" if chance(r, 70) else ""
-        names = ", ".join(it.name for it in listed)
+        names = ", ".join(letters(r, it.name) for it in listed)
+        if len(listed) == 1 and chance(r, 20):
+            self.marks[listed[0].name] = letters(r, r.choice([" UNIQUE", " UNIQUE KEY"]))
+            self.uniques.append(listed)
+            listed[0].in_unique = True
+            return
         if chance(r, 40):
             self.uniques.append(listed)
             for column in listed:
@@ -176,7 +200,7 @@ class Table:
         self.lines.append(f"{letters(r, word)} {name} ({names})".replace("  ", " "))
 
     def create(self, r):
-        lines = [f"{it.name} {it.written(r)}{attributes(r, it)}" for it in self.columns]
+        lines = [f"{it.name} {it.written(r)}{attributes(r, it)}{self.marks.get(it.name, '')}" for it in self.columns]
         named = ", ".join(it.name for it in self.clustered)
         if len(self.clustered) == 1 and chance(r, 60):
             lines[self.columns.index(self.key)] += r.choice([" PRIMARY KEY", " PRIMARY KEY", " primary key"])
@@ -185,7 +209,8 @@ class Table:
         else:
             self.lines.insert(0, f"UNIQUE KEY clustered ({named})")
         lines += self.lines
-        return f"CREATE TABLE t ({', '.join(self.odd(r, lines))}){self.options(r)}"
+        text = f"CREATE TABLE t ({', '.join(self.odd(r, lines))}){self.options(r)}"
+        return with_remark(r, text)
 
     def options(self, r):
         listed = [" ENGINE=InnoDB"] if chance(r, 20) else []
@@ -202,6 +227,7 @@ class Table:
         extra = [f"{self.key.name} INT", "KEY k9 (nothing)", "z DATE", "z INT AUTO_INCREMENT", "z INT NOTNULL", "KEY k8 (id), KEY k8 (id)"]
         extra += ["z VARCHAR(0)", "z VARCHAR(2000)", "z TINYINT DEFAULT 300", "z INT NOT NULL DEFAULT NULL", "z VARCHAR(2) DEFAULT 'abc'"]
         extra += ["z INT DEFAULT 'x'", "z INT,", "FOREIGN KEY (id) REFERENCES u (id)", "CHECK (1 = 1)", "z INT ZEROFILL", "PRIMARY KEY (id)"]
+        extra += [f"KEY k6 ({self.key.name}, {self.key.name})", "z VARCHAR(1000)", "z INT(0)", "z INT COMMENT 'a' COMMENT 'b'", "KEY `` (id)"]
         extra += [f"KEY k7 ({self.key.name} DESC)", "z INT DEFAULT x'05'", "z VARCHAR(3) DEFAULT x'41'"]
         return [*lines, r.choice(extra)]
 
@@ -228,4 +254,4 @@ def make_plan(seed, number, features=None):
     table = Table(r)
     rows = make_rows(r, table)
     clients = scripts.make_clients(r, table, features)
-    return Plan(f"{number}", table.text, rows, alter_of(r, table), clients, chance(r, 85))
+    return Plan(f"{number}", table.text, rows, alter_of(r, table), clients, chance(r, 96))

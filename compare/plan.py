@@ -11,8 +11,12 @@ class Plan:
     alter: str
     clients: list
     approve: bool = True
-    # The ALTERs that a server runs; none: `alter` itself. A rule may take a text in pieces.
+    # What a rule says to a server in place of the ALTER: texts, pairs of a new and an old column, and the columns of the clustered
+    # key. The texts are run on an empty copy of the table, and its rows are then inserted there in order of the key. Where there
+    # are no pairs, the server alters the table itself.
     steps: list = None
+    carried: list = None
+    order: list = None
 
     def toml(self):
         text = f'version = 1\ntable = "t"\nalter = {quoted(self.alter)}\n'

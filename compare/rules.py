@@ -32,7 +32,7 @@ class Known:
         primary = [columns for is_primary, columns in keys if is_primary]
         all_strict = [columns for _, columns in keys if set(columns) <= strict]
         self.unique = {name for _, columns in keys for name in columns}
-        self.clustered = set((primary or all_strict or [[]])[0])
+        self.clustered = (primary or all_strict or [[]])[0]
 
     def read(self, item, strict, keys):
         if item and item[0].is_word("PRIMARY", "UNIQUE"):
@@ -120,9 +120,17 @@ def drops_unique_column(plan, _):
     return any(name in unique for name in dropped)
 
 
+def conversions(plan):
+    """Of each clause that changes a column: its old name, and the families that it has then and gets."""
+    families = dict(Known(plan.create).families)
+    for old, new, wanted, _ in column_clauses(plan.alter):
+        yield old, families.get(old), wanted
+        families[new] = wanted
+
+
 def converts_unique_column(plan, _):
-    known = Known(plan.create)
-    return any(old in known.unique and known.families.get(old) != new for old, _, new, _ in column_clauses(plan.alter))
+    unique = Known(plan.create).unique
+    return any(name in unique and old != new for name, old, new in conversions(plan))
 
 
 def changes_clustered_key(plan, _):
@@ -138,10 +146,8 @@ def renames_column(plan, _):
 
 
 def converts_between_families(plan, _):
-    known = Known(plan.create)
     allowed = {("integer", "VARCHAR"), ("integer", "VARBINARY"), ("VARCHAR", "VARBINARY")}
-    pairs = [(known.families.get(old), new) for old, _, new, _ in column_clauses(plan.alter)]
-    return any(old != new and (old, new) not in allowed for old, new in pairs)
+    return any(old != new and (old, new) not in allowed for _, old, new in conversions(plan))
 
 
 def begins_otherwise(plan, _):
@@ -157,22 +163,40 @@ def adds_strict_without_default(plan, _):
     return any("NOT" in it and "DEFAULT" not in it for it in added)
 
 
-def rows_have_odd_literals(plan, difference):
-    return difference.theirs == "[]" and any(odd_literals(row) or ends_in_blanks(row) for row in plan.rows)
+def rows_are_taken(difference):
+    return difference.theirs == "[]"
 
 
-def null_meets_strict(_, difference):
-    return difference.theirs.split(" ")[0] in ("1265", "1138")
+def repeats_a_name(plan, difference):
+    """The text has two faults: a name stands twice, and the server names the other."""
+    listed = items(plan.create)[0]
+    named = [it[0].name() for it in listed if it and not it[0].is_word("PRIMARY", "UNIQUE", "KEY", "INDEX")]
+    primaries = sum(1 for it in listed for word in it if word.is_word("PRIMARY"))
+    return difference.theirs in ("1064", "1067", "1072") and (len(set(named)) < len(named) or primaries > 1)
 
 
+def repeats_in_key(plan, difference):
+    keys = [it for it in [*items(plan.create)[0], *clauses(plan.alter)] if any(word.is_word("KEY", "INDEX", "UNIQUE") for word in it)]
+    lists = [names_in_parentheses(it) for it in keys]
+    return difference.theirs == "1060" and any(len(set(listed)) < len(listed) for listed in lists)
+
+
+def drops_primary_by_name(plan, _):
+    return "`PRIMARY`" in plan.alter.upper()
+
+
+LEFT_OUT_RULE = "a kind, a length or a word of MySQL's is left out"
+LITERAL_RULE = "a literal is of its column's kind"
+CUT_RULE = "nothing is cut, not even blanks at a text's end"
 OWN = [
-    Own("a kind, a length or a word of MySQL's is left out of CREATE TABLE", ("create",), (10, 11), is_left_out_of_create),
-    Own("a kind, a length or a word of MySQL's is left out of ALTER", ("alter",), (20,), is_left_out_of_alter),
-    Own("a literal is of its column's kind: bytes for VARBINARY alone, a text in an integer column sign and digits", ("create",), (19,), lambda plan, _: odd_literals(plan.create)),
-    Own("a literal is of its column's kind: bytes for VARBINARY alone, a text in an integer column sign and digits", ("alter",), (27,), lambda plan, _: odd_literals(plan.alter)),
-    Own("a text is never cut, not even blanks at its end", ("create",), (19,), lambda plan, _: ends_in_blanks(plan.create)),
-    Own("a text is never cut, not even blanks at its end", ("alter",), (27,), lambda plan, _: ends_in_blanks(plan.alter)),
-    Own("a row's literals are of their columns' kinds and never cut", ("rows",), (60,), rows_have_odd_literals),
+    Own(LEFT_OUT_RULE, ("create",), (10, 11), is_left_out_of_create),
+    Own(LEFT_OUT_RULE, ("alter",), (20,), is_left_out_of_alter),
+    Own(LITERAL_RULE, ("create",), (19,), lambda plan, _: odd_literals(plan.create)),
+    Own(LITERAL_RULE, ("alter",), (27,), lambda plan, _: odd_literals(plan.alter)),
+    Own(CUT_RULE, ("create",), (19,), lambda plan, _: ends_in_blanks(plan.create)),
+    Own(CUT_RULE, ("alter",), (27,), lambda plan, _: ends_in_blanks(plan.alter)),
+    Own(LITERAL_RULE, ("rows",), (60,), lambda plan, difference: rows_are_taken(difference) and any(odd_literals(row) for row in plan.rows)),
+    Own(CUT_RULE, ("rows",), (60,), lambda plan, difference: rows_are_taken(difference) and any(ends_in_blanks(row) for row in plan.rows)),
     Own("a column of a unique key isn't dropped", ("alter",), (23,), drops_unique_column),
     Own("a column of a unique key keeps its family of kinds", ("alter",), (24,), converts_unique_column),
     Own("no unique key is added", ("alter",), (25,), lambda plan, _: has_word(plan.alter, "UNIQUE")),
@@ -182,7 +206,10 @@ OWN = [
     Own("the table keeps its name", ("alter",), (29,), lambda plan, _: re.search(r"(?i)RENAME (TO|AS)", plan.alter)),
     Own("an integer may become a text, a text bytes, and nothing back", ("alter",), (31,), converts_between_families),
     Own("other clauses are left out", ("alter",), (31,), begins_otherwise),
-    Own("a null that meets NOT NULL in an ALTER is 1048", ("unfit",), (1048,), null_meets_strict),
+    Own("each table has a clustered key", ("create",), (14,), lambda plan, _: not Known(plan.create).clustered),
+    Own("a key may name one column twice", ("create", "alter"), (0,), repeats_in_key),
+    Own("of several faults the first by a fixed order is named", ("create",), (12,), repeats_a_name),
+    Own("the PRIMARY KEY has no name", ("alter",), (21,), drops_primary_by_name),
 ]
 
 
@@ -200,11 +227,30 @@ class Rephrasing:
         return self.rephrase(plan)
 
 
+def as_copied(plan):
+    listed = [it for it in clauses(plan.alter) if it]
+    return dataclasses.replace(plan, steps=[plan.alter], carried=carried(plan.create, listed), order=Known(plan.create).clustered)
+
+
 def clause_by_clause(plan):
     listed = [it for it in clauses(plan.alter) if it]
     if len(listed) < 2:
         return None
-    return dataclasses.replace(plan, steps=[joined(it) for it in listed])
+    return dataclasses.replace(as_copied(plan), steps=[joined(it) for it in listed])
+
+
+def carried(create, listed):
+    """The columns that an ALTER keeps: each by its new name and its old one."""
+    old_names = {name: name for name in Known(create).families}
+    for clause in listed:
+        rest = [it.name() for it in clause[1:] if not it.is_word("COLUMN")] + [None, None]
+        if clause[0].is_word("DROP"):
+            old_names.pop(rest[0], None)
+        elif clause[0].is_word("CHANGE") and rest[0] in old_names:
+            old_names[rest[1]] = old_names.pop(rest[0])
+        elif clause[0].is_word("RENAME") and rest[0] in old_names:
+            old_names[rest[2]] = old_names.pop(rest[0])
+    return list(old_names.items())
 
 
 def without_collation(plan):
@@ -227,23 +273,38 @@ def keys_as_texts(plan):
     return dataclasses.replace(plan, clients=clients) if clients != plan.clients else None
 
 
-RESERVED = "RANK GROUPS ORDER SELECT INTERVAL RANGE KEY GROUP TO".split()
+def with_two_keys(plan):
+    """A column's UNIQUE beside its PRIMARY KEY as an item of its own."""
+    listed, behind = items(plan.create)
+    texts, both = [], False
+    for item in listed:
+        is_both = len([it for it in item if it.is_word("PRIMARY")]) == len([it for it in item[1:] if it.is_word("UNIQUE")]) == 1
+        both = both or is_both
+        plain = re.sub(r"(?i) UNIQUE( KEY)?(?= |$)", "", joined(item), count=1) if is_both else joined(item)
+        texts += [plain, f"UNIQUE ({item[0].text})"] if is_both else [plain]
+    create = f"CREATE TABLE t ({', '.join(texts)}) {joined(behind)}"
+    return dataclasses.replace(plan, create=create) if both else None
+
+
+# Words that MySQL reserves and that are no keyword of the model's texts.
+RESERVED = "RANK GROUPS ORDER SELECT INTERVAL RANGE".split()
 
 
 def with_backquotes(plan):
-    """Every name that MySQL reserves, where it stands in no place of a keyword."""
-
     def quoted(text):
-        listed = words(text)
-        return " ".join(f"`{it.text}`" if it.is_word(*RESERVED[:6]) else it.text for it in listed)
+        return " ".join(f"`{it.text}`" if it.is_word(*RESERVED) else it.text for it in words(text))
 
-    other = dataclasses.replace(plan, create=quoted(plan.create), alter=quoted(plan.alter))
-    return other if f"`{'` `'.join(RESERVED)}`" and (other.create.count("`"), other.alter.count("`")) != (plan.create.count("`"), plan.alter.count("`")) else None
+    if not has_word(f"{plan.create} {plan.alter}", *RESERVED):
+        return None
+    return dataclasses.replace(plan, create=quoted(plan.create), alter=quoted(plan.alter))
 
 
+# The texts are said in other words first, and then taken in pieces.
 REPHRASINGS = [
-    Rephrasing("an ALTER's clauses are taken from left to right", clause_by_clause),
     Rephrasing("texts compare by their bytes, whatever COLLATE says", without_collation),
     Rephrasing("a number is compared with a text as its decimal text", keys_as_texts),
     Rephrasing("no word is reserved", with_backquotes),
+    Rephrasing("MariaDB makes one key of UNIQUE and PRIMARY KEY behind one column", with_two_keys),
+    Rephrasing("a row that an ALTER can't convert gets the number that an INSERT gets", as_copied),
+    Rephrasing("an ALTER's clauses are taken from left to right", clause_by_clause),
 ]

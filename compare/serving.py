@@ -5,6 +5,8 @@ from wire import Ok, Refused
 
 COLUMN_OF_REFUSAL = re.compile(r"olumn [`']?(?:[^`'.]*[`']?\.[`']?)*([^`']*)[`'] at row")
 
+NULL_COLUMN = re.compile(r"Column '([^']*)' cannot be null")
+
 
 class Served:
     """None stands where a step wasn't reached."""
@@ -55,6 +57,14 @@ def answer_of(answer):
     return "rows", sorted(printed_row(row) for row in answer.rows)
 
 
+def refusal_of(answer):
+    """The number of a refusal, and the column that it names."""
+    if not isinstance(answer, Refused):
+        return 0, None
+    column = COLUMN_OF_REFUSAL.search(answer.text)
+    return answer.number, column.group(1) if column else (NULL_COLUMN.search(answer.text) or [None, None])[1]
+
+
 def number_of(answer):
     return answer.number if isinstance(answer, Refused) else 0
 
@@ -89,10 +99,10 @@ class Bench:
             served.rows_refused += [(place, number)] if number else []
         for client, place, line in plan.turns():
             served.answers[client, place] = answer_of(self.session.ask(line))
-        self.session.ask("ROLLBACK")
-        served.copied, served.column = self.alter(plan)
+        served.copied, served.column = self.alter(plan) if plan.carried is None else self.copy(plan)
         left = self.session.ask("SELECT * FROM t")
-        served.columns, served.rows = left.names, sorted(printed_row(row) for row in left.rows)
+        if not isinstance(left, Refused):
+            served.columns, served.rows = left.names, sorted(printed_row(row) for row in left.rows)
         return served
 
     def create(self, database, plan):
@@ -105,9 +115,21 @@ class Bench:
         for text in plan.alters():
             answer = self.session.ask(text)
             if isinstance(answer, Refused):
-                column = COLUMN_OF_REFUSAL.search(answer.text)
-                return answer.number, column.group(1) if column else None
+                return refusal_of(answer)
         return 0, None
+
+    def copy(self, plan):
+        """The ALTER of an empty copy of the table, and an INSERT of its rows there: all of it, or nothing."""
+        self.session.need("RENAME TABLE t TO old")
+        self.session.need("CREATE TABLE t LIKE old")
+        refused = self.alter(plan)
+        if not refused[0]:
+            into, of = (named(pair[place] for pair in plan.carried) for place in (0, 1))
+            refused = refusal_of(self.session.ask(f"INSERT INTO t ({into}) SELECT {of} FROM old ORDER BY {named(plan.order)}"))
+        if refused[0]:
+            self.session.need("DROP TABLE IF EXISTS t")
+            self.session.need("RENAME TABLE old TO t")
+        return refused
 
     def shape(self):
         """Of the table `t`, which has no rows, and none afterwards."""
@@ -127,7 +149,7 @@ class Bench:
     def defaults(self, columns):
         """What each column stores where nothing is said."""
         needed = [(name, column_type) for name, column_type, nullable, default in columns if default is None and nullable == "NO"]
-        names = ", ".join(f"`{name}`" for name, _ in needed)
+        names = named(name for name, _ in needed)
         values = ", ".join("''" if column_type.startswith("var") else "0" for _, column_type in needed)
         self.session.need(f"INSERT INTO t ({names}) VALUES ({values})")
         row = self.session.need("SELECT * FROM t").rows[0]
@@ -142,6 +164,10 @@ class Bench:
             name, common, column = (row[place] for place in at)
             found.setdefault((name, common), []).append(f"`{column}`")
         return [key_text(name, int(common), columns) for (name, common), columns in found.items()]
+
+
+def named(names):
+    return ", ".join(f"`{it}`" for it in names)
 
 
 def text_of(value):
