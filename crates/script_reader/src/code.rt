@@ -1,0 +1,156 @@
+//! Why a statement or a script is refused.
+
+ghost use Rattle.std.specs.Prelude.{◌≡◌};
+
+use std::alloc::{AllocError, AllocFailed};
+use thiserror::Error;
+
+/// Why a line's words are refused, each with its number.
+#[derive(Clone, Copy, Debug, PartialEq, Eq)]
+pub enum StatementCode {
+    /// 41: the words are no statement as this program reads it.
+    Syntax,
+    /// 42: the line has what MySQL has and this program leaves out.
+    Scope,
+}
+
+impl StatementCode {
+    ghost use Rattle.script_reader.specs.Codes.{statement_number};
+
+    /// The refusal's number.
+    pub fn number(self) -> u16
+        ensures { result ≡ statement_number self }
+    {
+        match self {
+            StatementCode::Syntax => 41,
+            StatementCode::Scope => 42,
+        }
+    }
+}
+
+/// Why a line of a script is refused, each with its number.
+#[derive(Clone, Copy, Debug, PartialEq, Eq)]
+pub enum ScriptCode {
+    /// 40: the line has an open quote, an odd character or too long a number.
+    Word,
+    /// 41 and 42: its words are refused.
+    Statement(StatementCode),
+    /// 43: BEGIN stands inside a transaction.
+    BeginInside,
+    /// 44: COMMIT or ROLLBACK stands outside a transaction.
+    EndOutside,
+    /// 45: it is the last line, and leaves a transaction open.
+    LeftOpen,
+    /// 46: it names one of the tool's tables.
+    ToolTable,
+}
+
+impl ScriptCode {
+    ghost use Rattle.script_reader.specs.Codes.{script_number};
+
+    /// The refusal's number.
+    pub fn number(self) -> u16
+        ensures { result ≡ script_number self }
+    {
+        match self {
+            ScriptCode::Word => 40,
+            ScriptCode::Statement(code) => code.number(),
+            ScriptCode::BeginInside => 43,
+            ScriptCode::EndOutside => 44,
+            ScriptCode::LeftOpen => 45,
+            ScriptCode::ToolTable => 46,
+        }
+    }
+}
+
+/// The refusal of a script: of its first line that is refused.
+#[derive(Clone, Copy, Debug, PartialEq, Eq)]
+pub struct ScriptRefusal {
+    /// Why it is refused.
+    pub code: ScriptCode,
+    /// The line's number in the text, from 1.
+    pub line: u32,
+}
+
+/// Why a line's words aren't read.
+#[derive(Debug, Drop, Error)]
+pub enum StatementFault {
+    /// They are refused.
+    #[error("the statement is refused: {0:?}")]
+    Refused(StatementCode),
+    /// There is no memory for what is read.
+    #[error("out of memory")]
+    Memory,
+}
+
+impl From<AllocError> for StatementFault {
+    ghost use Rattle.script_reader.specs.declared.code.StatementFault.TheVariants.{Memory};
+
+    ghost from_gives = { λ _ e. e ≡ Memory };
+
+    fn from(_error: AllocError) -> StatementFault {
+        StatementFault::Memory
+    }
+}
+
+impl<T: Drop> From<AllocFailed<T>> for StatementFault {
+    ghost use Rattle.script_reader.specs.declared.code.StatementFault.TheVariants.{Memory};
+
+    ghost from_gives = { λ _ e. e ≡ Memory };
+
+    fn from(_error: AllocFailed<T>) -> StatementFault {
+        StatementFault::Memory
+    }
+}
+
+/// Why a line isn't read.
+#[derive(Debug, Drop, Error)]
+pub enum LineFault {
+    /// It is refused.
+    #[error("the line is refused: {0:?}")]
+    Refused(ScriptCode),
+    /// There is no memory for what is read.
+    #[error("out of memory")]
+    Memory,
+}
+
+impl From<AllocError> for LineFault {
+    ghost use Rattle.script_reader.specs.declared.code.LineFault.TheVariants.{Memory};
+
+    ghost from_gives = { λ _ e. e ≡ Memory };
+
+    fn from(_error: AllocError) -> LineFault {
+        LineFault::Memory
+    }
+}
+
+/// Why a script isn't read.
+#[derive(Debug, Drop, Error)]
+pub enum ScriptFault {
+    /// It is refused.
+    #[error("the script is refused: {0:?}")]
+    Refused(ScriptRefusal),
+    /// There is no memory for what is read.
+    #[error("out of memory")]
+    Memory,
+}
+
+impl From<AllocError> for ScriptFault {
+    ghost use Rattle.script_reader.specs.declared.code.ScriptFault.TheVariants.{Memory};
+
+    ghost from_gives = { λ _ e. e ≡ Memory };
+
+    fn from(_error: AllocError) -> ScriptFault {
+        ScriptFault::Memory
+    }
+}
+
+impl<T: Drop> From<AllocFailed<T>> for ScriptFault {
+    ghost use Rattle.script_reader.specs.declared.code.ScriptFault.TheVariants.{Memory};
+
+    ghost from_gives = { λ _ e. e ≡ Memory };
+
+    fn from(_error: AllocFailed<T>) -> ScriptFault {
+        ScriptFault::Memory
+    }
+}

@@ -1,0 +1,74 @@
+//! Single words of a statement, at the front of what is left of its line.
+
+ghost use Rattle.script_reader.specs.Codes.{Reads};
+ghost use Rattle.script_reader.specs.Pieces.{keyword_at, sign_at, name_at, literal_at, unless_null, operand_at};
+
+use crate::code::{StatementCode, StatementFault};
+use gho_values::{Name, Value};
+use std::alloc::Global;
+use table_words::{SchemaFault, Token};
+
+/// What a word that doesn't fit is refused with.
+pub const MISTAKE: StatementFault = StatementFault::Refused(StatementCode::Syntax);
+
+/// What stands behind this keyword, which has to be the first word.
+pub fn keyword_at<'a>(keyword: &str, words: &'a [Token]) -> Result<&'a [Token], StatementFault>
+    ensures { Reads (λ rest. rest.now) result (keyword_at keyword.now words.now) }
+{
+    match table_words::keyword_at(keyword, words) {
+        Ok(rest) => Ok(rest),
+        Err(SchemaFault::Refused(_)) => Err(MISTAKE),
+        Err(SchemaFault::Memory) => Err(StatementFault::Memory),
+    }
+}
+
+/// What stands behind this sign, which has to be the first word.
+pub fn sign_at<'a>(sign: &str, words: &'a [Token]) -> Result<&'a [Token], StatementFault>
+    ensures { Reads (λ rest. rest.now) result (sign_at sign.now words.now) }
+{
+    match table_words::sign_at(sign, words) {
+        Ok(rest) => Ok(rest),
+        Err(SchemaFault::Refused(_)) => Err(MISTAKE),
+        Err(SchemaFault::Memory) => Err(StatementFault::Memory),
+    }
+}
+
+/// The name at the front, and what stands behind it.
+pub fn name_at(alloc: Global, words: &[Token]) -> Result<(Name, &[Token]), StatementFault>
+    ensures { Reads (λ name. (name.0, name.1.now)) result (name_at words.now) }
+{
+    match table_words::name_at(alloc, words) {
+        Ok(read) => Ok(read),
+        Err(SchemaFault::Refused(_)) => Err(MISTAKE),
+        Err(SchemaFault::Memory) => Err(StatementFault::Memory),
+    }
+}
+
+/// The literal at the front, and what stands behind it.
+pub fn literal_at(alloc: Global, words: &[Token]) -> Result<(Value, &[Token]), StatementFault>
+    ensures { Reads (λ value. (value.0, value.1.now)) result (literal_at words.now) }
+{
+    match table_words::literal_at(alloc, words) {
+        Ok(read) => Ok(read),
+        Err(SchemaFault::Refused(_)) => Err(MISTAKE),
+        Err(SchemaFault::Memory) => Err(StatementFault::Memory),
+    }
+}
+
+fn unless_null(value: Value, rest: &[Token]) -> Result<(Value, &[Token]), StatementFault>
+    ensures { Reads (λ value. (value.0, value.1.now)) result (unless_null value rest.now) }
+{
+    match value {
+        Value::Null => Err(MISTAKE),
+        value => Ok((value, rest)),
+    }
+}
+
+/// The literal at the front, which isn't NULL, and what stands behind it.
+#[tactic(auto, unfolding(crate::specs::Pieces::operand_at))]
+pub fn operand_at(alloc: Global, words: &[Token]) -> Result<(Value, &[Token]), StatementFault>
+    ensures { Reads (λ value. (value.0, value.1.now)) result (operand_at words.now) }
+{
+    let (value, rest) = literal_at(alloc, words)?;
+    unless_null(value, rest)
+}

@@ -1,4 +1,0 @@
-pub mod LineFaults
-pub mod Reading
-pub mod Scripts
-pub mod Statements
