@@ -1,6 +1,7 @@
 -- The scripts of a plan's clients. This project's rule.
 use Rattle.std.specs.Prelude.{ℕ, ◌+◌, Bool, false, ◌&&◌, nat_lt, if◌then◌else◌, List, [], ◌∷◌, length, Option, Some, None}
 use Rattle.std.specs.List.{list_all, slice_get, sum_by}
+use Rattle.std.specs.Result.{result_ok}
 use Rattle.std.specs.Str.{bytes_eq}
 use Rattle.toml.specs.Data.{Data, Items, no_items, item, as_str}
 use Rattle.gho_schema.specs.declared.schema.Schema.{Schema}
@@ -16,7 +17,7 @@ use Rattle.script_text.specs.declared.statement.Statement.TheVariants as stateme
 use Rattle.script_text.specs.declared.statement.Condition.{Condition}
 use Rattle.script_text.specs.declared.statement.Condition.TheVariants.{Equal}
 use Rattle.script_text.specs.declared.statement.Shown.TheVariants as shown
-use Rattle.script_text.specs.Scripts.{script_of}
+use Rattle.script_reader.specs.Scripts.{script_of}
 use Rattle.plan_text.specs.declared.clients.TheConstants.{STATEMENT_LIMIT}
 
 -- the column of this name stands at this place
@@ -53,7 +54,7 @@ built_script schema script = if list_all (λ line. is_built_word schema line.wor
 unfoldable pub client_of : Schema → Data → Option (List ScriptLine)
 client_of schema value = do
   text ← as_str value
-  script ← script_of text
+  script ← result_ok (script_of [] text)
   built_script schema script
 
 -- the scripts that the items are

@@ -3,8 +3,8 @@ use Rattle.gho_schema.specs.declared.keyed.PutFault.{PutFault}
 use Rattle.gho_schema.specs.declared.keyed.PutFault.TheVariants as put
 use Rattle.alter_schema.specs.declared.code.AlterFault.{AlterFault}
 use Rattle.alter_schema.specs.declared.code.AlterFault.TheVariants as alter
-use Rattle.script_text.specs.declared.fault.LineFault.{LineFault}
-use Rattle.script_text.specs.declared.fault.LineFault.TheVariants as line
+use Rattle.script_reader.specs.declared.code.ScriptFault.{ScriptFault}
+use Rattle.script_reader.specs.declared.code.ScriptFault.TheVariants as script
 use Rattle.plan_text.specs.declared.fault.Refusal.TheVariants.{Alter, NotBuilt}
 use Rattle.plan_text.specs.declared.fault.PlanFault.{PlanFault}
 use Rattle.plan_text.specs.declared.fault.PlanFault.TheVariants.{Refused, Memory}
@@ -17,6 +17,6 @@ abbrev pub of_put : PutFault → PlanFault
 of_put put.Repeated = Refused NotBuilt
 of_put put.Memory = Memory
 
-abbrev pub of_line : LineFault → PlanFault
-of_line line.NotBuilt = Refused NotBuilt
-of_line line.Memory = Memory
+abbrev pub of_script : ScriptFault → PlanFault
+of_script (script.Refused refusal) = Refused NotBuilt
+of_script script.Memory = Memory

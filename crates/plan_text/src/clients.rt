@@ -9,9 +9,10 @@ ghost use Rattle.plan_text.specs.Clients.{is_column, is_key_column, is_on_key, i
 
 use crate::fault::{NOT_BUILT, PlanFault};
 use gho_schema::{Column, Schema, same_name};
-use gho_values::{Name, Sequence};
+use gho_values::{Name, Names, Sequence};
 use plan_words::Scripts;
-use script_text::{Condition, Script, ScriptLine, ScriptWord, Shown, Statement, read_script};
+use script_reader::read_script;
+use script_text::{Condition, Script, ScriptLine, ScriptWord, Shown, Statement};
 use std::alloc::Global;
 use toml::Value;
 
@@ -114,7 +115,8 @@ fn client_of(alloc: Global, schema: &Schema, item: &Value) -> Result<Script, Pla
     let Some(text) = item.as_str() else {
         return Err(NOT_BUILT);
     };
-    let script = read_script(alloc, text)?;
+    let no_tools: Names = Sequence::new(alloc);
+    let script = read_script(alloc, text, no_tools.as_slice())?;
     built_script(schema, script)
 }
 

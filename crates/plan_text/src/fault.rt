@@ -5,7 +5,7 @@ ghost use Rattle.plan_text.specs.Refusals.{schema_name, alter_name};
 
 use alter_schema::{AlterCode, AlterFault};
 use gho_schema::PutFault;
-use script_text::LineFault;
+use script_reader::ScriptFault;
 use std::alloc::{AllocError, AllocFailed};
 use table_words::SchemaCode;
 use thiserror::Error;
@@ -168,15 +168,15 @@ impl From<PutFault> for PlanFault {
     }
 }
 
-impl From<LineFault> for PlanFault {
-    ghost use Rattle.plan_text.specs.PlanFaults.{of_line};
+impl From<ScriptFault> for PlanFault {
+    ghost use Rattle.plan_text.specs.PlanFaults.{of_script};
 
-    ghost from_gives = { λ fault e. e ≡ of_line fault };
+    ghost from_gives = { λ fault e. e ≡ of_script fault };
 
-    fn from(fault: LineFault) -> PlanFault {
+    fn from(fault: ScriptFault) -> PlanFault {
         match fault {
-            LineFault::NotBuilt => PlanFault::Refused(Refusal::NotBuilt),
-            LineFault::Memory => PlanFault::Memory,
+            ScriptFault::Refused(_) => PlanFault::Refused(Refusal::NotBuilt),
+            ScriptFault::Memory => PlanFault::Memory,
         }
     }
 }

@@ -14,5 +14,5 @@ pub use code::{ScriptCode, ScriptFault, ScriptRefusal, StatementCode, StatementF
 pub use scripts::read_script;
 pub use statements::read_statement;
 
-//#[cfg(test)]
-//mod tests;
+#[cfg(test)]
+mod tests;

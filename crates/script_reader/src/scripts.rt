@@ -154,11 +154,7 @@ fn numbered_line(
     }
 }
 
-fn push_line(
-    script: &mut Script,
-    number: u32,
-    asked: Option<ScriptWord>,
-) -> Result<(), AllocError>
+fn push_line(script: &mut Script, number: u32, asked: Option<ScriptWord>) -> Result<(), AllocError>
     ensures { OnOk result (script.new ≡ script.old ++ numbered number asked) }
 {
     match asked {
@@ -174,8 +170,14 @@ fn lines_from(alloc: Global, tools: &[Name], texts: &[&str]) -> Result<Script, S
     let mut is_open = false;
     let mut number: u32 = 1;
     for (i, text) in texts.iter().enumerate() {
-        let (asked, still_open) =
-            numbered_line(alloc, tools, &texts[i + 1..], is_open, number, text)?;
+        let (asked, still_open) = numbered_line(
+            alloc,
+            tools,
+            &texts[i + 1..],
+            is_open,
+            number,
+            text,
+        )?;
         push_line(&mut script, number, asked)?;
         is_open = still_open;
         number = number.saturating_add(1);

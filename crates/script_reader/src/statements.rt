@@ -185,7 +185,13 @@ fn ended(asked: ScriptWord, rest: &[Token]) -> Result<ScriptWord, StatementFault
 {
     match rest {
         [] => Ok(asked),
-        [word] => { if word.is_sign(";") { Ok(asked) } else { Err(MISTAKE) } }
+        [word] => {
+            if word.is_sign(";") {
+                Ok(asked)
+            } else {
+                Err(MISTAKE)
+            }
+        }
         [_, _, ..] => Err(MISTAKE),
     }
 }

@@ -7,7 +7,8 @@ mod transactions;
 use crate::plain::{PlainTable, PlainTables};
 use gho_schema::{Column, Index, Schema};
 use gho_values::{Chars, Kind, Name, Row, Rows, Sequence, Text, Value, print_row};
-use script_text::{LineFault, ScriptWord, read_script};
+use script_reader::{ScriptFault, read_script};
+use script_text::ScriptWord;
 use std::alloc::{AllocError, Global};
 
 fn column_of(alloc: Global, name: &str) -> Result<Column, AllocError> {
@@ -62,14 +63,14 @@ fn table_of(alloc: Global, names: &[&str], rows: &[&[i128]]) -> Result<PlainTabl
 }
 
 /// What the line of a script asks for.
-fn word_of(alloc: Global, text: &str) -> Result<ScriptWord, LineFault> {
+fn word_of(alloc: Global, text: &str) -> Result<ScriptWord, ScriptFault> {
     match text {
         "BEGIN" => Ok(ScriptWord::Begin),
         "COMMIT" => Ok(ScriptWord::Commit),
         "ROLLBACK" => Ok(ScriptWord::Rollback),
-        _ => match read_script(alloc, text)?.into_vec().pop() {
+        _ => match read_script(alloc, text, &[])?.into_vec().pop() {
             Some(line) => Ok(line.word),
-            None => Err(LineFault::NotBuilt),
+            None => Err(ScriptFault::Memory),
         },
     }
 }

@@ -9,7 +9,8 @@ use crate::server::Server;
 use gho_schema::{Column, Index, Schema};
 use gho_values::{Chars, Key, Keys, Kind, Name, Row, Rows, Sequence, Text, Value, print_row};
 use row_store::{Table, Tables};
-use script_text::{LineFault, ScriptWord, read_script};
+use script_reader::{ScriptFault, read_script};
+use script_text::ScriptWord;
 use server_words::{Answer, KeyRange, Limits, Request, Serve};
 use std::alloc::{AllocError, Global};
 use std::test::Fail;
@@ -71,11 +72,11 @@ fn server_of(alloc: Global, names: &[&str]) -> Result<Server, Fail>
 }
 
 /// The statement of this text.
-fn request_of(alloc: Global, text: &str) -> Result<Request, LineFault> {
-    let line = read_script(alloc, text)?.into_vec().pop();
-    match line.ok_or(LineFault::NotBuilt)?.word {
+fn request_of(alloc: Global, text: &str) -> Result<Request, ScriptFault> {
+    let line = read_script(alloc, text, &[])?.into_vec().pop();
+    match line.ok_or(ScriptFault::Memory)?.word {
         ScriptWord::Do(statement) => Ok(Request::Do(statement)),
-        _ => Err(LineFault::NotBuilt),
+        _ => Err(ScriptFault::Memory),
     }
 }
 
@@ -143,7 +144,7 @@ fn ask_line(
     session: u32,
     text: &str,
     told: &mut Text,
-) -> Result<(), LineFault> {
+) -> Result<(), ScriptFault> {
     let request = request_of(alloc, text)?;
     Ok(ask(alloc, server, session, request, told)?)
 }

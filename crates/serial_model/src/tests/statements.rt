@@ -5,7 +5,8 @@ use crate::plain::PlainTables;
 use crate::statement::says;
 use event_codec::{Change, RowEvent};
 use gho_values::{Name, Text, print_row};
-use script_text::{LineFault, ScriptWord, Statement};
+use script_reader::ScriptFault;
+use script_text::{ScriptWord, Statement};
 use server_words::{Answer, Said};
 use std::alloc::{AllocError, Global};
 use std::test::Fail;
@@ -56,10 +57,10 @@ fn told(alloc: Global, said: &Said) -> Result<Text, AllocError> {
 }
 
 /// What the statement of this text says of the tables.
-fn told_of(alloc: Global, tables: &PlainTables, text: &str) -> Result<Text, LineFault> {
+fn told_of(alloc: Global, tables: &PlainTables, text: &str) -> Result<Text, ScriptFault> {
     match word_of(alloc, text)? {
         ScriptWord::Do(statement) => Ok(told(alloc, &says(alloc, tables, &statement)?)?),
-        _ => Err(LineFault::NotBuilt),
+        _ => Err(ScriptFault::Memory),
     }
 }
 

@@ -3,13 +3,14 @@
 use super::{table_of, tell_rows, tell_tables, word_of};
 use crate::runs::{Ran, alone, alone_in_order};
 use gho_values::{Sequence, Text};
-use script_text::{LineFault, Side};
+use script_reader::ScriptFault;
+use script_text::Side;
 use server_words::{EndedTxn, Mark, Reply, TxnEnd, TxnLine};
 use std::alloc::{AllocError, Global};
 use std::test::Fail;
 
 /// A line that was answered.
-fn line_of(alloc: Global, text: &str) -> Result<TxnLine, LineFault> {
+fn line_of(alloc: Global, text: &str) -> Result<TxnLine, ScriptFault> {
     Ok(TxnLine {
         word: word_of(alloc, text)?,
         mark: Mark::Answered,
@@ -17,7 +18,12 @@ fn line_of(alloc: Global, text: &str) -> Result<TxnLine, LineFault> {
 }
 
 /// A transaction of lines that were answered, but for the last, which has this mark.
-fn txn_of(alloc: Global, texts: &[&str], last: Mark, ended: TxnEnd) -> Result<EndedTxn, LineFault> {
+fn txn_of(
+    alloc: Global,
+    texts: &[&str],
+    last: Mark,
+    ended: TxnEnd,
+) -> Result<EndedTxn, ScriptFault> {
     let mut lines = Sequence::new(alloc);
     for (place, text) in texts.iter().enumerate() {
         let mut line = line_of(alloc, text)?;

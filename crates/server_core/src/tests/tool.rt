@@ -5,7 +5,7 @@ use crate::server::Server;
 use alter_image::{ColumnMap, MapColumn, Origin};
 use gho_values::{Bound, Name, Sequence, Span, Text, Value};
 use row_store::{Pair, Pairs};
-use script_text::LineFault;
+use script_reader::ScriptFault;
 use server_words::{Request, Serve};
 use std::alloc::{AllocError, Global};
 use std::test::Fail;
@@ -102,7 +102,7 @@ fn migrate(alloc: Global, server: &mut Server, tool: u32) -> Result<Text, AllocE
     Ok(told)
 }
 
-fn fill(alloc: Global, server: &mut Server, client: u32) -> Result<(), LineFault> {
+fn fill(alloc: Global, server: &mut Server, client: u32) -> Result<(), ScriptFault> {
     let mut told = Text::new(alloc);
     for text in [
         "INSERT INTO t VALUES (5)",
