@@ -8,6 +8,3 @@ mod replay;
 pub use check::{altered_plan, altered_schema};
 pub use migration_core::{End, Left};
 pub use replay::replay_plan;
-
-#[cfg(test)]
-mod tests;

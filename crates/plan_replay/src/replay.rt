@@ -11,7 +11,7 @@ use server_words::Limits;
 use std::alloc::{AllocError, Global};
 
 /// How often a wait is polled before it times out, where the plan says nothing.
-pub(crate) const LIMITS: Limits = Limits {
+const LIMITS: Limits = Limits {
     client_wait: 20_000,
     tool_wait: 2_000,
 };

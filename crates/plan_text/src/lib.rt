@@ -13,6 +13,3 @@ pub const PLAN_LIMIT: usize = 16_777_216;
 
 pub use document::read_plan;
 pub use fault::{PlanFault, Refusal};
-
-#[cfg(test)]
-mod tests;

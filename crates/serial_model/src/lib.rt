@@ -1,5 +1,6 @@
 //! What statements say and what transactions do one after the other, in plain slow code over lists. It has no server,
-//! no locks and no sessions: whoever wants to know what a server should have answered asks here.
+//! no locks and no sessions. Its code of statements is nearly the server's, and both meet one definition: comparing the two
+//! shows that they were compiled to do the same.
 #![tactic(auto)]
 
 mod changes;
@@ -16,6 +17,3 @@ mod stored;
 pub use plain::{PlainTable, PlainTables, plain_tables};
 pub use runs::{Ran, alone, alone_in_order};
 pub use statement::says;
-
-#[cfg(test)]
-mod tests;

@@ -11,6 +11,3 @@ mod statement;
 mod view;
 
 pub use server::Server;
-
-#[cfg(test)]
-mod tests;
