@@ -1,6 +1,6 @@
 //! The journal of a run: what was asked in each turn, and the answer.
 
-ghost use Rattle.std.specs.Prelude.{◌≡◌, ◌==◌, ◌≤◌, ◌-◌, length, slice_get, Some, IfOk, [], ◌∷◌, ◌++◌, OnOk, OnErr};
+ghost use Rattle.std.specs.Prelude.{◌≡◌, ◌==◌, ◌≤◌, ◌-◌, length, slice_get, option_map, Some, IfOk, [], ◌∷◌, ◌++◌, OnOk, OnErr};
 
 use crate::answer::Answer;
 use crate::request::Request;
@@ -88,6 +88,8 @@ impl Model for Journal {
 }
 
 impl Journal {
+    ghost use Rattle.plain_server.specs.Entries.{answer_at};
+
     /// The journal without turns. It takes no memory.
     pub fn new(alloc: Global) -> Journal
         ensures { result ≡ [] }
@@ -127,6 +129,17 @@ impl Journal {
         ensures { slice_get self.now (turn - 1) ≡ Some result.now }
     {
         &self.entries.as_slice()[(turn - 1) as usize]
+    }
+
+    /// The answer in the turn of this number, from 1; none where the journal has no such turn.
+    #[tactic(auto, unfolding(crate::specs::Entries::answer_at))]
+    pub fn answer_at(&self, turn: u64) -> Option<&Answer>
+        ensures { option_map (λ answer. answer.now) result ≡ answer_at self.now turn }
+    {
+        match self.entries.as_slice().get(turn.saturating_sub(1) as usize) {
+            Some(entry) => Some(&entry.answer),
+            None => None,
+        }
     }
 
     /// All turns in order.
