@@ -10,6 +10,3 @@ pub use clause::{Clause, Clauses, NewColumn, Spot};
 pub use image_fault::{ImageFault, UnfitAt};
 pub use imaging::image;
 pub use map::{ColumnMap, MapColumn, Origin};
-
-#[cfg(test)]
-mod tests;

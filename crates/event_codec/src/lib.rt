@@ -12,6 +12,3 @@ pub use event::{Change, Events, RowEvent};
 pub use fault::DecodeFault;
 pub use reading::decode;
 pub use spelling::{cost, encode};
-
-#[cfg(test)]
-mod tests;

@@ -11,6 +11,3 @@ pub use clustering::{are_not_null, clustered_key, clustered_place, may_cluster};
 pub use keyed::{KeyedRows, PutFault, key_of};
 pub use names::same_name;
 pub use schema::{Column, Columns, Index, Indexes, Places, Schema};
-
-#[cfg(test)]
-mod tests;

@@ -25,6 +25,3 @@ pub use span::{Bound, Span};
 pub use storing::{number_of, seek, store};
 pub use text::{Chars, Text};
 pub use value::{Bytes, Key, Keys, Row, Rows, Value};
-
-#[cfg(test)]
-mod tests;

@@ -10,6 +10,3 @@ mod waiting;
 
 pub use locks::MetaLocks;
 pub use request::Asked2;
-
-#[cfg(test)]
-mod tests;

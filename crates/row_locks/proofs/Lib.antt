@@ -1,3 +1,2 @@
 pub mod HeldLocks
-pub mod NumberLocks
 pub mod Refusers

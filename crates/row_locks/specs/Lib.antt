@@ -2,4 +2,3 @@ pub mod Granting
 pub mod Holding
 pub mod Laws
 pub mod Marks
-pub mod Numbers

@@ -8,6 +8,3 @@ mod refusing;
 
 pub use lock::{Asked2, HeldLock, Lock, LockSet};
 pub use locks::RowLocks;
-
-#[cfg(test)]
-mod tests;

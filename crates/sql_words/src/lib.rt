@@ -14,6 +14,3 @@ pub use laws::{
 };
 pub use reading::words;
 pub use word::{Word, WordClass, WordFault, Words};
-
-#[cfg(test)]
-mod tests;

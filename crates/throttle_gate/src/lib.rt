@@ -4,6 +4,3 @@
 mod throttle;
 
 pub use throttle::{Go, Throttle};
-
-#[cfg(test)]
-mod tests;

@@ -1,3 +1,0 @@
-//! What no clause says: worked images, and that each call succeeds.
-
-mod images;

@@ -1,0 +1,95 @@
+//! Runs the calls of the lower crates over the lines `call | input | answer` of the files of the folder `data`, and says
+//! of which the answer is another. The file `files` names the files.
+#![tactic(auto)]
+
+mod database_calls;
+mod events;
+mod images;
+mod line;
+mod name_lock_calls;
+mod reading;
+mod row_lock_calls;
+mod schemas;
+mod spans;
+mod table_calls;
+mod throttles;
+mod values;
+mod words;
+
+use crate::line::Line;
+use crate::reading::CallFault;
+use gho_values::Text;
+use std::alloc::{AllocError, Global};
+use std::{fs, io};
+
+/// What a call answers to its input.
+fn answer_of(alloc: Global, call: &str, input: &str) -> Result<Text, CallFault> {
+    let (subject, call) = call.split_once(' ').ok_or(CallFault::Unread)?;
+    match subject {
+        "value" => values::answer(alloc, call, input),
+        "span" => spans::answer(alloc, call, input),
+        "word" => words::answer(alloc, call, input),
+        "schema" => schemas::answer(alloc, call, input),
+        "image" => images::image_of(alloc, input),
+        "event" => events::decoded(alloc, input),
+        "table" => table_calls::answers(alloc, input),
+        "database" => database_calls::answers(alloc, input),
+        "row" => row_lock_calls::answers(alloc, input),
+        "name" => name_lock_calls::answers(alloc, input),
+        "throttle" => throttles::answer(alloc, input),
+        _ => Err(CallFault::Unread),
+    }
+}
+
+/// What the line's call answers, or that it could not be read.
+fn told_answer(alloc: Global, line: &Line<'_>) -> Result<Text, AllocError> {
+    match answer_of(alloc, line.call, line.input.as_str()) {
+        Ok(answer) => Ok(answer),
+        Err(CallFault::Memory) => Err(AllocError),
+        Err(CallFault::Unread) => {
+            let mut told = Text::new(alloc);
+            told.push_str("unread")?;
+            Ok(told)
+        }
+    }
+}
+
+/// Whether the line's call answers as it says. Where it doesn't, says what it answers.
+fn is_as_expected<R: Print + AllocGlobal>(rt: &R, text: &str) -> io::Result<bool> {
+    match Line::new(rt.alloc(), text)? {
+        None => {
+            println!(rt; "{text}\n    is no line")?;
+            Ok(false)
+        }
+        Some(line) => {
+            let answer = told_answer(rt.alloc(), &line)?;
+            let expected = answer.as_str() == line.answer.as_str();
+            if !expected {
+                println!(rt; "{text}\n    answers {}", answer.as_str())?;
+            }
+            Ok(expected)
+        }
+    }
+}
+
+/// Runs the lines of a file, but for those that are empty or begin with a number sign.
+fn run_lines<R: Print + AllocGlobal>(rt: &R, name: &str, text: &str) -> io::Result<()> {
+    let mut lines = 0u64;
+    let mut expected = 0u64;
+    for line in text.lines() {
+        if !line.is_empty() && !line.starts_with('#') {
+            lines = lines.saturating_add(1);
+            expected = expected.saturating_add(u64::from(is_as_expected(rt, line)?));
+        }
+    }
+    println!(rt; "{name}: {expected} of {lines} calls answer as expected")
+}
+
+fn main(rt: HostRuntime) -> io::Result<()> {
+    let names = fs::read_to_string(&rt, "files")?;
+    for name in names.lines() {
+        let text = fs::read_to_string(&rt, name)?;
+        run_lines(&rt, name, text.as_str())?;
+    }
+    Ok(())
+}

@@ -1,4 +1,0 @@
-//! Spellings worked out by hand, and damaged ones.
-
-mod refuses;
-mod spells;
