@@ -7,6 +7,3 @@ pub use laws::{
     altered_schemas_are_lawful, altered_tables_are_tables, altered_tables_keep_names,
     images_are_rows, images_keep_keys, read_clauses_write_kinds,
 };
-
-#[cfg(test)]
-mod tests;

@@ -4,6 +4,3 @@
 mod laws;
 
 pub use laws::{altered_schemas_are_declared, altered_schemas_are_read_again};
-
-#[cfg(test)]
-mod tests;

@@ -4,6 +4,3 @@
 mod laws;
 
 pub use laws::{printed_columns_are_read, printed_schemas_are_written, printed_schemas_have_words};
-
-#[cfg(test)]
-mod tests;

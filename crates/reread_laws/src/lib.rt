@@ -7,6 +7,3 @@ pub use laws::{
     printed_schemas_are_read_again, read_schemas_are_declared, read_schemas_are_read_again,
     read_schemas_can_print,
 };
-
-#[cfg(test)]
-mod tests;

@@ -4,6 +4,3 @@
 mod laws;
 
 pub use laws::read_schemas_are_lawful;
-
-#[cfg(test)]
-mod tests;

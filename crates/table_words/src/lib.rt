@@ -22,6 +22,3 @@ pub use pieces::{
 pub use scope::{is_no_item, misfit};
 pub use token::Token;
 pub use tokens::{TextWords, text_words};
-
-#[cfg(test)]
-mod tests;

@@ -6,6 +6,3 @@ mod literals;
 
 pub use laws::printed_values_are_read;
 pub use literals::literal;
-
-#[cfg(test)]
-mod tests;
