@@ -1,28 +1,16 @@
 -- Columns of different names, by pairs.
-use Rattle.std.proofs.Common.{◌≡◌, ℕ, zero, suc, Bool, true, false, not, ◌&&◌, ◌||◌, List, [], ◌∷◌, ◌++◌, Option, Some, None, refl, sym, ap, ◌∙◌, map}
+use Rattle.std.proofs.Common.{◌≡◌, ℕ, zero, suc, Bool, true, false, not, ◌||◌, List, [], ◌∷◌, ◌++◌, Option, Some, None, refl, sym, ap, ◌∙◌, map}
 use Rattle.std.specs.Prelude.{slice_set, is_some, position}
-use Rattle.std.specs.Char.{to_ascii_lowercase}
 use Rattle.std.specs.List.{insert, remove, list_any, AllByRecursion}
-use Rattle.std.specs.Str.{bytes_eq}
-use Rattle.std.proofs.lemmas.Slice.Eq.{bytes_eq-Decides}
 use Rattle.gho_schema.specs.declared.schema.Column.{Column}
 use Rattle.gho_schema.specs.Names.{same_name}
-use Rattle.schema_text.specs.Keys.{is_among, differ_from, names_differ}
-use Rattle.schema_laws.proofs.Lists.{position-some}
+use Rattle.schema_rules.specs.Names.{is_among, differ_from, names_differ}
+use Rattle.schema_rules.proofs.Lists.{position-some}
 use Rattle.alter_schema.specs.Columns.{column_place, has_column}
+use Rattle.std.proofs.lemmas.Bool.{or_parts, and_parts}
+use Rattle.schema_rules.proofs.SameNames.{other_name-turned}
 
 -- ---- names
-
-turned-by : (a b : List ℕ) (t : Bool) → same_name b a ≡ t → same_name a b ≡ false → t ≡ false
-unfolding same_name
-turned-by a b true e other =
-    let is : bytes_eq (map to_ascii_lowercase a) (map to_ascii_lowercase b) ≡ true = (bytes_eq-Decides (map to_ascii_lowercase a) (map to_ascii_lowercase b)).1 (sym ((bytes_eq-Decides (map to_ascii_lowercase b) (map to_ascii_lowercase a)).0 e)) in
-    sym is ∙ other
-turned-by a b false e other = refl
-
--- names that differ one way round do the other
-pub turned : (a b : List ℕ) → same_name a b ≡ false → same_name b a ≡ false
-turned a b other = turned-by a b (same_name b a) refl other
 
 -- ---- columns
 
@@ -55,7 +43,7 @@ module _ (P : Column → Type 0) where
 pub apart-insert : (xs : List Column) (i : ℕ) (v : Column) → AllByRecursion (IsNot v.name) xs → Apart xs → Apart (insert xs i v)
 apart-insert xs zero v other apart = (other, apart)
 apart-insert [] (suc i) v other apart = (tt, tt)
-apart-insert (x ∷ xs) (suc i) v other apart = (All-insert (IsNot x.name) xs i v (turned x.name v.name other.0) apart.0, apart-insert xs i v other.1 apart.1)
+apart-insert (x ∷ xs) (suc i) v other apart = (All-insert (IsNot x.name) xs i v (other_name-turned x.name v.name other.0) apart.0, apart-insert xs i v other.1 apart.1)
 
 pub apart-remove : (xs : List Column) (i : ℕ) → Apart xs → Apart (remove xs i)
 apart-remove [] zero apart = tt
@@ -67,7 +55,7 @@ apart-remove (x ∷ xs) (suc i) apart = (All-taken (IsNot x.name) xs i apart.0, 
 pub apart-set : (xs : List Column) (i : ℕ) (v : Column) → AllByRecursion (IsNot v.name) (remove xs i) → Apart xs → Apart (slice_set xs i v)
 apart-set [] i v other apart = tt
 apart-set (x ∷ xs) zero v other apart = (other, apart.1)
-apart-set (x ∷ xs) (suc i) v other apart = (All-set (IsNot x.name) xs i v (turned x.name v.name other.0) apart.0, apart-set xs i v other.1 apart.1)
+apart-set (x ∷ xs) (suc i) v other apart = (All-set (IsNot x.name) xs i v (other_name-turned x.name v.name other.0) apart.0, apart-set xs i v other.1 apart.1)
 
 -- ---- names that no column has
 
@@ -113,24 +101,20 @@ unfolding is_among
 among-end [] own name = or_none (same_name own name)
 among-end (b ∷ before) own name = ap (λ (t : Bool). same_name b name || t) (among-end before own name) ∙ or_first (same_name b name) (list_any (λ known. same_name known name) before) (same_name own name)
 
-neither : (a b : Bool) → (a || b) ≡ false → (a ≡ false) × (b ≡ false)
-neither true b e = absurd cc
-neither false b e = (refl, e)
-
 both_not : (a b : Bool) → a ≡ false → b ≡ false → (a || b) ≡ false
 both_not true b e f = absurd cc
 both_not false b e f = f
 
 none-further : (before : List (List ℕ)) (own : List ℕ) (columns : List Column) → AllByRecursion (IsNoneOf before) columns → AllByRecursion (IsNot own) columns → AllByRecursion (IsNoneOf (before ++ own ∷ [])) columns
 none-further before own [] all others = tt
-none-further before own (c ∷ columns) all others = (among-end before own c.name ∙ both_not (is_among before c.name) (same_name own c.name) all.0 (turned c.name own others.0), none-further before own columns all.1 others.1)
+none-further before own (c ∷ columns) all others = (among-end before own c.name ∙ both_not (is_among before c.name) (same_name own c.name) all.0 (other_name-turned c.name own others.0), none-further before own columns all.1 others.1)
 
 none-nearer : (before : List (List ℕ)) (own : List ℕ) (columns : List Column) → AllByRecursion (IsNoneOf (before ++ own ∷ [])) columns → AllByRecursion (IsNoneOf before) columns × AllByRecursion (IsNot own) columns
 none-nearer before own [] all = (tt, tt)
 none-nearer before own (c ∷ columns) all =
-    let n = neither (is_among before c.name) (same_name own c.name) (sym (among-end before own c.name) ∙ all.0) in
+    let n = or_parts (is_among before c.name) (same_name own c.name) (sym (among-end before own c.name) ∙ all.0) in
     let rest = none-nearer before own columns all.1 in
-    ((n.0, rest.0), (turned own c.name n.1, rest.1))
+    ((n.0, rest.0), (other_name-turned own c.name n.1, rest.1))
 
 abbrev names_of : List Column → List (List ℕ)
 names_of columns = map (λ column. column.name) columns
@@ -143,10 +127,6 @@ apart-differ before (c ∷ columns) all apart = rw (all.0, apart-differ (before 
 not_true : (b : Bool) → not b ≡ true → b ≡ false
 not_true true e = absurd cc
 not_true false e = refl
-
-and_parts : (a b : Bool) → (a && b) ≡ true → (a ≡ true) × (b ≡ true)
-and_parts true b e = (refl, e)
-and_parts false b e = absurd cc
 
 differ-apart : (before : List (List ℕ)) (columns : List Column) → differ_from before (names_of columns) ≡ true → AllByRecursion (IsNoneOf before) columns × Apart columns
 unfolding differ_from

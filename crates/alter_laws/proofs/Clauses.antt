@@ -9,13 +9,13 @@ use Rattle.table_words.specs.declared.token.Token.{Token}
 use Rattle.table_words.specs.Keys.{key_at}
 use Rattle.table_words.specs.Kinds.{kind_at}
 use Rattle.table_words.specs.Pieces.{keyword_at, name_at}
-use Rattle.table_words.specs.Reads.{◌>>=◌}
+use Rattle.schema_rules.specs.Results.{◌>>=◌}
 use Rattle.table_words.specs.Tokens.{is_keyword, same_sign, text_words}
-use Rattle.schema_text.specs.Lawful.{is_kind}
+use Rattle.schema_rules.specs.Lawful.{is_kind}
 use Rattle.schema_laws.proofs.Grammar.{kind_at-is, listed-all}
 use Rattle.alter_schema.specs.declared.code.AlterCode.{AlterCode}
 use Rattle.alter_schema.specs.declared.code.AlterCode.TheVariants as refusals
-use Rattle.alter_schema.proofs.Steps.{bind_ok, ok_is}
+use Rattle.schema_rules.proofs.Steps.{bind_ok, ok_is}
 use Rattle.alter_text.specs.Adding.{add_column_at, add_index_at, add_at, change_at, modify_at}
 use Rattle.alter_text.specs.Clauses.{clause_at, alone, list_at, clauses_at, front_at, unless_faulty, read}
 use Rattle.alter_text.specs.Column.{primary_at, new_attributes_at, new_column_at, spot_at}
@@ -27,7 +27,7 @@ use Rattle.alter_laws.specs.Laws.{IsClause, ReadClausesWriteKinds}
 abbrev AllRead : {A : Type 0} → (A → Type 0) → Read A → Type 0
 AllRead {A} P read = (x : A × List Token) → read ≡ Ok x → P x.0
 
-in_alter-ok : {A : Type 0} (r : Result A SchemaCode) (x : A) → in_alter r ≡ Ok x → r ≡ Ok x
+pub in_alter-ok : {A : Type 0} (r : Result A SchemaCode) (x : A) → in_alter r ≡ Ok x → r ≡ Ok x
 in_alter-ok {A} (Ok y) x e = let same : y ≡ x = cc in ap (λ (z : A). Ok z) same
 in_alter-ok (Err code) x e = absurd cc
 
@@ -105,7 +105,7 @@ refused code x e = absurd cc
 abbrev refusal : AlterCode → Read Clause
 refusal code = Err code
 
-never : (code : AlterCode) (x : Clause × List Token) → refusal code ≡ Ok x → ⊥
+pub never : (code : AlterCode) (x : Clause × List Token) → refusal code ≡ Ok x → ⊥
 never code x e = absurd cc
 
 primary_at-is : (ws : List Token) → AreClauses (primary_at ws)
@@ -155,11 +155,11 @@ list_at-are : (ws : List Token) → AllRead (AllByRecursion IsClause) (list_at w
 unfolding list_at
 list_at-are ws x e = (listed-all IsClause clause_at refusals.Syntax clause_at-is (length ws) ws x e).0
 
-alone-is : (clauses all : List Clause) (ws : List Token) → alone clauses ws ≡ Ok all → clauses ≡ all
+pub alone-is : (clauses all : List Clause) (ws : List Token) → alone clauses ws ≡ Ok all → clauses ≡ all
 alone-is clauses all [] e = cc
 alone-is clauses all (word ∷ rest) e = absurd cc
 
-faultless-is : (b : Bool) (clauses all : List Clause) → unless_faulty b clauses ≡ Ok all → clauses ≡ all
+pub faultless-is : (b : Bool) (clauses all : List Clause) → unless_faulty b clauses ≡ Ok all → clauses ≡ all
 faultless-is true clauses all e = absurd cc
 faultless-is false clauses all e = cc
 

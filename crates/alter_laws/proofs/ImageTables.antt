@@ -15,14 +15,15 @@ use Rattle.alter_image.specs.declared.image_fault.UnfitAt.{UnfitAt}
 use Rattle.alter_image.specs.declared.map.MapColumn.{MapColumn}
 use Rattle.alter_image.specs.Images.{image, images}
 use Rattle.gho_schema.specs.Clustering.{clustered_key}
-use Rattle.schema_text.specs.Declaring.{first_reason}
+use Rattle.schema_rules.specs.Reasons.{first_reason}
 use Rattle.alter_schema.specs.declared.code.AlterCode.TheVariants as codes
 use Rattle.alter_schema.specs.declared.standing.Standing.{Standing}
 use Rattle.alter_schema.specs.Altering.{keeps_key, result_reasons}
-use Rattle.alter_schema.proofs.Steps.{none_first}
+use Rattle.schema_rules.proofs.Steps.{none_first}
 use Rattle.alter_laws.specs.Laws.{Altered, KeepsKeys, ImagesKeepClusteredKeys, AlteredTablesAreTables}
 use Rattle.alter_laws.proofs.ImageRows.{images_are_rows}
 use Rattle.alter_laws.proofs.KeepingKeys.{ends, stay_apart, clustered_stay}
+use Rattle.std.proofs.lemmas.Bool.{not-false}
 
 -- ---- the image of each row
 
@@ -114,16 +115,12 @@ both-there standing (Some old) (Some index) e = record { old = old; index = inde
 both-there standing (Some old) None e = absurd cc
 both-there standing None b e = absurd cc
 
-not_false : (b : Bool) → not b ≡ false → b ≡ true
-not_false true e = refl
-not_false false e = absurd cc
-
 both-clustered : (schema : Schema) (standing : Standing) → first_reason (result_reasons schema standing) ≡ None → Both (clustered_key schema) (clustered_key standing.schema)
 both-clustered schema standing none =
     let changed = not (keeps_key standing (clustered_key schema) (clustered_key standing.schema)) in
     let first = none_first (eqb (length standing.schema.columns) 0) codes.AllColumnsDropped ((changed, codes.ClusteredKeyChange) ∷ []) none in
     let second = none_first changed codes.ClusteredKeyChange [] first.1 in
-    both-there standing (clustered_key schema) (clustered_key standing.schema) (not_false _ second.0)
+    both-there standing (clustered_key schema) (clustered_key standing.schema) (not-false _ second.0)
 
 pub clustered_keys_kept : ImagesKeepClusteredKeys
 clustered_keys_kept approve schema clauses new row made lawful e is_row is =

@@ -1,8 +1,7 @@
 -- Each clause that is taken leaves columns that are lawful, of different names, and indexes with columns.
-use Rattle.std.proofs.Common.{◌≡◌, ℕ, zero, suc, ◌<◌, Bool, true, false, not, ◌&&◌, ◌||◌, cond, eqb, leb, List, [], ◌∷◌, length, Option, Some, None, Result, Ok, Err, unwrap_or, refl, ap, subst, ◌∙◌, arith}
+use Rattle.std.proofs.Common.{◌≡◌, ℕ, zero, suc, ◌<◌, Bool, true, false, not, ◌&&◌, ◌||◌, cond, eqb, leb, List, [], ◌∷◌, length, Option, Some, None, Ok, unwrap_or, refl, subst, ◌∙◌, arith}
 use Rattle.std.specs.Prelude.{is_some, filter}
 use Rattle.std.specs.List.{remove, list_all, filter_map, slice_get, AllByRecursion}
-use Rattle.gho_values.specs.declared.fault.Unfit.{Unfit}
 use Rattle.gho_values.specs.declared.value.Value.{Value}
 use Rattle.gho_values.specs.Laws.{StoresAgain}
 use Rattle.gho_schema.specs.declared.schema.Column.{Column}
@@ -12,31 +11,31 @@ use Rattle.alter_image.specs.declared.clause.Clause.{Clause}
 use Rattle.alter_image.specs.declared.clause.Clause.TheVariants.{Add, Drop, Rename, Change, AddIndex, DropIndex}
 use Rattle.alter_image.specs.declared.clause.NewColumn.{NewColumn}
 use Rattle.alter_image.specs.declared.clause.Spot.{Spot}
-use Rattle.table_words.specs.Reads.{◌>>=◌}
+use Rattle.schema_rules.specs.Results.{◌>>=◌}
 use Rattle.gho_schema.specs.Clustering.{clustered_place}
-use Rattle.schema_text.specs.Declaring.{first_reason}
-use Rattle.schema_text.specs.Defaults.{stored_default}
-use Rattle.schema_text.specs.Keys.{is_among}
-use Rattle.schema_text.specs.Lawful.{is_kind, StoresDefault, IsColumn}
-use Rattle.schema_text.specs.Limits.{is_column_name}
+use Rattle.schema_rules.specs.Reasons.{first_reason}
+use Rattle.schema_rules.specs.Defaults.{stored_default, default_or}
+use Rattle.schema_rules.specs.Names.{is_among}
+use Rattle.schema_rules.specs.Lawful.{is_kind, StoresDefault, IsColumn}
+use Rattle.schema_rules.specs.Limits.{is_column_name}
 use Rattle.schema_laws.proofs.Columns.{made, default_stores}
-use Rattle.schema_laws.proofs.Lists.{All-at, list_all-All}
+use Rattle.schema_rules.proofs.Lists.{All-at, list_all-All, All-append, All-remove}
 use Rattle.alter_schema.specs.declared.code.AlterCode.{AlterCode}
 use Rattle.alter_schema.specs.declared.code.AlterCode.TheVariants as codes
 use Rattle.alter_schema.specs.declared.places.PlaceChange.{PlaceChange}
 use Rattle.alter_schema.specs.declared.standing.Standing.{Standing}
 use Rattle.alter_schema.specs.Altering.{step}
-use Rattle.alter_schema.specs.Changing.{add_reasons, added, dropped_at, dropped, rename_reasons, with_name, renamed_in, renamed_at, renamed, is_other_spot, change_reasons, changed_nullable, changed_in, is_unapproved, unless_unapproved, changed_column, changed_at, changed}
-use Rattle.alter_schema.specs.Columns.{column_place, has_column, column_named, is_in_keys, is_key_conversion, is_conversion, is_spot, spot_place, default_of, lacks_default, unless_lacking, column_of, fitting}
+use Rattle.alter_schema.specs.Changing.{add_reasons, added, dropped_at, dropped, rename_reasons, with_name, renamed_in, renamed_at, renamed, change_reasons, changed_nullable, changed_in, is_unapproved, unless_unapproved, changed_column, changed_at, changed}
+use Rattle.alter_schema.specs.Columns.{column_place, has_column, column_named, is_in_keys, is_key_conversion, is_conversion, is_spot, spot_place, lacks_default, unless_lacking, column_of, fitting}
 use Rattle.alter_schema.specs.Indexing.{key_names, index_name, are_columns, index_reasons, index_of, with_index, indexed_as, indexed, index_place, is_clustered, without_unique, without_index, unindexed_at, unindexed}
 use Rattle.alter_schema.specs.Places.{has_places, keys_after, indexes_after}
 use Rattle.alter_schema.specs.Standing.{with_columns, put_in, taken_out, origin_at, moved_to}
-use Rattle.alter_schema.proofs.KeyPlaces.{All-append, All-remove}
-use Rattle.alter_schema.proofs.Steps.{bind_ok, unless_ok, none_first, ok_is, kept_out}
+use Rattle.schema_rules.proofs.Steps.{bind_ok, unless_ok, none_first, ok_is, kept_out, default_is}
 use Rattle.alter_schema.proofs.Tables.{fitting-is, approved-is}
 use Rattle.alter_laws.specs.Laws.{IsClause}
 use Rattle.alter_laws.proofs.Apart.{IsNot, Apart, All-insert, All-taken, All-set, apart-insert, apart-remove, apart-set, no_column}
 use Rattle.alter_laws.proofs.Steps.{column_named-here, lacking-is}
+use Rattle.std.proofs.lemmas.Bool.{and_parts, not-false}
 
 -- the key has a column
 abbrev pub HasPlaces : Index → Type 0
@@ -50,10 +49,6 @@ pub record IsGood (schema : Schema) : Type 0 where
 
 -- ---- the columns that clauses write
 
-default-is : (r : Result (Option Value) Unfit) (default : Option Value) → default_of r ≡ Ok default → r ≡ Ok default
-default-is (Ok d) default e = let same : d ≡ default = cc in ap (λ (x : Option Value). Ok x) same
-default-is (Err reason) default e = absurd cc
-
 -- a column that a clause writes is lawful, and has the name that is written
 pub record IsNew (written : NewColumn) (column : Column) : Type 0 where
   pub is : IsColumn column
@@ -62,8 +57,8 @@ pub record IsNew (written : NewColumn) (column : Column) : Type 0 where
 column_of-new : StoresAgain → (origin : Option ℕ) (written : NewColumn) (nullable : Bool) (column : Column) → is_kind written.kind ≡ true → column_of origin written nullable ≡ Ok column → IsNew written column
 unfolding column_of
 column_of-new again origin written nullable column kind e =
-    let b = bind_ok (default_of (stored_default written.kind nullable written.default)) (λ default. unless_lacking (lacks_default origin nullable default) (made written.name written.kind nullable default)) column e in
-    let stores = default_stores again written.name written.kind nullable written.default b.0 (default-is (stored_default written.kind nullable written.default) b.0 b.1) in
+    let b = bind_ok (default_or codes.Default (stored_default written.kind nullable written.default)) (λ default. unless_lacking (lacks_default origin nullable default) (made written.name written.kind nullable default)) column e in
+    let stores = default_stores again written.name written.kind nullable written.default b.0 (default_is codes.Default (stored_default written.kind nullable written.default) b.0 b.1) in
     subst (IsNew written) (lacking-is (lacks_default origin nullable b.0) (made written.name written.kind nullable b.0) column b.2) (record { is = record { kind = kind; default = stores }; name = refl })
 
 -- ---- indexes
@@ -164,7 +159,7 @@ change-free : (schema : Schema) (place : ℕ) (column : Column) (written : NewCo
 change-free schema place column written spot none =
     let converted = is_in_keys schema.uniques place && not (is_key_conversion column.kind written.kind) in
     let scope = not (is_conversion column.kind written.kind) || not (is_column_name written.name) in
-    let second = none_first (not (is_other_spot schema.columns column.name written.name spot)) codes.UnknownName ((has_column (remove schema.columns place) written.name, codes.RepeatedName) ∷ (converted, codes.KeyColumnConverted) ∷ (scope, codes.Scope) ∷ []) none in
+    let second = none_first (not (is_spot (remove schema.columns place) spot)) codes.UnknownName ((has_column (remove schema.columns place) written.name, codes.RepeatedName) ∷ (converted, codes.KeyColumnConverted) ∷ (scope, codes.Scope) ∷ []) none in
     (none_first (has_column (remove schema.columns place) written.name) codes.RepeatedName ((converted, codes.KeyColumnConverted) ∷ (scope, codes.Scope) ∷ []) second.1).0
 
 changed_at-good : StoresAgain → (approve : Bool) (standing next : Standing) (written : NewColumn) (spot : Spot) (found : Option (ℕ × Column)) → is_kind written.kind ≡ true → IsGood standing.schema → changed_at approve standing written spot found ≡ Ok next → IsGood next.schema
@@ -183,14 +178,6 @@ changed_at-good again approve standing next written spot (Some found) kind good 
 
 -- ---- indexes
 
-and_parts : (a b : Bool) → (a && b) ≡ true → (a ≡ true) × (b ≡ true)
-and_parts true b e = (refl, e)
-and_parts false b e = absurd cc
-
-not_false : (b : Bool) → not b ≡ false → b ≡ true
-not_false true e = refl
-not_false false e = absurd cc
-
 place-there : (o : Option ℕ) → is_some o ≡ true → (place : ℕ) × (o ≡ Some place)
 place-there (Some place) e = (place, refl)
 place-there None e = absurd cc
@@ -205,7 +192,7 @@ index-places : (schema : Schema) (names : List (List ℕ)) (name : List ℕ) →
 index-places schema names name none =
     let are = are_columns schema.columns names in
     let first = none_first (not are) codes.UnknownName ((is_among (key_names schema) name, codes.RepeatedName) ∷ (leb 8 (length schema.indexes), codes.Scope) ∷ []) none in
-    let p = and_parts (not (eqb (length names) 0)) (list_all (has_column schema.columns) names) (not_false are first.0) in
+    let p = and_parts (not (eqb (length names) 0)) (list_all (has_column schema.columns) names) (not-false are first.0) in
     places-there schema.columns names p.0 (list_all-All (has_column schema.columns) names p.1)
 
 indexed_as-good : (standing next : Standing) (names : List (List ℕ)) (name : List ℕ) → IsGood standing.schema → indexed_as standing names name ≡ Ok next → IsGood next.schema

@@ -2,7 +2,7 @@
 use Rattle.std.proofs.Common.{◌≡◌, ℕ, zero, suc, Bool, true, false, not, ◌&&◌, ◌||◌, eqb, List, [], ◌∷◌, length, Option, Some, None, Ok, refl, sym, ap, subst, ◌∙◌}
 use Rattle.std.specs.List.{list_all, list_any, slice_get, AllByRecursion}
 use Rattle.std.specs.Ordering.{is_eq}
-use Rattle.std.proofs.lemmas.Bool.{eqb-true}
+use Rattle.std.proofs.lemmas.Bool.{eqb-true, and_parts, not-false}
 use Rattle.gho_values.specs.declared.value.Value.{Value}
 use Rattle.gho_values.specs.Comparing.{compare_keys}
 use Rattle.gho_schema.specs.declared.schema.Index.{Index}
@@ -11,14 +11,14 @@ use Rattle.gho_schema.specs.Rows.{key_of}
 use Rattle.gho_schema.specs.Tables.{no_null}
 use Rattle.alter_image.specs.declared.clause.Clause.{Clause}
 use Rattle.gho_schema.specs.Clustering.{is_not_null, clustered_place, unique_at, clustered_key}
-use Rattle.schema_text.specs.Declaring.{first_reason}
-use Rattle.schema_text.specs.Lawful.{IsLawful}
+use Rattle.schema_rules.specs.Reasons.{first_reason}
+use Rattle.schema_rules.specs.Lawful.{IsLawful}
 use Rattle.alter_schema.specs.declared.code.AlterCode.{AlterCode}
 use Rattle.alter_schema.specs.declared.code.AlterCode.TheVariants as codes
 use Rattle.alter_schema.specs.declared.standing.Standing.{Standing}
 use Rattle.alter_schema.specs.Altering.{steps, is_origin, same_columns, keeps_key, result_reasons, map_of, result_of, altered}
 use Rattle.alter_schema.specs.Standing.{start}
-use Rattle.alter_schema.proofs.Steps.{bind_ok, unless_ok, none_first, ok_is}
+use Rattle.schema_rules.proofs.Steps.{bind_ok, unless_ok, none_first, ok_is, second_or}
 use Rattle.alter_laws.specs.Laws.{Altered, KeepsKeys, Stays, ImagesKeepKeys, ImagesStayApart, ClusteredKeysStay}
 use Rattle.alter_laws.proofs.Images.{key-same}
 use Rattle.alter_laws.proofs.Steps.{Kept, start-kept, steps-kept}
@@ -58,10 +58,6 @@ keeps_keys approve schema clauses new place index lawful e at =
 
 -- ---- rows that don't clash
 
-and_parts : (a b : Bool) → (a && b) ≡ true → (a ≡ true) × (b ≡ true)
-and_parts true b e = (refl, e)
-and_parts false b e = absurd cc
-
 pub record AnyItem (test : Index → Bool) (xs : List Index) : Type 0 where
   pub place : ℕ
   pub item : Index
@@ -76,14 +72,10 @@ any-item : (test : Index → Bool) (xs : List Index) → list_any test xs ≡ tr
 any-item test [] e = absurd cc
 any-item test (x ∷ xs) e = any-cons test x xs (test x) refl (any-item test xs) e
 
-or_second : (a b : Bool) → b ≡ true → (a || b) ≡ true
-or_second true b e = refl
-or_second false b e = e
-
 any-at : (test : Index → Bool) (xs : List Index) (place : ℕ) (x : Index) → slice_get xs place ≡ Some x → test x ≡ true → list_any test xs ≡ true
 any-at test [] place x e h = absurd cc
 any-at test (y ∷ xs) zero x e h = let same : y ≡ x = cc in rw (same, h) refl
-any-at test (y ∷ xs) (suc place) x e h = or_second (test y) (list_any test xs) (any-at test xs place x e h)
+any-at test (y ∷ xs) (suc place) x e h = second_or (test y) (list_any test xs) (any-at test xs place x e h)
 
 abbrev clashes : List Value → List Value → Index → Bool
 clashes a b index = is_eq (compare_keys (key_of index.places a) (key_of index.places b)) && no_null (key_of index.places a)
@@ -98,10 +90,6 @@ stay_apart approve schema clauses new a b made other lawful e is also image_a im
     any-at (clashes a b) schema.uniques s.place s.old s.stands clash_old
 
 -- ---- the clustered key
-
-not_false : (b : Bool) → not b ≡ false → b ≡ true
-not_false true e = refl
-not_false false e = absurd cc
 
 abbrev some_index : Index → Option Index
 some_index i = Some i
@@ -148,7 +136,7 @@ clustered-in schema standing old index kept none there here row made is h =
     let changed = not (keeps_key standing (clustered_key schema) (clustered_key standing.schema)) in
     let second = none_first (eqb (length standing.schema.columns) 0) codes.AllColumnsDropped ((changed, codes.ClusteredKeyChange) ∷ []) none in
     let third = none_first changed codes.ClusteredKeyChange [] second.1 in
-    let columns = keeps-parts standing old index (clustered_key schema) (clustered_key standing.schema) there here (not_false _ third.0) in
+    let columns = keeps-parts standing old index (clustered_key schema) (clustered_key standing.schema) there here (not-false _ third.0) in
     let at = clustered-stands standing.schema index here in
     let t = at-place (Traced schema standing) standing.schema.uniques at.0 index kept.traced at.1 in
     key-same schema standing row made is h index.places t.source.places t.places ∙ ap (λ (places : List ℕ). key_of places row) (same_columns-are schema standing index.places t.source.places old.places t.places columns)

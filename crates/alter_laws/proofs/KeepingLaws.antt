@@ -1,26 +1,27 @@
 -- Altered schemas are lawful.
-use Rattle.std.proofs.Common.{◌≡◌, ℕ, zero, suc, ◌<◌, ◌≤◌, Bool, true, false, not, ◌&&◌, eqb, List, [], ◌∷◌, length, Option, Some, None, Ok, refl, subst, arith}
+use Rattle.std.proofs.Common.{◌≡◌, ℕ, zero, suc, ◌<◌, ◌≤◌, Bool, true, false, not, eqb, List, [], ◌∷◌, length, Option, Some, None, Ok, subst, arith}
 use Rattle.std.specs.List.{list_all, slice_get, AllByRecursion}
 use Rattle.gho_values.specs.Laws.{StoresAgain}
 use Rattle.gho_schema.specs.declared.schema.Index.{Index}
 use Rattle.gho_schema.specs.declared.schema.Schema.{Schema}
 use Rattle.alter_image.specs.declared.clause.Clause.{Clause}
 use Rattle.gho_schema.specs.Clustering.{is_not_null, clustered_key}
-use Rattle.schema_text.specs.Declaring.{first_reason}
-use Rattle.schema_text.specs.Lawful.{IsKey, IsNotNull, IsLawful}
-use Rattle.schema_laws.proofs.Lists.{All-at}
+use Rattle.schema_rules.specs.Reasons.{first_reason}
+use Rattle.schema_rules.specs.Lawful.{IsKey, IsNotNull, IsLawful}
+use Rattle.schema_rules.proofs.Lists.{All-at}
 use Rattle.alter_schema.specs.declared.code.AlterCode.{AlterCode}
 use Rattle.alter_schema.specs.declared.code.AlterCode.TheVariants as codes
 use Rattle.alter_schema.specs.declared.standing.Standing.{Standing}
 use Rattle.alter_schema.specs.Altering.{step, steps, same_columns, keeps_key, result_reasons, map_of, result_of, altered}
 use Rattle.alter_schema.specs.Places.{ArePlaces}
 use Rattle.alter_schema.specs.Standing.{start}
-use Rattle.alter_schema.proofs.Steps.{bind_ok, unless_ok, none_first, ok_is}
+use Rattle.schema_rules.proofs.Steps.{bind_ok, unless_ok, none_first, ok_is}
 use Rattle.alter_laws.specs.Laws.{Altered, IsClause, AlteredSchemasAreLawful}
 use Rattle.alter_laws.proofs.Apart.{names-apart, apart-names}
 use Rattle.alter_laws.proofs.Keeping.{HasPlaces, IsGood, step-good}
 use Rattle.alter_laws.proofs.Steps.{Kept, start-kept, steps-kept}
 use Rattle.alter_laws.proofs.Traces.{SamePlaces, Traced}
+use Rattle.std.proofs.lemmas.Bool.{and_parts, not-false}
 
 -- ---- the clauses
 
@@ -63,16 +64,8 @@ some-columns : (n : ℕ) → eqb n 0 ≡ false → 1 ≤ n
 some-columns zero e = absurd cc
 some-columns (suc n) e = omega arith
 
-not_false : (b : Bool) → not b ≡ false → b ≡ true
-not_false true e = refl
-not_false false e = absurd cc
-
-and_second : (a b : Bool) → (a && b) ≡ true → b ≡ true
-and_second true b e = e
-and_second false b e = absurd cc
-
 stays-clustered : (standing : Standing) (old new : Option Index) → keeps_key standing old new ≡ true → IsNotNull standing.schema.columns new
-stays-clustered standing (Some old) (Some new) e = and_second (same_columns standing.origins new.places old.places) (list_all (λ place. is_not_null (slice_get standing.schema.columns place)) new.places) e
+stays-clustered standing (Some old) (Some new) e = (and_parts (same_columns standing.origins new.places old.places) (list_all (λ place. is_not_null (slice_get standing.schema.columns place)) new.places) e).1
 stays-clustered standing (Some old) None e = absurd cc
 stays-clustered standing None new e = absurd cc
 
@@ -88,7 +81,7 @@ lawful-end old standing lawful kept good none =
       columns = good.columns;
       uniques = uniques-are old standing (length standing.schema.columns) standing.schema.uniques lawful kept.traced kept.stands.uniques;
       indexes = indexes-are (length standing.schema.columns) standing.schema.indexes good.indexes kept.stands.indexes;
-      clustered = stays-clustered standing (clustered_key old) (clustered_key standing.schema) (not_false _ second.0);
+      clustered = stays-clustered standing (clustered_key old) (clustered_key standing.schema) (not-false _ second.0);
     }
 
 pub altered-lawful : StoresAgain → AlteredSchemasAreLawful

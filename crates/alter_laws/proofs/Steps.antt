@@ -10,24 +10,24 @@ use Rattle.alter_image.specs.declared.clause.Clause.{Clause}
 use Rattle.alter_image.specs.declared.clause.Clause.TheVariants.{Add, Drop, Rename, Change, AddIndex, DropIndex}
 use Rattle.alter_image.specs.declared.clause.NewColumn.{NewColumn}
 use Rattle.alter_image.specs.declared.clause.Spot.{Spot}
-use Rattle.table_words.specs.Reads.{◌>>=◌}
+use Rattle.schema_rules.specs.Results.{◌>>=◌}
 use Rattle.gho_schema.specs.Clustering.{clustered_place}
-use Rattle.schema_text.specs.Declaring.{first_reason}
-use Rattle.schema_text.specs.Lawful.{IsKey, IsLawful}
-use Rattle.schema_text.specs.Limits.{is_column_name}
+use Rattle.schema_rules.specs.Reasons.{first_reason}
+use Rattle.schema_rules.specs.Lawful.{IsKey, IsLawful}
+use Rattle.schema_rules.specs.Limits.{is_column_name}
 use Rattle.alter_schema.specs.declared.code.AlterCode.{AlterCode}
 use Rattle.alter_schema.specs.declared.code.AlterCode.TheVariants as codes
 use Rattle.alter_schema.specs.declared.standing.Standing.{Standing}
 use Rattle.alter_schema.specs.Altering.{step, steps}
-use Rattle.alter_schema.specs.Changing.{add_reasons, added, dropped_at, dropped, rename_reasons, with_name, renamed_in, renamed_at, renamed, is_other_spot, change_reasons, changed_nullable, changed_in, is_unapproved, unless_unapproved, changed_column, changed_at, changed}
-use Rattle.alter_schema.specs.Columns.{has_column, beside, found_at, column_named, is_in_keys, is_key_conversion, is_conversion, spot_place, default_of, lacks_default, unless_lacking, column_of, fitting}
+use Rattle.alter_schema.specs.Changing.{add_reasons, added, dropped_at, dropped, rename_reasons, with_name, renamed_in, renamed_at, renamed, change_reasons, changed_nullable, changed_in, is_unapproved, unless_unapproved, changed_column, changed_at, changed}
+use Rattle.alter_schema.specs.Columns.{has_column, is_spot, beside, found_at, column_named, is_in_keys, is_key_conversion, is_conversion, spot_place, lacks_default, unless_lacking, column_of, fitting}
 use Rattle.alter_schema.specs.Indexing.{index_name, index_reasons, index_of, with_index, indexed_as, indexed, index_place, is_clustered, without_unique, without_index, unindexed_at, unindexed}
 use Rattle.alter_schema.specs.Standing.{places_from, start, put_in, taken_out, origin_at, Stands}
-use Rattle.alter_schema.proofs.KeyPlaces.{All-remove}
-use Rattle.alter_schema.proofs.Steps.{bind_ok, unless_ok, none_first, ok_is, kept_out}
+use Rattle.schema_rules.proofs.Lists.{All-remove}
+use Rattle.schema_rules.proofs.Steps.{bind_ok, unless_ok, none_first, ok_is, kept_out, some_is}
 use Rattle.alter_schema.proofs.Tables.{column_named-within, spot_place-within, fitting-is, approved-is, step-stands, start-stands}
 use Rattle.alter_laws.proofs.Traces.{SamePlace, SamePlaces, Traced, AllTraced, put_in-traced, taken_out-traced, moved_to-traced, all-kept, same_sort}
-use Rattle.schema_text.specs.Defaults.{stored_default}
+use Rattle.schema_rules.specs.Defaults.{stored_default, default_or}
 
 -- ---- found columns
 
@@ -74,18 +74,12 @@ set-other (x ∷ xs) zero (suc k) v ne = refl
 set-other (x ∷ xs) (suc i) zero v ne = refl
 set-other (x ∷ xs) (suc i) (suc k) v ne = set-other xs i k v (λ e. ne (ap suc e))
 
-abbrev some_column : Column → Option Column
-some_column c = Some c
-
-column-is : (a b : Column) → some_column a ≡ some_column b → a ≡ b
-column-is a b e = cc
-
 module _ (old : Schema) (standing : Standing) (at : ℕ) (found : Column) (name : List ℕ) (here : slice_get standing.schema.columns at ≡ Some found) where
   each-renamed-by : (place before : ℕ) (b : Bool) → eqb place at ≡ b → SamePlace old standing place before → SamePlace old (renamed_in standing at (with_name found name)) place before
   unfolding renamed_in
   each-renamed-by place before true e same =
       let is : place ≡ at = eqb-true place at e in
-      let column : same.column ≡ found = column-is same.column found (sym same.here ∙ ap (slice_get standing.schema.columns) is ∙ here) in
+      let column : same.column ≡ found = some_is same.column found (sym same.here ∙ ap (slice_get standing.schema.columns) is ∙ here) in
       record {
         origin = same.origin;
         column = with_name found name;
@@ -124,14 +118,14 @@ lacking-is false column made e = cc
 column_of-kind : (origin : Option ℕ) (written : NewColumn) (nullable : Bool) (column : Column) → column_of origin written nullable ≡ Ok column → written.kind ≡ column.kind
 unfolding column_of
 column_of-kind origin written nullable column e =
-    let b = bind_ok (default_of (stored_default written.kind nullable written.default)) (λ default. unless_lacking (lacks_default origin nullable default) (record { name = written.name; kind = written.kind; nullable = nullable; default = default })) column e in
+    let b = bind_ok (default_or codes.Default (stored_default written.kind nullable written.default)) (λ default. unless_lacking (lacks_default origin nullable default) (record { name = written.name; kind = written.kind; nullable = nullable; default = default })) column e in
     ap (λ (c : Column). c.kind) (lacking-is (lacks_default origin nullable b.0) (record { name = written.name; kind = written.kind; nullable = nullable; default = b.0 }) column b.2)
 
 sort-kept : (schema : Schema) (place : ℕ) (column : Column) (written : NewColumn) (spot : Spot) → first_reason (change_reasons schema place column written spot) ≡ None → (is_in_keys schema.uniques place && not (is_key_conversion column.kind written.kind)) ≡ false
 sort-kept schema place column written spot none =
     let converted = is_in_keys schema.uniques place && not (is_key_conversion column.kind written.kind) in
     let scope = not (is_conversion column.kind written.kind) || not (is_column_name written.name) in
-    let second = none_first (not (is_other_spot schema.columns column.name written.name spot)) codes.UnknownName ((has_column (remove schema.columns place) written.name, codes.RepeatedName) ∷ (converted, codes.KeyColumnConverted) ∷ (scope, codes.Scope) ∷ []) none in
+    let second = none_first (not (is_spot (remove schema.columns place) spot)) codes.UnknownName ((has_column (remove schema.columns place) written.name, codes.RepeatedName) ∷ (converted, codes.KeyColumnConverted) ∷ (scope, codes.Scope) ∷ []) none in
     let third = none_first (has_column (remove schema.columns place) written.name) codes.RepeatedName ((converted, codes.KeyColumnConverted) ∷ (scope, codes.Scope) ∷ []) second.1 in
     (none_first converted codes.KeyColumnConverted ((scope, codes.Scope) ∷ []) third.1).0
 

@@ -1,15 +1,14 @@
 -- Each clause that is taken leaves the table its name.
-use Rattle.std.proofs.Common.{◌≡◌, ℕ, Bool, true, List, [], ◌∷◌, length, Option, Some, None, Ok, unwrap_or, refl, sym, ap, subst, ◌∙◌}
+use Rattle.std.proofs.Common.{◌≡◌, ℕ, Bool, true, List, [], ◌∷◌, length, Option, Some, None, Ok, unwrap_or, refl, subst, ◌∙◌}
 use Rattle.std.specs.List.{remove}
 use Rattle.gho_schema.specs.declared.schema.Column.{Column}
-use Rattle.gho_schema.specs.declared.schema.Schema.{Schema}
 use Rattle.gho_schema.specs.Clustering.{clustered_place}
 use Rattle.alter_image.specs.declared.clause.Clause.{Clause}
 use Rattle.alter_image.specs.declared.clause.Clause.TheVariants.{Add, Drop, Rename, Change, AddIndex, DropIndex}
 use Rattle.alter_image.specs.declared.clause.NewColumn.{NewColumn}
 use Rattle.alter_image.specs.declared.clause.Spot.{Spot}
-use Rattle.table_words.specs.Reads.{◌>>=◌}
-use Rattle.schema_text.specs.Declaring.{first_reason}
+use Rattle.schema_rules.specs.Results.{◌>>=◌}
+use Rattle.schema_rules.specs.Reasons.{first_reason}
 use Rattle.alter_schema.specs.declared.code.AlterCode.{AlterCode}
 use Rattle.alter_schema.specs.declared.code.AlterCode.TheVariants as codes
 use Rattle.alter_schema.specs.declared.standing.Standing.{Standing}
@@ -18,7 +17,7 @@ use Rattle.alter_schema.specs.Changing.{add_reasons, added, dropped_at, dropped,
 use Rattle.alter_schema.specs.Columns.{column_named, is_in_keys, spot_place, column_of, fitting}
 use Rattle.alter_schema.specs.Indexing.{index_name, index_reasons, index_of, with_index, indexed_as, indexed, index_place, is_clustered, without_unique, without_index, unindexed_at, unindexed}
 use Rattle.alter_schema.specs.Standing.{with_columns, start, put_in, taken_out, moved_to, origin_at}
-use Rattle.alter_schema.proofs.Steps.{bind_ok, unless_ok, ok_is, kept_out}
+use Rattle.schema_rules.proofs.Steps.{bind_ok, unless_ok, ok_is, kept_out}
 use Rattle.alter_schema.proofs.Tables.{fitting-is, approved-is}
 use Rattle.alter_laws.specs.Laws.{Altered, AlteredTablesKeepNames}
 

@@ -12,8 +12,10 @@ use Rattle.alter_schema.specs.declared.standing.Standing.{Standing}
 use Rattle.alter_schema.specs.Columns.{has_place, is_in_keys, is_key_conversion}
 use Rattle.alter_schema.specs.Places.{opened, closed, place_after, index_after, keys_after}
 use Rattle.alter_schema.specs.Standing.{with_columns, put_in, taken_out, origin_of, origin_at, moved_to, Stands}
-use Rattle.alter_schema.proofs.KeyPlaces.{All-map}
+use Rattle.schema_rules.proofs.Lists.{All-map}
 use Rattle.alter_laws.proofs.Places.{get-opened, get-closed, get-moved, get-moved_at}
+use Rattle.std.proofs.lemmas.Bool.{or_parts}
+use Rattle.schema_rules.proofs.Steps.{some_is}
 
 -- a place of a column that was there, and the place where it was
 pub record SamePlace (old : Schema) (standing : Standing) (place before : ℕ) : Type 0 where
@@ -77,21 +79,17 @@ with_anything : (old : Schema) (standing : Standing) (uniques : List Index) → 
 with_anything old standing [] all = tt
 with_anything old standing (index ∷ uniques) all = ((anything index.places, all.0), with_anything old standing uniques all.1)
 
-neither_any : (a b : Bool) → (a || b) ≡ false → (a ≡ false) × (b ≡ false)
-neither_any true b e = absurd cc
-neither_any false b e = (refl, e)
-
 abbrev IsOther : ℕ → ℕ → Type 0
 IsOther at place = eqb place at ≡ false
 
 others : (at : ℕ) (places : List ℕ) → list_any (λ own. eqb own at) places ≡ false → AllByRecursion (IsOther at) places
 others at [] e = tt
-others at (p ∷ ps) e = let n = neither_any (eqb p at) (list_any (λ own. eqb own at) ps) e in (n.0, others at ps n.1)
+others at (p ∷ ps) e = let n = or_parts (eqb p at) (list_any (λ own. eqb own at) ps) e in (n.0, others at ps n.1)
 
 with_others : (old : Schema) (standing : Standing) (at : ℕ) (uniques : List Index) → list_any (has_place at) uniques ≡ false → AllByRecursion (Traced old standing) uniques → AllByRecursion (λ index. AllByRecursion (IsOther at) index.places × Traced old standing index) uniques
 with_others old standing at [] e all = tt
 with_others old standing at (index ∷ uniques) e all =
-    let n = neither_any (has_place at index) (list_any (has_place at) uniques) e in
+    let n = or_parts (has_place at index) (list_any (has_place at) uniques) e in
     ((others at index.places n.0, all.0), with_others old standing at uniques n.1 all.1)
 
 -- where the column is one of a key, its new kind is of its sort
@@ -197,18 +195,12 @@ move-after : (from to place : ℕ) (b : Bool) → eqb place from ≡ b → place
 unfolding place_after
 move-after from to place b e = rw e refl
 
-abbrev some_column : Column → Option Column
-some_column c = Some c
-
-column-is : (a b : Column) → some_column a ≡ some_column b → a ≡ b
-column-is a b e = cc
-
 module _ (old : Schema) (standing : Standing) (from to : ℕ) (found new : Column) (stands : Stands standing) (lt : from < length standing.schema.columns) (within : to < length standing.schema.columns) (here : slice_get standing.schema.columns from ≡ Some found) where
   each-moved-by : (place before : ℕ) (b : Bool) → eqb place from ≡ b → IsKept from found.kind new.kind place → SamePlace old standing place before → After (Moved from to) old (moved_to standing from to new) place before
   unfolding moved_to with_columns
   each-moved-by place before true e kept same =
       let at : place ≡ from = eqb-true place from e in
-      let column : same.column ≡ found = column-is same.column found (sym same.here ∙ ap (slice_get standing.schema.columns) at ∙ here) in
+      let column : same.column ≡ found = some_is same.column found (sym same.here ∙ ap (slice_get standing.schema.columns) at ∙ here) in
       let origin : origin_at standing from ≡ Some before = ap origin_of (sym (ap (slice_get standing.origins) at) ∙ same.origin) in
       record {
         place_then = to;

@@ -11,7 +11,7 @@ use Rattle.alter_image.specs.declared.clause.Clause.TheVariants.{Add, Drop, Rena
 use Rattle.alter_image.specs.declared.map.MapColumn.{MapColumn}
 use Rattle.alter_image.specs.Images.{image, images}
 use Rattle.gho_schema.specs.Clustering.{clustered_key}
-use Rattle.schema_text.specs.Lawful.{is_kind, IsLawful}
+use Rattle.schema_rules.specs.Lawful.{is_kind, IsLawful}
 use Rattle.alter_schema.specs.Altering.{altered}
 use Rattle.alter_text.specs.Reading.{alter_at}
 

@@ -1,5 +1,5 @@
 -- The clauses of a text of bytes write names without backquotes and sound defaults.
-use Rattle.std.proofs.Common.{◌≡◌, ℕ, Bool, true, false, ◌||◌, cond, List, [], ◌∷◌, length, Option, Some, None, Result, Ok, Err, refl, ap, subst, codes}
+use Rattle.std.proofs.Common.{◌≡◌, ℕ, Bool, true, false, ◌||◌, cond, List, [], ◌∷◌, length, Option, Some, None, Result, Ok, Err, refl, subst, codes}
 use Rattle.std.specs.List.{AllByRecursion}
 use Rattle.std.specs.Str.{bytes_eq}
 use Rattle.gho_values.specs.declared.kind.Kind.{Kind}
@@ -17,27 +17,24 @@ use Rattle.table_words.specs.Attributes.{unwritten, with_attribute, attribute_at
 use Rattle.table_words.specs.Keys.{key_at}
 use Rattle.table_words.specs.Kinds.{kind_at}
 use Rattle.table_words.specs.Pieces.{behind_keyword, keyword_at, name_at}
-use Rattle.table_words.specs.Reads.{◌>>=◌}
+use Rattle.schema_rules.specs.Results.{◌>>=◌}
 use Rattle.table_words.specs.Tokens.{is_keyword, same_sign, text_words}
 use Rattle.alter_schema.specs.declared.code.AlterCode.{AlterCode}
 use Rattle.alter_schema.specs.declared.code.AlterCode.TheVariants as refusals
-use Rattle.alter_schema.proofs.Steps.{bind_ok, ok_is}
+use Rattle.schema_rules.proofs.Steps.{bind_ok, ok_is}
 use Rattle.alter_text.specs.Adding.{add_column_at, add_index_at, add_at, change_at, modify_at}
 use Rattle.alter_text.specs.Clauses.{clause_at, alone, list_at, clauses_at, of_table, behind_table, behind_alter, front_at, unless_faulty, read}
 use Rattle.alter_text.specs.Column.{primary_at, new_attribute_at, new_attributes_at, new_column_at, after_at, spot_of, spot_at}
-use Rattle.alter_text.specs.Pieces.{Read, in_alter, without, behind_column, is_index_word, is_out_of_scope}
+use Rattle.alter_text.specs.Pieces.{in_alter, without, behind_column, is_index_word, is_out_of_scope}
 use Rattle.alter_text.specs.Reading.{alter_at}
 use Rattle.alter_text.specs.Removing.{drop_column_at, drop_index_at, drop_at, rename_column_at, rename_at}
 use Rattle.print_laws.specs.Laws.{CanQuote}
 use Rattle.reread_laws.proofs.Sound.{AreBytes, AreSound, text-sound}
 use Rattle.reread_laws.proofs.SoundReaders.{Leaves, LeavesWords, LeavesSome, Anything, leaves-bind, words-bind, leaves-ok, leaves-err, leaves-cond, some-none, some-err, some-cond, SomeSound, behind_keyword-sound, keyword-sound, name_at-sound, listed-sound, gathered-sound, kind_at-sound, SoundAttribute, attribute-sound, SoundName, SoundKey, key_at-sound}
 use Rattle.reread_laws.proofs.SoundTables.{SoundDefault}
+use Rattle.alter_laws.proofs.Clauses.{in_alter-ok, never, faultless-is, alone-is}
 
 -- ---- pieces
-
-in_alter-ok : {A : Type 0} (r : Result A SchemaCode) (x : A) → in_alter r ≡ Ok x → r ≡ Ok x
-in_alter-ok {A} (Ok y) x e = let same : y ≡ x = cc in ap (λ (z : A). Ok z) same
-in_alter-ok (Err code) x e = absurd cc
 
 alter-leaves : {A : Type 0} (P : A → Type 0) (r : Result (A × List Token) SchemaCode) → Leaves P r → Leaves P (in_alter r)
 alter-leaves P r leaves x e = leaves x (in_alter-ok r x e)
@@ -166,16 +163,10 @@ rename_column-sound words sound =
 refused : (code : AlterCode) → Leaves SoundClause (Err code)
 refused code = leaves-err {C = AlterCode} SoundClause code
 
-abbrev refusal : AlterCode → Result (Clause × List Token) AlterCode
-refusal code = Err code
-
-refused_one : (code : AlterCode) (x : Clause × List Token) → refusal code ≡ Ok x → ⊥
-refused_one code x e = absurd cc
-
 primary-sound : (words : List Token) → Leaves SoundClause (primary_at words)
 primary-sound words x e =
     let b = bind_ok (in_alter (keyword_at (codes "KEY") words)) (λ rest. Err refusals.ClusteredKeyChange) x e in
-    absurd (refused_one refusals.ClusteredKeyChange x b.2)
+    absurd (never refusals.ClusteredKeyChange x b.2)
 
 add-sound : (words : List Token) → AreSound words → Leaves SoundClause (add_at words)
 unfolding add_at
@@ -218,14 +209,6 @@ clause-sound (word ∷ rest) sound =
 list-sound : (words : List Token) → AreSound words → Leaves (AllByRecursion SoundClause) (list_at words)
 unfolding list_at
 list-sound words sound = listed-sound SoundClause clause_at refusals.Syntax clause-sound (length words) words sound
-
-alone-is : (clauses all : List Clause) (words : List Token) → alone clauses words ≡ Ok all → clauses ≡ all
-alone-is clauses all [] e = cc
-alone-is clauses all (word ∷ rest) e = absurd cc
-
-faultless-is : (b : Bool) (clauses all : List Clause) → unless_faulty b clauses ≡ Ok all → clauses ≡ all
-faultless-is true clauses all e = absurd cc
-faultless-is false clauses all e = cc
 
 clauses-sound : (words : List Token) (clauses : List Clause) → AreSound words → clauses_at words ≡ Ok clauses → AllByRecursion SoundClause clauses
 unfolding clauses_at

@@ -1,14 +1,11 @@
 -- Each clause leaves a schema that CREATE TABLE gives.
-use Rattle.std.proofs.Common.{◌≡◌, ℕ, zero, suc, ◌+◌, ◌<◌, ◌≤◌, Bool, true, false, not, ◌&&◌, ◌||◌, cond, leb, List, [], ◌∷◌, ◌++◌, length, Option, Some, None, Result, Ok, Err, unwrap_or, refl, sym, ap, subst, ◌∙◌, map, arith, append_assoc, length-append}
-use Rattle.std.specs.Prelude.{is_some, filter, slice_set, sum_by, nat_le}
-use Rattle.std.specs.List.{insert, remove, filter_map, cons_option, list_all, slice_get, AllByRecursion}
-use Rattle.std.proofs.lemmas.Bool.{le-leb, leb-true, leb-false}
+use Rattle.std.proofs.Common.{◌≡◌, ℕ, zero, suc, ◌+◌, ◌<◌, ◌≤◌, Bool, true, false, not, ◌&&◌, ◌||◌, leb, List, [], ◌∷◌, ◌++◌, length, Option, Some, None, Ok, unwrap_or, refl, sym, ap, subst, ◌∙◌, arith, append_assoc, length-append}
+use Rattle.std.specs.Prelude.{is_some, slice_set, sum_by}
+use Rattle.std.specs.List.{insert, remove, slice_get, AllByRecursion}
+use Rattle.std.proofs.lemmas.Bool.{le-leb, leb-true, leb-false, or_parts, not-false}
 use Rattle.std.proofs.lemmas.List.{length-map}
 use Rattle.std.proofs.lemmas.List.Elements.{filter_map-append}
 use Rattle.std.proofs.lemmas.List.Sums.{sum_by-cons}
-use Rattle.gho_values.specs.declared.fault.Unfit.{Unfit}
-use Rattle.gho_values.specs.declared.kind.Kind.{Kind}
-use Rattle.gho_values.specs.declared.value.Value.{Value}
 use Rattle.gho_schema.specs.declared.schema.Column.{Column}
 use Rattle.gho_schema.specs.declared.schema.Index.{Index}
 use Rattle.gho_schema.specs.declared.schema.Schema.{Schema}
@@ -17,27 +14,26 @@ use Rattle.alter_image.specs.declared.clause.Clause.{Clause}
 use Rattle.alter_image.specs.declared.clause.Clause.TheVariants.{Add, Drop, Rename, Change, AddIndex, DropIndex}
 use Rattle.alter_image.specs.declared.clause.NewColumn.{NewColumn}
 use Rattle.alter_image.specs.declared.clause.Spot.{Spot}
-use Rattle.table_words.specs.Reads.{◌>>=◌}
+use Rattle.schema_rules.specs.Results.{◌>>=◌}
 use Rattle.gho_schema.specs.Clustering.{clustered_place}
-use Rattle.schema_text.specs.Declaring.{first_reason}
-use Rattle.schema_text.specs.Defaults.{stored_default, default_size, defaults_fit}
-use Rattle.schema_text.specs.Keys.{is_among, names_differ}
-use Rattle.schema_text.specs.Limits.{is_column_name}
+use Rattle.schema_rules.specs.Reasons.{first_reason}
+use Rattle.schema_rules.specs.Defaults.{stored_default, default_size, defaults_fit, default_or}
+use Rattle.schema_rules.specs.Names.{is_among}
+use Rattle.schema_rules.specs.Limits.{is_column_name}
 use Rattle.schema_laws.proofs.Columns.{made}
-use Rattle.schema_laws.proofs.Lists.{All-at, All-append, All-weaker, list_all-All, All-list_all}
+use Rattle.schema_rules.proofs.Lists.{All-at, All-append, All-weaker, list_all-All, All-list_all, All-both}
 use Rattle.alter_schema.specs.declared.code.AlterCode.{AlterCode}
 use Rattle.alter_schema.specs.declared.code.AlterCode.TheVariants as codes
 use Rattle.alter_schema.specs.declared.places.PlaceChange.{PlaceChange}
 use Rattle.alter_schema.specs.declared.places.PlaceChange.TheVariants.{Added, Dropped, Moved}
 use Rattle.alter_schema.specs.declared.standing.Standing.{Standing}
 use Rattle.alter_schema.specs.Altering.{step, steps, result_reasons, map_of, result_of, altered}
-use Rattle.alter_schema.specs.Changing.{add_reasons, added, dropped_at, dropped, rename_reasons, with_name, renamed_in, renamed_at, renamed, is_other_spot, change_reasons, changed_nullable, changed_in, is_unapproved, unless_unapproved, changed_column, changed_at, changed}
-use Rattle.alter_schema.specs.Columns.{has_column, column_named, is_in_keys, is_key_conversion, is_conversion, is_spot, spot_place, default_of, lacks_default, unless_lacking, column_of, fitting}
-use Rattle.alter_schema.specs.Indexing.{index_name, are_columns, index_reasons, index_of, with_index, indexed_as, indexed, index_place, is_clustered, without_unique, without_index, unindexed_at, unindexed}
-use Rattle.alter_schema.specs.Indexing.{key_names as table_names}
+use Rattle.alter_schema.specs.Changing.{add_reasons, added, dropped_at, dropped, rename_reasons, with_name, renamed_in, renamed_at, renamed, change_reasons, changed_nullable, changed_in, is_unapproved, unless_unapproved, changed_column, changed_at, changed}
+use Rattle.alter_schema.specs.Columns.{has_column, column_named, is_in_keys, is_key_conversion, is_conversion, is_spot, spot_place, lacks_default, unless_lacking, column_of, fitting}
+use Rattle.alter_schema.specs.Indexing.{index_name, are_columns, index_reasons, index_of, with_index, indexed_as, indexed, index_place, is_clustered, without_unique, without_index, unindexed_at, unindexed, key_names as table_names}
 use Rattle.alter_schema.specs.Places.{has_places, index_after, keys_after, indexes_after}
 use Rattle.alter_schema.specs.Standing.{start, with_columns, put_in, taken_out, origin_at, moved_to}
-use Rattle.alter_schema.proofs.Steps.{bind_ok, unless_ok, none_first, ok_is, kept_out, let_through}
+use Rattle.schema_rules.proofs.Steps.{bind_ok, unless_ok, none_first, ok_is, kept_out, let_through, default_is}
 use Rattle.alter_schema.proofs.Tables.{fitting-is, approved-is}
 use Rattle.alter_laws.specs.Laws.{Altered}
 use Rattle.alter_laws.proofs.Apart.{All-insert, All-taken, All-set}
@@ -46,13 +42,9 @@ use Rattle.reread_laws.specs.Laws.{HasName, PrimaryStandsFirst, key_names, has_d
 use Rattle.reread_laws.proofs.Differ.{Differ, differ-parts, differ-whole}
 use Rattle.reread_laws.proofs.ReadDeclared.{default-has}
 use Rattle.alter_reread_laws.specs.Laws.{AlteredSchemasAreDeclared}
-use Rattle.alter_reread_laws.proofs.Names.{Left, done, out, kept, left-own, left-filter, left-remove, left-both, left-length, left-all, left-differ, left-names, after-names, after-all, first-of, left-first}
+use Rattle.alter_reread_laws.proofs.Names.{Left, done, out, kept, left-own, left-filter, left-remove, left-both, left-length, left-all, left-differ, left-names, after-names, after-all, left-first}
 
 -- ---- the columns that clauses write
-
-default_is : (r : Result (Option Value) Unfit) (default : Option Value) → default_of r ≡ Ok default → r ≡ Ok default
-default_is (Ok d) default e = let same : d ≡ default = cc in ap (λ (x : Option Value). Ok x) same
-default_is (Err reason) default e = absurd cc
 
 -- a lawful name, and a default where it may be null
 abbrev IsFine : Column → Type 0
@@ -61,8 +53,8 @@ IsFine column = (is_column_name column.name ≡ true) × (has_default column ≡
 column_of-fine : (origin : Option ℕ) (written : NewColumn) (nullable : Bool) (column : Column) → is_column_name written.name ≡ true → column_of origin written nullable ≡ Ok column → IsFine column
 unfolding column_of
 column_of-fine origin written nullable column name e =
-    let b = bind_ok (default_of (stored_default written.kind nullable written.default)) (λ default. unless_lacking (lacks_default origin nullable default) (made written.name written.kind nullable default)) column e in
-    let has = default-has written.kind nullable written.default b.0 (default_is (stored_default written.kind nullable written.default) b.0 b.1) in
+    let b = bind_ok (default_or codes.Default (stored_default written.kind nullable written.default)) (λ default. unless_lacking (lacks_default origin nullable default) (made written.name written.kind nullable default)) column e in
+    let has = default-has written.kind nullable written.default b.0 (default_is codes.Default (stored_default written.kind nullable written.default) b.0 b.1) in
     subst IsFine (lacking-is (lacks_default origin nullable b.0) (made written.name written.kind nullable b.0) column b.2) (name, has)
 
 -- ---- what is kept of columns and of keys
@@ -79,13 +71,9 @@ record FineKeys (uniques indexes : List Index) : Type 0 where
   pub named : AllByRecursion HasName indexes
   pub differ : Differ (key_names uniques ++ key_names indexes)
 
-all-both : {X : Type 0} (P Q : X → Type 0) (xs : List X) → AllByRecursion P xs → AllByRecursion Q xs → AllByRecursion (λ x. P x × Q x) xs
-all-both P Q [] ps qs = tt
-all-both P Q (x ∷ xs) ps qs = ((ps.0, qs.0), all-both P Q xs ps.1 qs.1)
-
 declared-columns : (migrated : List ℕ) (schema : Schema) → IsDeclared migrated schema → FineColumns schema.columns
 declared-columns migrated schema is = record {
-  all = all-both (λ (c : Column). is_column_name c.name ≡ true) (λ c. has_default c ≡ true) schema.columns (list_all-All (λ (c : Column). is_column_name c.name) schema.columns is.column_names) is.has_defaults;
+  all = All-both (λ (c : Column). is_column_name c.name ≡ true) (λ c. has_default c ≡ true) schema.columns (list_all-All (λ (c : Column). is_column_name c.name) schema.columns is.column_names) is.has_defaults;
   fit = is.defaults;
 }
 
@@ -152,10 +140,6 @@ differ-more : (names : List (List ℕ)) (name : List ℕ) → Differ names → A
 differ-more [] name differ free = (tt, tt)
 differ-more (known ∷ names) name differ free = (All-append (λ other. same_name known other ≡ false) names (name ∷ []) differ.0 (free.0, tt), differ-more names name differ.1 free.1)
 
-or_parts : (a b : Bool) → (a || b) ≡ false → (a ≡ false) × (b ≡ false)
-or_parts true b e = absurd cc
-or_parts false b e = (refl, e)
-
 free-names : (names : List (List ℕ)) (name : List ℕ) → is_among names name ≡ false → AllByRecursion (λ known. same_name known name ≡ false) names
 unfolding is_among
 free-names [] name e = tt
@@ -220,36 +204,28 @@ fits-now standing next e = (let_through (defaults_fit standing.schema.columns) s
 
 -- ---- the changes
 
-not_false : (b : Bool) → not b ≡ false → b ≡ true
-not_false true e = refl
-not_false false e = absurd cc
-
-neither : (a b : Bool) → (a || b) ≡ false → (a ≡ false) × (b ≡ false)
-neither true b e = absurd cc
-neither false b e = (refl, e)
-
 add-named : (columns : List Column) (written : NewColumn) (spot : Spot) → first_reason (add_reasons columns written spot) ≡ None → is_column_name written.name ≡ true
 add-named columns written spot none =
     let scope = leb 64 (length columns) || not (is_column_name written.name) in
     let second = none_first (not (is_spot columns spot)) codes.UnknownName ((has_column columns written.name, codes.RepeatedName) ∷ (scope, codes.Scope) ∷ []) none in
     let third = none_first (has_column columns written.name) codes.RepeatedName ((scope, codes.Scope) ∷ []) second.1 in
     let last = none_first scope codes.Scope [] third.1 in
-    not_false (is_column_name written.name) (neither (leb 64 (length columns)) (not (is_column_name written.name)) last.0).1
+    not-false (is_column_name written.name) (or_parts (leb 64 (length columns)) (not (is_column_name written.name)) last.0).1
 
 rename-named : (approve : Bool) (columns : List Column) (place : ℕ) (old new : List ℕ) → first_reason (rename_reasons approve columns place old new) ≡ None → is_column_name new ≡ true
 rename-named approve columns place old new none =
     let second = none_first (has_column (remove columns place) new) codes.RepeatedName ((not (is_column_name new), codes.Scope) ∷ (is_unapproved approve old new, codes.RenameNotApproved) ∷ []) none in
-    not_false (is_column_name new) (none_first (not (is_column_name new)) codes.Scope ((is_unapproved approve old new, codes.RenameNotApproved) ∷ []) second.1).0
+    not-false (is_column_name new) (none_first (not (is_column_name new)) codes.Scope ((is_unapproved approve old new, codes.RenameNotApproved) ∷ []) second.1).0
 
 change-named : (schema : Schema) (place : ℕ) (column : Column) (written : NewColumn) (spot : Spot) → first_reason (change_reasons schema place column written spot) ≡ None → is_column_name written.name ≡ true
 change-named schema place column written spot none =
     let converted = is_in_keys schema.uniques place && not (is_key_conversion column.kind written.kind) in
     let scope = not (is_conversion column.kind written.kind) || not (is_column_name written.name) in
-    let second = none_first (not (is_other_spot schema.columns column.name written.name spot)) codes.UnknownName ((has_column (remove schema.columns place) written.name, codes.RepeatedName) ∷ (converted, codes.KeyColumnConverted) ∷ (scope, codes.Scope) ∷ []) none in
+    let second = none_first (not (is_spot (remove schema.columns place) spot)) codes.UnknownName ((has_column (remove schema.columns place) written.name, codes.RepeatedName) ∷ (converted, codes.KeyColumnConverted) ∷ (scope, codes.Scope) ∷ []) none in
     let third = none_first (has_column (remove schema.columns place) written.name) codes.RepeatedName ((converted, codes.KeyColumnConverted) ∷ (scope, codes.Scope) ∷ []) second.1 in
     let fourth = none_first converted codes.KeyColumnConverted ((scope, codes.Scope) ∷ []) third.1 in
     let last = none_first scope codes.Scope [] fourth.1 in
-    not_false (is_column_name written.name) (neither (not (is_conversion column.kind written.kind)) (not (is_column_name written.name)) last.0).1
+    not-false (is_column_name written.name) (or_parts (not (is_conversion column.kind written.kind)) (not (is_column_name written.name)) last.0).1
 
 table-names : (schema : Schema) → table_names schema ≡ key_names schema.uniques ++ key_names schema.indexes
 unfolding table_names

@@ -1,7 +1,7 @@
 -- Keys of which some are left out: what holds of all still does.
-use Rattle.std.proofs.Common.{◌≡◌, ℕ, zero, suc, ◌+◌, ◌≤◌, Bool, true, false, cond, List, [], ◌∷◌, ◌++◌, length, Option, Some, None, refl, ap, subst, map, arith, length-append}
+use Rattle.std.proofs.Common.{◌≡◌, ℕ, zero, suc, ◌≤◌, Bool, true, false, cond, List, [], ◌∷◌, ◌++◌, length, Option, Some, None, refl, ap, arith}
 use Rattle.std.specs.Prelude.{filter}
-use Rattle.std.specs.List.{cons_option, filter_map, remove, AllByRecursion}
+use Rattle.std.specs.List.{cons_option, remove, AllByRecursion}
 use Rattle.gho_schema.specs.declared.schema.Index.{Index}
 use Rattle.gho_schema.specs.Names.{same_name}
 use Rattle.alter_schema.specs.declared.places.PlaceChange.{PlaceChange}

@@ -1,9 +1,6 @@
 -- Each clause leaves a schema that can be printed.
-use Rattle.std.proofs.Common.{◌≡◌, ℕ, ◌<◌, ◌≤◌, Bool, true, false, not, ◌&&◌, cond, List, [], ◌∷◌, ◌++◌, length, Option, Some, None, Result, Ok, Err, unwrap_or, refl, ap, subst, ◌∙◌}
-use Rattle.std.specs.Prelude.{filter, slice_set}
-use Rattle.std.specs.List.{insert, remove, filter_map, cons_option, slice_get, AllByRecursion}
-use Rattle.gho_values.specs.declared.fault.Unfit.{Unfit}
-use Rattle.gho_values.specs.declared.value.Value.{Value}
+use Rattle.std.proofs.Common.{◌≡◌, ℕ, Bool, true, List, [], ◌∷◌, length, Option, Some, None, Ok, unwrap_or, refl, subst, ◌∙◌}
+use Rattle.std.specs.List.{remove, slice_get, AllByRecursion}
 use Rattle.gho_values.specs.Laws.{StoresAgain}
 use Rattle.gho_schema.specs.declared.schema.Column.{Column}
 use Rattle.gho_schema.specs.declared.schema.Index.{Index}
@@ -12,13 +9,13 @@ use Rattle.alter_image.specs.declared.clause.Clause.{Clause}
 use Rattle.alter_image.specs.declared.clause.Clause.TheVariants.{Add, Drop, Rename, Change, AddIndex, DropIndex}
 use Rattle.alter_image.specs.declared.clause.NewColumn.{NewColumn}
 use Rattle.alter_image.specs.declared.clause.Spot.{Spot}
-use Rattle.table_words.specs.Reads.{◌>>=◌}
+use Rattle.schema_rules.specs.Results.{◌>>=◌}
 use Rattle.gho_schema.specs.Clustering.{clustered_place}
-use Rattle.schema_text.specs.Declaring.{first_reason}
-use Rattle.schema_text.specs.Defaults.{stored_default}
-use Rattle.schema_text.specs.Lawful.{is_kind}
+use Rattle.schema_rules.specs.Reasons.{first_reason}
+use Rattle.schema_rules.specs.Defaults.{stored_default, default_or}
+use Rattle.schema_rules.specs.Lawful.{is_kind}
 use Rattle.schema_laws.proofs.Columns.{made, default_stores}
-use Rattle.schema_laws.proofs.Lists.{All-at, All-append, All-filter}
+use Rattle.schema_rules.proofs.Lists.{All-at, All-append, All-filter}
 use Rattle.alter_schema.specs.declared.code.AlterCode.{AlterCode}
 use Rattle.alter_schema.specs.declared.code.AlterCode.TheVariants as codes
 use Rattle.alter_schema.specs.declared.places.PlaceChange.{PlaceChange}
@@ -26,11 +23,11 @@ use Rattle.alter_schema.specs.declared.places.PlaceChange.TheVariants.{Added, Dr
 use Rattle.alter_schema.specs.declared.standing.Standing.{Standing}
 use Rattle.alter_schema.specs.Altering.{step, steps}
 use Rattle.alter_schema.specs.Changing.{add_reasons, added, dropped_at, dropped, rename_reasons, with_name, renamed_in, renamed_at, renamed, change_reasons, changed_nullable, changed_in, is_unapproved, unless_unapproved, changed_column, changed_at, changed}
-use Rattle.alter_schema.specs.Columns.{column_named, is_in_keys, spot_place, default_of, lacks_default, unless_lacking, column_of, fitting}
+use Rattle.alter_schema.specs.Columns.{column_named, is_in_keys, spot_place, lacks_default, unless_lacking, column_of, fitting}
 use Rattle.alter_schema.specs.Indexing.{key_names, spelled_as, first_column, index_name, index_reasons, index_of, with_index, indexed_as, indexed, index_place, is_clustered, without_unique, without_index, unindexed_at, unindexed}
 use Rattle.alter_schema.specs.Places.{has_places, keys_after, indexes_after}
 use Rattle.alter_schema.specs.Standing.{with_columns, put_in, taken_out, origin_at, moved_to}
-use Rattle.alter_schema.proofs.Steps.{bind_ok, unless_ok, ok_is, kept_out}
+use Rattle.schema_rules.proofs.Steps.{bind_ok, unless_ok, ok_is, kept_out, default_is}
 use Rattle.alter_schema.proofs.Tables.{fitting-is, approved-is}
 use Rattle.alter_laws.specs.Laws.{IsClause}
 use Rattle.alter_laws.proofs.Apart.{All-insert, All-taken, All-set}
@@ -43,15 +40,11 @@ use Rattle.alter_reread_laws.proofs.Names.{after-all, left-all, left-remove}
 
 -- ---- columns
 
-default_is : (r : Result (Option Value) Unfit) (default : Option Value) → default_of r ≡ Ok default → r ≡ Ok default
-default_is (Ok d) default e = let same : d ≡ default = cc in ap (λ (x : Option Value). Ok x) same
-default_is (Err reason) default e = absurd cc
-
 column_of-prints : StoresAgain → (origin : Option ℕ) (written : NewColumn) (nullable : Bool) (column : Column) → is_kind written.kind ≡ true → SoundNew written → column_of origin written nullable ≡ Ok column → CanPrintColumn column
 unfolding column_of
 column_of-prints again origin written nullable column kind sound e =
-    let b = bind_ok (default_of (stored_default written.kind nullable written.default)) (λ default. unless_lacking (lacks_default origin nullable default) (made written.name written.kind nullable default)) column e in
-    let is = default_is (stored_default written.kind nullable written.default) b.0 b.1 in
+    let b = bind_ok (default_or codes.Default (stored_default written.kind nullable written.default)) (λ default. unless_lacking (lacks_default origin nullable default) (made written.name written.kind nullable default)) column e in
+    let is = default_is codes.Default (stored_default written.kind nullable written.default) b.0 b.1 in
     let stores = default_stores again written.name written.kind nullable written.default b.0 is in
     let prints = default-prints (made written.name written.kind nullable b.0) b.0 (default-sound written.kind nullable written.default b.0 sound.1 is) stores in
     subst CanPrintColumn (lacking-is (lacks_default origin nullable b.0) (made written.name written.kind nullable b.0) column b.2) (sound.0, kind-prints written.kind kind, prints)
@@ -66,10 +59,6 @@ after-quotes change indexes all = after-all CanQuoteKey change indexes all
 
 less-quotes : (change : PlaceChange) (indexes : List Index) → AllByRecursion QuotesKey indexes → AllByRecursion QuotesKey (indexes_after change indexes)
 less-quotes change indexes all = All-filter QuotesKey has_places (keys_after change indexes) (after-quotes change indexes all)
-
-name-quotes : (name : Option (List ℕ)) → SoundName name → CanQuoteKey name
-name-quotes None is = tt
-name-quotes (Some name) is = is
 
 -- ---- the changes
 

@@ -1,14 +1,14 @@
 -- What is printed of an altered schema is read as that schema.
-use Rattle.std.proofs.Common.{◌≡◌, ℕ, Bool, List, Ok, subst}
+use Rattle.std.proofs.Common.{◌≡◌, Bool, List, Ok, subst}
 use Rattle.std.specs.List.{AllByRecursion}
 use Rattle.gho_values.specs.Laws.{StoresAgain}
 use Rattle.gho_schema.specs.declared.schema.Schema.{Schema}
 use Rattle.alter_image.specs.declared.clause.Clause.{Clause}
-use Rattle.schema_text.specs.Declaring.{first_reason}
+use Rattle.schema_rules.specs.Reasons.{first_reason}
 use Rattle.alter_schema.specs.declared.code.AlterCode.{AlterCode}
 use Rattle.alter_schema.specs.Altering.{steps, result_reasons, map_of, result_of, altered}
 use Rattle.alter_schema.specs.Standing.{start}
-use Rattle.alter_schema.proofs.Steps.{bind_ok, unless_ok, ok_is}
+use Rattle.schema_rules.proofs.Steps.{bind_ok, unless_ok, ok_is}
 use Rattle.alter_laws.specs.Laws.{Altered, IsClause}
 use Rattle.alter_laws.proofs.Clauses.{read-clauses}
 use Rattle.alter_laws.proofs.KeepingLaws.{altered-lawful}

@@ -7,7 +7,7 @@ use Rattle.alter_laws.specs.Laws.{Altered}
 use Rattle.alter_schema.specs.Altering.{altered}
 use Rattle.alter_text.specs.Reading.{alter_at}
 use Rattle.reread_laws.specs.Laws.{IsDeclared}
-use Rattle.schema_text.specs.Printing.{printed_schema}
+use Rattle.schema_print.specs.Printing.{printed_schema}
 use Rattle.schema_text.specs.Reading.{schema_at}
 
 -- An ALTER of a schema that CREATE TABLE gives leaves one that CREATE TABLE gives.

@@ -6,60 +6,9 @@ use Rattle.std.proofs.lemmas.Bool.{ltb-true, ltb-false}
 use Rattle.gho_schema.specs.declared.schema.Index.{Index}
 use Rattle.alter_schema.specs.declared.places.PlaceChange.{PlaceChange}
 use Rattle.alter_schema.specs.declared.places.PlaceChange.TheVariants.{Added, Dropped, Moved}
+use Rattle.schema_rules.proofs.Lists.{All-filter_map, All-map, All-filter}
+use Rattle.schema_rules.proofs.Steps.{some_is}
 use Rattle.alter_schema.specs.Places.{opened, closed, place_after, index_after, has_places, keys_after, indexes_after, ArePlaces, IsChangeOf}
-
--- ---- lists all of whose items have a property
-
-module _ {X Y : Type 0} (P : X → Type 0) (Q : Y → Type 0) where
-  All-cons_option : (h : X → Option Y) → ((x : X) (y : Y) → P x → h x ≡ Some y → Q y) → (x : X) (o : Option Y) (ys : List Y) → h x ≡ o → P x → AllByRecursion Q ys → AllByRecursion Q (cons_option o ys)
-  All-cons_option h each x (Some y) ys e p all = (each x y p e, all)
-  All-cons_option h each x None ys e p all = all
-
-  pub All-filter_map : (h : X → Option Y) → ((x : X) (y : Y) → P x → h x ≡ Some y → Q y) → (xs : List X) → AllByRecursion P xs → AllByRecursion Q (filter_map h xs)
-  All-filter_map h each [] all = tt
-  All-filter_map h each (x ∷ xs) all = All-cons_option h each x (h x) (filter_map h xs) refl all.0 (All-filter_map h each xs all.1)
-
-  pub All-map : (f : X → Y) → ((x : X) → P x → Q (f x)) → (xs : List X) → AllByRecursion P xs → AllByRecursion Q (map f xs)
-  All-map f each [] all = tt
-  All-map f each (x ∷ xs) all = (each x all.0, All-map f each xs all.1)
-
-module _ {X : Type 0} (P : X → Type 0) where
-  All-filter-by : (b : Bool) (x : X) (xs : List X) → P x → AllByRecursion P xs → AllByRecursion P (cond b (x ∷ xs) xs)
-  All-filter-by true x xs p all = (p, all)
-  All-filter-by false x xs p all = all
-
-  pub All-filter : (test : X → Bool) (xs : List X) → AllByRecursion P xs → AllByRecursion P (filter test xs)
-  All-filter test [] all = tt
-  All-filter test (x ∷ xs) all = All-filter-by (test x) x (filter test xs) all.0 (All-filter test xs all.1)
-
-  pub All-append : (xs ys : List X) → AllByRecursion P xs → AllByRecursion P ys → AllByRecursion P (xs ++ ys)
-  All-append [] ys all others = others
-  All-append (x ∷ xs) ys all others = (all.0, All-append xs ys all.1 others)
-
-  All-take : (n : ℕ) (xs : List X) → AllByRecursion P xs → AllByRecursion P (take n xs)
-  All-take zero xs all = tt
-  All-take (suc n) [] all = tt
-  All-take (suc n) (x ∷ xs) all = (all.0, All-take n xs all.1)
-
-  All-drop : (n : ℕ) (xs : List X) → AllByRecursion P xs → AllByRecursion P (drop n xs)
-  All-drop zero xs all = all
-  All-drop (suc n) [] all = tt
-  All-drop (suc n) (x ∷ xs) all = All-drop n xs all.1
-
-  pub All-remove : (xs : List X) (i : ℕ) → AllByRecursion P xs → AllByRecursion P (remove xs i)
-  All-remove xs i all = All-append (take i xs) (drop (suc i) xs) (All-take i xs all) (All-drop (suc i) xs all)
-
-some_if : (b : Bool) (x y : ℕ) → cond b (Some x) None ≡ Some y → (b ≡ true) × (x ≡ y)
-some_if true x y e = (refl, cc)
-some_if false x y e = absurd cc
-
--- where an item was found there is one
-pub position-within : {X : Type 0} (test : X → Bool) (xs : List X) (place : ℕ) → position test xs ≡ Some place → place < length xs
-position-within test xs place e =
-    let found = some_if (ltb (position_or_len test xs) (length xs)) (position_or_len test xs) place e in
-    subst (λ (n : ℕ). n < length xs) found.1 (ltb-true _ _ found.0)
-
--- ---- places
 
 opened-within : (at place count : ℕ) (b : Bool) → place < count → cond b place (place + 1) < count + 1
 opened-within at place count true lt = omega arith
@@ -77,12 +26,6 @@ abbrev pub count_after : PlaceChange → ℕ → ℕ
 count_after (Added at) count = count + 1
 count_after (Dropped at) count = count - 1
 count_after (Moved from to) count = count
-
-abbrev some_place : ℕ → Option ℕ
-some_place x = Some x
-
-some_is : (x y : ℕ) → some_place x ≡ some_place y → x ≡ y
-some_is x y e = cc
 
 dropped-within : (at place count after : ℕ) (b : Bool) → eqb place at ≡ b → at < count → place < count → cond b None (Some (closed at place)) ≡ Some after → after < count - 1
 dropped-within at place count after true e within lt h = absurd cc

@@ -8,7 +8,7 @@ use Rattle.alter_schema.specs.declared.code.AlterFault.TheVariants as faults
 use Rattle.alter_schema.specs.declared.standing.Standing.{Standing}
 use Rattle.alter_schema.specs.Altering.{step, steps}
 use Rattle.alter_schema.specs.Codes.{Refuses}
-use Rattle.alter_schema.proofs.Rest.{from_here}
+use Rattle.schema_rules.proofs.Loops.{from_here}
 
 module _ (approve : Bool) (standing : Standing) (clauses : List Clause) (i : ℕ) (clause : Clause) (total : Result Standing AlterCode) where
   pub goes_on : (next : Standing) → i < length clauses → clause ≡ get_or clauses i clause → step approve standing clause ≡ Ok next → steps approve standing (drop i clauses) ≡ total → steps approve next (drop (i + 1) clauses) ≡ total

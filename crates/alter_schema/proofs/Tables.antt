@@ -2,7 +2,7 @@
 use Rattle.std.proofs.Common.{◌≡◌, ℕ, suc, ◌+◌, ◌-◌, ◌<◌, ◌≤◌, Bool, true, false, not, ◌||◌, leb, List, [], ◌∷◌, length, Option, Some, None, Ok, refl, sym, ap, subst, ◌∙◌, arith, unwrap_or}
 use Rattle.std.specs.Prelude.{slice_set}
 use Rattle.std.specs.List.{insert, remove, AllByRecursion}
-use Rattle.std.proofs.lemmas.Bool.{leb-false}
+use Rattle.std.proofs.lemmas.Bool.{leb-false, or_parts}
 use Rattle.std.proofs.lemmas.List.{length-set}
 use Rattle.std.proofs.lemmas.List.Edits.{length-insert, length-remove}
 use Rattle.gho_schema.specs.declared.schema.Column.{Column}
@@ -14,12 +14,12 @@ use Rattle.alter_image.specs.declared.clause.Clause.TheVariants.{Add, Drop, Rena
 use Rattle.alter_image.specs.declared.clause.NewColumn.{NewColumn}
 use Rattle.alter_image.specs.declared.clause.Spot.{Spot}
 use Rattle.alter_image.specs.declared.clause.Spot.TheVariants.{Unsaid, First, After}
-use Rattle.table_words.specs.Reads.{◌>>=◌}
+use Rattle.schema_rules.specs.Results.{◌>>=◌}
 use Rattle.gho_schema.specs.Clustering.{clustered_place}
-use Rattle.schema_text.specs.Declaring.{first_reason}
-use Rattle.schema_text.specs.Defaults.{defaults_fit}
-use Rattle.schema_text.specs.Lawful.{IsKey, IsLawful}
-use Rattle.schema_text.specs.Limits.{is_column_name}
+use Rattle.schema_rules.specs.Reasons.{first_reason}
+use Rattle.schema_rules.specs.Defaults.{defaults_fit}
+use Rattle.schema_rules.specs.Lawful.{IsKey, IsLawful}
+use Rattle.schema_rules.specs.Limits.{is_column_name}
 use Rattle.alter_schema.specs.declared.code.AlterCode.{AlterCode}
 use Rattle.alter_schema.specs.declared.code.AlterCode.TheVariants as codes
 use Rattle.alter_schema.specs.declared.places.PlaceChange.TheVariants.{Added, Dropped, Moved}
@@ -30,8 +30,11 @@ use Rattle.alter_schema.specs.Columns.{column_place, has_column, beside, found_a
 use Rattle.alter_schema.specs.Indexing.{index_name, index_reasons, index_of, with_index, indexed_as, indexed, index_place, is_clustered, without_unique, without_index, unindexed_at, unindexed}
 use Rattle.alter_schema.specs.Places.{keys_after, indexes_after, ArePlaces}
 use Rattle.alter_schema.specs.Standing.{places_from, start, with_columns, put_in, taken_out, origin_at, moved_to, Stands}
-use Rattle.alter_schema.proofs.KeyPlaces.{All-filter_map, All-append, All-remove, position-within, keys_after-within, indexes_after-within}
-use Rattle.alter_schema.proofs.Steps.{bind_ok, unless_ok, none_first, ok_is, let_through, kept_out}
+use Rattle.schema_rules.proofs.Lists.{All-filter_map, All-append, All-remove, position-within}
+use Rattle.alter_schema.proofs.KeyPlaces.{keys_after-within, indexes_after-within}
+use Rattle.schema_rules.proofs.Steps.{bind_ok, unless_ok, none_first, ok_is, let_through, kept_out}
+use Rattle.gho_values.specs.declared.fault.Unfit.{Unfit}
+use Rattle.gho_values.specs.declared.value.Value.{Value}
 
 -- ---- found columns
 
@@ -122,17 +125,13 @@ renamed_in-stands standing place column stands =
 pub fitting-is : (standing next : Standing) → fitting standing ≡ Ok next → standing ≡ next
 fitting-is standing next e = (let_through (defaults_fit standing.schema.columns) standing next codes.Default e).1
 
-or_false : (a b : Bool) → (a || b) ≡ false → a ≡ false
-or_false true b e = absurd cc
-or_false false b e = refl
-
 pub few_enough : (columns : List Column) (written : NewColumn) (spot : Spot) → first_reason (add_reasons columns written spot) ≡ None → length columns < 64
 few_enough columns written spot none =
     let limit = leb 64 (length columns) || not (is_column_name written.name) in
     let second = none_first (not (is_spot columns spot)) codes.UnknownName ((has_column columns written.name, codes.RepeatedName) ∷ (limit, codes.Scope) ∷ []) none in
     let third = none_first (has_column columns written.name) codes.RepeatedName ((limit, codes.Scope) ∷ []) second.1 in
     let here = none_first limit codes.Scope [] third.1 in
-    leb-false 64 (length columns) (or_false (leb 64 (length columns)) (not (is_column_name written.name)) here.0)
+    leb-false 64 (length columns) ((or_parts (leb 64 (length columns)) (not (is_column_name written.name)) here.0).0)
 
 added-stands : (standing next : Standing) (written : NewColumn) (spot : Spot) → Stands standing → added standing written spot ≡ Ok next → Stands next
 unfolding added

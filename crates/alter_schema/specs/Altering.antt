@@ -11,9 +11,9 @@ use Rattle.alter_image.specs.declared.clause.Clause.TheVariants.{Add, Drop, Rena
 use Rattle.alter_image.specs.declared.map.MapColumn.{MapColumn}
 use Rattle.alter_image.specs.declared.map.Origin.{Origin}
 use Rattle.alter_image.specs.declared.map.Origin.TheVariants as from
-use Rattle.table_words.specs.Reads.{◌>>=◌}
+use Rattle.schema_rules.specs.Results.{◌>>=◌}
 use Rattle.gho_schema.specs.Clustering.{is_not_null, clustered_key}
-use Rattle.schema_text.specs.Declaring.{Reasons, first_reason, unless}
+use Rattle.schema_rules.specs.Reasons.{Reasons, first_reason, unless}
 use Rattle.alter_schema.specs.declared.code.AlterCode.{AlterCode}
 use Rattle.alter_schema.specs.declared.code.AlterCode.TheVariants as codes
 use Rattle.alter_schema.specs.declared.standing.Standing.{Standing}

@@ -1,16 +1,14 @@
 -- What each clause but those on indexes makes of the table, or the first reason to refuse it ("ALTER TABLE Statement").
-use Rattle.std.specs.Prelude.{ℕ, nat_le, Bool, true, false, not, ◌&&◌, ◌||◌, if◌then◌else◌, List, [], ◌∷◌, length, unwrap_or, Option, Some, None, Result, Ok, Err}
-use Rattle.std.specs.Prelude.{slice_set}
+use Rattle.std.specs.Prelude.{ℕ, nat_le, Bool, true, false, not, ◌&&◌, ◌||◌, if◌then◌else◌, List, [], ◌∷◌, length, unwrap_or, Option, Some, None, Result, Ok, Err, slice_set}
 use Rattle.std.specs.List.{remove}
 use Rattle.gho_schema.specs.declared.schema.Column.{Column}
 use Rattle.gho_schema.specs.declared.schema.Schema.{Schema}
 use Rattle.gho_schema.specs.Names.{same_name}
 use Rattle.alter_image.specs.declared.clause.NewColumn.{NewColumn}
 use Rattle.alter_image.specs.declared.clause.Spot.{Spot}
-use Rattle.alter_image.specs.declared.clause.Spot.TheVariants.{Unsaid, First, After}
-use Rattle.table_words.specs.Reads.{◌>>=◌}
-use Rattle.schema_text.specs.Declaring.{Reasons, first_reason, unless}
-use Rattle.schema_text.specs.Limits.{is_column_name}
+use Rattle.schema_rules.specs.Results.{◌>>=◌}
+use Rattle.schema_rules.specs.Reasons.{Reasons, first_reason, unless}
+use Rattle.schema_rules.specs.Limits.{is_column_name}
 use Rattle.alter_schema.specs.declared.code.AlterCode.{AlterCode}
 use Rattle.alter_schema.specs.declared.code.AlterCode.TheVariants as codes
 use Rattle.alter_schema.specs.declared.standing.Standing.{Standing}
@@ -70,15 +68,10 @@ renamed approve standing old new = renamed_at approve standing new (column_named
 
 -- ---- CHANGE and MODIFY
 
--- the column behind which the changed one is to stand is there, and is another, by its old name and by its new one
-abbrev pub is_other_spot : List Column → List ℕ → List ℕ → Spot → Bool
-is_other_spot columns old new Unsaid = true
-is_other_spot columns old new First = true
-is_other_spot columns old new (After name) = has_column columns name && not (same_name name old) && not (same_name name new)
-
+-- The column behind which the changed one is to stand is one of the others, by their names; and none of these has its new name.
 abbrev pub change_reasons : Schema → ℕ → Column → NewColumn → Spot → Reasons AlterCode
 change_reasons schema place column written spot =
-    (not (is_other_spot schema.columns column.name written.name spot), codes.UnknownName)
+    (not (is_spot (remove schema.columns place) spot), codes.UnknownName)
     ∷ (has_column (remove schema.columns place) written.name, codes.RepeatedName)
     ∷ (is_in_keys schema.uniques place && not (is_key_conversion column.kind written.kind), codes.KeyColumnConverted)
     ∷ (not (is_conversion column.kind written.kind) || not (is_column_name written.name), codes.Scope)

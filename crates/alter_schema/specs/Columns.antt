@@ -11,8 +11,8 @@ use Rattle.gho_schema.specs.Names.{same_name}
 use Rattle.alter_image.specs.declared.clause.NewColumn.{NewColumn}
 use Rattle.alter_image.specs.declared.clause.Spot.{Spot}
 use Rattle.alter_image.specs.declared.clause.Spot.TheVariants.{Unsaid, First, After}
-use Rattle.table_words.specs.Reads.{◌>>=◌}
-use Rattle.schema_text.specs.Defaults.{stored_default, defaults_fit}
+use Rattle.schema_rules.specs.Results.{◌>>=◌}
+use Rattle.schema_rules.specs.Defaults.{stored_default, defaults_fit, default_or}
 use Rattle.alter_schema.specs.declared.code.AlterCode.{AlterCode}
 use Rattle.alter_schema.specs.declared.code.AlterCode.TheVariants as codes
 use Rattle.alter_schema.specs.declared.standing.Standing.{Standing}
@@ -73,11 +73,6 @@ spot_place columns (After name) place = behind (column_place columns name)
 
 -- ---- defaults
 
--- a default that isn't stored is refused
-abbrev pub default_of : Result (Option Value) Unfit → Result (Option Value) AlterCode
-default_of (Ok default) = Ok default
-default_of (Err reason) = Err codes.Default
-
 -- an added column that may not be null has to have a default, since rows that stand have no value for it (this project's rule)
 abbrev pub lacks_default : Option ℕ → Bool → Option Value → Bool
 lacks_default None false None = true
@@ -92,7 +87,7 @@ unless_lacking false column = Ok column
 -- the column that a clause writes, whose values come from there
 unfoldable pub column_of : Option ℕ → NewColumn → Bool → Result Column AlterCode
 column_of origin written nullable = do
-  default ← default_of (stored_default written.kind nullable written.default)
+  default ← default_or codes.Default (stored_default written.kind nullable written.default)
   unless_lacking (lacks_default origin nullable default) (record { name = written.name; kind = written.kind; nullable = nullable; default = default })
 
 -- the defaults of a table fit together

@@ -6,8 +6,8 @@ use Rattle.gho_schema.specs.declared.schema.Index.{Index}
 use Rattle.gho_schema.specs.declared.schema.Schema.{Schema}
 use Rattle.gho_schema.specs.Names.{same_name}
 use Rattle.gho_schema.specs.Clustering.{clustered_place}
-use Rattle.schema_text.specs.Declaring.{Reasons, first_reason, unless}
-use Rattle.schema_text.specs.Keys.{is_among, free_name}
+use Rattle.schema_rules.specs.Reasons.{Reasons, first_reason, unless}
+use Rattle.schema_rules.specs.Names.{is_among, free_name}
 use Rattle.alter_schema.specs.declared.code.AlterCode.{AlterCode}
 use Rattle.alter_schema.specs.declared.code.AlterCode.TheVariants as codes
 use Rattle.alter_schema.specs.declared.standing.Standing.{Standing}

@@ -2,8 +2,8 @@
 
 ghost use Rattle.std.specs.Prelude.{◌≡◌, option_map, IfOk};
 ghost use Rattle.std.specs.List.{slice_get};
-ghost use Rattle.schema_text.specs.Declaring.{first_reason};
-ghost use Rattle.schema_text.specs.Lawful.{IsLawful};
+ghost use Rattle.schema_rules.specs.Reasons.{first_reason};
+ghost use Rattle.schema_rules.specs.Lawful.{IsLawful};
 ghost use Rattle.alter_schema.specs.Altering.{step, steps, is_origin, same_columns, keeps_key, result_reasons, result_of, altered};
 ghost use Rattle.alter_schema.specs.Codes.{Answers};
 ghost use Rattle.alter_schema.specs.Standing.{start, Stands};

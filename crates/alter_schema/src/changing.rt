@@ -1,37 +1,23 @@
 //! CHANGE COLUMN and MODIFY COLUMN.
 
 ghost use Rattle.std.specs.Prelude.{◌≡◌, ◌<◌, length, IfOk};
-ghost use Rattle.schema_text.specs.Declaring.{first_reason};
-ghost use Rattle.alter_schema.specs.Changing.{is_other_spot, change_reasons, changed_nullable, changed_in, unless_unapproved, changed_column, changed};
+ghost use Rattle.schema_rules.specs.Reasons.{first_reason};
+ghost use Rattle.alter_schema.specs.Changing.{change_reasons, changed_nullable, changed_in, unless_unapproved, changed_column, changed};
 ghost use Rattle.alter_schema.specs.Codes.{Answers};
 ghost use Rattle.alter_schema.specs.Standing.{Stands};
 
 use crate::code::{AlterCode, AlterFault};
 use crate::columns::{
-    column_named, column_of, fitting, has_column, is_in_keys, is_in_primary, spot_place,
+    column_named, column_of, fitting, has_column, is_in_keys, is_in_primary, is_spot, spot_place,
 };
 use crate::conversions::{is_conversion, is_key_conversion};
 use crate::renaming::is_unapproved;
 use crate::standing::{Standing, origin_at, removed};
 use alter_image::{NewColumn, Spot};
-use gho_schema::{Column, Schema, same_name};
+use gho_schema::{Column, Schema};
 use gho_values::{Duplicate, Name};
-use schema_text::is_column_name;
+use schema_rules::is_column_name;
 use std::alloc::{AllocError, Global};
-
-fn is_other_spot(columns: &[Column], old: &Name, new: &Name, spot: &Spot) -> bool
-    ensures { result ≡ is_other_spot columns.now old.now new.now spot.now }
-{
-    match spot {
-        Spot::Unsaid | Spot::First => true,
-        Spot::After(name) => {
-            let text = name.as_str().as_bytes();
-            has_column(columns, name)
-                && !same_name(text, old.as_str().as_bytes())
-                && !same_name(text, new.as_str().as_bytes())
-        }
-    }
-}
 
 fn change_reason(
     schema: &Schema,
@@ -43,12 +29,12 @@ fn change_reason(
     requires { place < length schema.now.columns }
     ensures { IfOk result (λ reason. reason ≡ first_reason (change_reasons schema.now place column.now written.now spot.now)) }
 {
-    let columns = schema.columns.as_slice();
     let others = removed(schema.columns.copy()?, place as usize);
+    let others = others.as_slice();
     let is_in_keys = is_in_keys(schema.uniques.as_slice(), place);
-    Ok(if !is_other_spot(columns, &column.name, &written.name, spot) {
+    Ok(if !is_spot(others, spot) {
         Some(AlterCode::UnknownName)
-    } else if has_column(others.as_slice(), &written.name) {
+    } else if has_column(others, &written.name) {
         Some(AlterCode::RepeatedName)
     } else if is_in_keys && !is_key_conversion(column.kind, written.kind) {
         Some(AlterCode::KeyColumnConverted)

@@ -36,26 +36,40 @@ pub enum AlterCode {
 }
 
 impl AlterCode {
-    ghost use Rattle.alter_schema.specs.Codes.{alter_number};
+    ghost use Rattle.alter_schema.specs.Codes.{alter_code, alter_number, alter_name};
+
+    /// The refusal's number and its name.
+    fn code(self) -> (u16, &'static str)
+        ensures { (result.0, result.1.now) ≡ alter_code self }
+    {
+        match self {
+            AlterCode::Syntax => (20, "alter_syntax"),
+            AlterCode::UnknownName => (21, "unknown_name"),
+            AlterCode::RepeatedName => (22, "repeated_column"),
+            AlterCode::KeyColumnDropped => (23, "key_column_dropped"),
+            AlterCode::KeyColumnConverted => (24, "key_column_converted"),
+            AlterCode::AddUnique => (25, "add_unique"),
+            AlterCode::ClusteredKeyChange => (26, "clustered_key_change"),
+            AlterCode::Default => (27, "default"),
+            AlterCode::RenameNotApproved => (28, "rename_not_approved"),
+            AlterCode::RenameTable => (29, "rename_table"),
+            AlterCode::AllColumnsDropped => (30, "all_columns_dropped"),
+            AlterCode::Scope => (31, "alter_scope"),
+        }
+    }
 
     /// The refusal's number.
     pub fn number(self) -> u16
         ensures { result ≡ alter_number self }
     {
-        match self {
-            AlterCode::Syntax => 20,
-            AlterCode::UnknownName => 21,
-            AlterCode::RepeatedName => 22,
-            AlterCode::KeyColumnDropped => 23,
-            AlterCode::KeyColumnConverted => 24,
-            AlterCode::AddUnique => 25,
-            AlterCode::ClusteredKeyChange => 26,
-            AlterCode::Default => 27,
-            AlterCode::RenameNotApproved => 28,
-            AlterCode::RenameTable => 29,
-            AlterCode::AllColumnsDropped => 30,
-            AlterCode::Scope => 31,
-        }
+        self.code().0
+    }
+
+    /// The refusal's name.
+    pub fn name(self) -> &'static str
+        ensures { result.now ≡ alter_name self }
+    {
+        self.code().1
     }
 }
 

@@ -9,7 +9,7 @@ use crate::standing::Standing;
 use alter_image::{NewColumn, Spot};
 use gho_schema::{Column, Index, same_name};
 use gho_values::{Duplicate, Name, StoreFault, Value};
-use schema_text::{defaults_fit, stored_default};
+use schema_rules::{defaults_fit, stored_default};
 use std::alloc::Global;
 
 /// The place of the column of this name.

@@ -5,7 +5,7 @@ use Rattle.alter_image.specs.declared.clause.Clause.TheVariants.{Add, Change, Ad
 use Rattle.table_words.specs.declared.token.Token.{Token}
 use Rattle.table_words.specs.Keys.{key_at}
 use Rattle.table_words.specs.Pieces.{name_at}
-use Rattle.table_words.specs.Reads.{◌>>=◌}
+use Rattle.schema_rules.specs.Results.{◌>>=◌}
 use Rattle.table_words.specs.Tokens.{is_keyword}
 use Rattle.alter_schema.specs.declared.code.AlterCode.TheVariants as refusals
 use Rattle.alter_text.specs.Column.{primary_at, new_column_at, spot_at}

@@ -10,7 +10,7 @@ use Rattle.table_words.specs.Attributes.{unwritten, with_attribute, attribute_at
 use Rattle.table_words.specs.Kinds.{kind_at}
 use Rattle.table_words.specs.Listed.{gathered}
 use Rattle.table_words.specs.Pieces.{behind_keyword, keyword_at, name_at}
-use Rattle.table_words.specs.Reads.{◌>>=◌}
+use Rattle.schema_rules.specs.Results.{◌>>=◌}
 use Rattle.table_words.specs.Tokens.{is_keyword}
 use Rattle.alter_schema.specs.declared.code.AlterCode.{AlterCode}
 use Rattle.alter_schema.specs.declared.code.AlterCode.TheVariants as codes

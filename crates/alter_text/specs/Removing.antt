@@ -4,7 +4,7 @@ use Rattle.alter_image.specs.declared.clause.Clause.{Clause}
 use Rattle.alter_image.specs.declared.clause.Clause.TheVariants.{Drop, Rename, DropIndex}
 use Rattle.table_words.specs.declared.token.Token.{Token}
 use Rattle.table_words.specs.Pieces.{keyword_at, name_at}
-use Rattle.table_words.specs.Reads.{◌>>=◌}
+use Rattle.schema_rules.specs.Results.{◌>>=◌}
 use Rattle.table_words.specs.Tokens.{is_keyword}
 use Rattle.alter_schema.specs.declared.code.AlterCode.TheVariants as refusals
 use Rattle.alter_text.specs.Column.{primary_at}

@@ -7,7 +7,7 @@ use Rattle.gho_values.specs.Comparing.{compare_keys}
 use Rattle.gho_schema.specs.declared.schema.Schema.{Schema}
 use Rattle.alter_image.specs.declared.map.MapColumn.{MapColumn}
 use Rattle.row_store.specs.Databases.{find_table}
-use Rattle.schema_text.specs.Lawful.{IsLawful}
+use Rattle.schema_rules.specs.Lawful.{IsLawful}
 use Rattle.server_words.specs.declared.answer.Answer.{Answer}
 use Rattle.server_words.specs.declared.answer.Answer.TheVariants as answers
 use Rattle.server_words.specs.declared.cause.Cause.TheVariants.{Unfit}

@@ -3,7 +3,7 @@ use Rattle.std.proofs.Common.{◌≡◌, ℕ, ◌==◌, ◌≤◌, nat_le, Bool,
 use Rattle.std.proofs.lemmas.Bool.Decides.{nat_tests}
 use Rattle.std.specs.Io.KnownBytes.{Appends}
 use Rattle.gho_edges.specs.Whole.{ReadsWhole}
-use Rattle.schema_text.specs.Printing.{printed_schema}
+use Rattle.schema_print.specs.Printing.{printed_schema}
 use Rattle.server_words.specs.declared.cause.Cause.{Cause}
 use Rattle.server_words.specs.declared.cause.Verdict.{Verdict}
 use Rattle.server_words.specs.declared.cause.Verdict.TheVariants as verdicts

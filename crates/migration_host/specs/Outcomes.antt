@@ -2,7 +2,7 @@
 -- whole. This project's rule.
 use Rattle.std.specs.Prelude.{◌≡◌, ℕ, true, ◌⊎◌, List, [], map, Option, Some, None, Result, Ok, Err}
 use Rattle.gho_schema.specs.declared.schema.Schema.{Schema}
-use Rattle.schema_text.specs.Printing.{printed_schema}
+use Rattle.schema_print.specs.Printing.{printed_schema}
 use Rattle.server_words.specs.declared.cause.Verdict.{Verdict}
 use Rattle.server_words.specs.declared.cause.Verdict.TheVariants as verdicts
 use Rattle.server_words.specs.declared.entry.Entry.{Entry}

@@ -4,7 +4,7 @@ use Rattle.std.specs.Io.KnownBytes.{Appends, Consumes}
 use Rattle.gho_edges.specs.Edges.{Rose}
 use Rattle.gho_edges.specs.Whole.{ReadsWhole, GivesPart}
 use Rattle.gho_schema.specs.declared.schema.Schema.{Schema}
-use Rattle.schema_text.specs.Printing.{printed_schema}
+use Rattle.schema_print.specs.Printing.{printed_schema}
 use Rattle.server_words.specs.declared.cause.Cause.{Cause}
 use Rattle.server_words.specs.declared.cause.Verdict.{Verdict}
 use Rattle.server_words.specs.declared.cause.Verdict.TheVariants.{Done, Reverted, Unfinished}

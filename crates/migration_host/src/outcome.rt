@@ -16,7 +16,7 @@ use plan_replay::{End, altered_schema, replay_plan};
 use plan_text::{PlanFault, Refusal, read_plan};
 use plan_words::Plan;
 use report_text::report;
-use schema_text::print_schema;
+use schema_print::print_schema;
 use server_core::Server;
 use server_words::{Journal, Serve};
 use std::alloc::{AllocError, Global};

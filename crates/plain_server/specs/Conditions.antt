@@ -12,7 +12,7 @@ use Rattle.alter_image.specs.declared.map.MapColumn.{MapColumn}
 use Rattle.alter_image.specs.declared.map.Origin.{Origin}
 use Rattle.alter_image.specs.declared.map.Origin.TheVariants.{Old, Added}
 use Rattle.row_store.specs.Databases.{TableRows, Database, find_table}
-use Rattle.schema_text.specs.Lawful.{IsLawful}
+use Rattle.schema_rules.specs.Lawful.{IsLawful}
 use Rattle.script_text.specs.declared.actor.Side.{Side}
 use Rattle.plain_server.specs.declared.request.Request.{Request}
 use Rattle.plain_server.specs.declared.request.Request.TheVariants as requests

@@ -11,8 +11,8 @@ use Rattle.gho_schema.specs.Laws.{PutKeepsOrder}
 use Rattle.alter_image.specs.declared.clause.Clause.{Clause}
 use Rattle.row_store.specs.Databases.{TableRows}
 use Rattle.table_words.specs.declared.code.SchemaCode.{SchemaCode}
-use Rattle.table_words.specs.Reads.{◌>>=◌}
-use Rattle.schema_text.specs.Lawful.{IsLawful}
+use Rattle.schema_rules.specs.Results.{◌>>=◌}
+use Rattle.schema_rules.specs.Lawful.{IsLawful}
 use Rattle.schema_text.specs.Reading.{schema_at}
 use Rattle.schema_laws.specs.Laws.{ReadSchemasAreLawful}
 use Rattle.alter_schema.specs.declared.code.AlterCode.{AlterCode}

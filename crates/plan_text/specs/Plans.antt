@@ -4,7 +4,7 @@ use Rattle.std.specs.Str.{is_utf8}
 use Rattle.toml.specs.Data.{Members}
 use Rattle.toml.specs.Parse.{parse_document}
 use Rattle.table_words.specs.declared.code.SchemaCode.{SchemaCode}
-use Rattle.table_words.specs.Reads.{◌>>=◌}
+use Rattle.schema_rules.specs.Results.{◌>>=◌}
 use Rattle.schema_text.specs.Reading.{schema_at}
 use Rattle.alter_schema.specs.declared.code.AlterCode.{AlterCode}
 use Rattle.alter_schema.specs.Altering.{altered}

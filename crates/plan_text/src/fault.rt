@@ -1,7 +1,6 @@
 //! Why bytes are no plan.
 
 ghost use Rattle.std.specs.Prelude.{◌≡◌};
-ghost use Rattle.plan_text.specs.Refusals.{schema_name, alter_name};
 
 use alter_schema::{AlterCode, AlterFault};
 use gho_schema::PutFault;
@@ -53,8 +52,8 @@ impl Refusal {
         match self {
             Refusal::TooLong => "too_long",
             Refusal::NotToml => "not_toml",
-            Refusal::Schema { code, .. } => schema_name(code),
-            Refusal::Alter(code) => alter_name(code),
+            Refusal::Schema { code, .. } => code.name(),
+            Refusal::Alter(code) => code.name(),
             Refusal::NotBuilt => "not_built",
         }
     }
@@ -67,44 +66,6 @@ impl Refusal {
             Refusal::Schema { table, .. } => Some(table),
             _ => None,
         }
-    }
-}
-
-/// The name of a refusal of CREATE TABLE.
-fn schema_name(code: SchemaCode) -> &'static str
-    ensures { result.now ≡ schema_name code }
-{
-    match code {
-        SchemaCode::Syntax => "schema_syntax",
-        SchemaCode::Scope => "schema_scope",
-        SchemaCode::RepeatedName => "repeated_name",
-        SchemaCode::UnknownKeyColumn => "unknown_key_column",
-        SchemaCode::NoClusteredKey => "no_clustered_key",
-        SchemaCode::TooManyColumns => "too_many_columns",
-        SchemaCode::TooManyKeys => "too_many_keys",
-        SchemaCode::NameTooLong => "name_too_long",
-        SchemaCode::ReservedName => "reserved_name",
-        SchemaCode::BadDefault => "bad_default",
-    }
-}
-
-/// The name of a refusal of ALTER TABLE.
-fn alter_name(code: AlterCode) -> &'static str
-    ensures { result.now ≡ alter_name code }
-{
-    match code {
-        AlterCode::Syntax => "alter_syntax",
-        AlterCode::UnknownName => "unknown_name",
-        AlterCode::RepeatedName => "repeated_column",
-        AlterCode::KeyColumnDropped => "key_column_dropped",
-        AlterCode::KeyColumnConverted => "key_column_converted",
-        AlterCode::AddUnique => "add_unique",
-        AlterCode::ClusteredKeyChange => "clustered_key_change",
-        AlterCode::Default => "default",
-        AlterCode::RenameNotApproved => "rename_not_approved",
-        AlterCode::RenameTable => "rename_table",
-        AlterCode::AllColumnsDropped => "all_columns_dropped",
-        AlterCode::Scope => "alter_scope",
     }
 }
 

@@ -14,7 +14,7 @@ use Rattle.sql_words.proofs.Behind.{words_behind-gap, words_behind-end}
 use Rattle.sql_words.proofs.Reprinted.{words_behind-append}
 use Rattle.table_words.specs.declared.token.Token.{Token}
 use Rattle.table_words.specs.Tokens.{token_of}
-use Rattle.schema_text.specs.Printing.{quoted as quoted_name}
+use Rattle.schema_print.specs.Printing.{quoted as quoted_name}
 use Rattle.print_laws.specs.Laws.{CanQuote}
 use Rattle.print_laws.specs.Words.{name_word}
 

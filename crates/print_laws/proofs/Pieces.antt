@@ -19,7 +19,7 @@ use Rattle.sql_words.specs.Printed.{printed_text, printed_bytes}
 use Rattle.sql_words.proofs.NumberWords.{front_at-number_value}
 use Rattle.sql_words.proofs.Reprinted.{front_at-printed_text, front_at-printed_bytes}
 use Rattle.table_words.specs.declared.token.Token.{Token}
-use Rattle.schema_text.specs.Printing.{quoted, integer_name, printed_kind, written_default, printed_default, column_line, column_name, key_names, key_columns, unique_front, index_front}
+use Rattle.schema_print.specs.Printing.{quoted, integer_name, printed_kind, written_default, printed_default, column_line, column_name, key_names, key_columns, unique_front, index_front}
 use Rattle.print_laws.specs.Laws.{CanQuote, CanQuoteKey, CanPrintKind, CanPrintValue, CanPrintDefault, CanPrintColumn}
 use Rattle.print_laws.specs.Words.{keyword, name_word, sign_word, number_word, length_words, kind_words, null_words, written_words, default_words, column_words, names_words, places_words, unique_words, index_words}
 use Rattle.print_laws.proofs.Lexing.{Lexes, lex-gap, lex-word, IsEnd, Writes, Closes, Begins, closes-writes, writes-then, closes-then, closes-both, writes-closed, closes-name}

@@ -29,10 +29,10 @@ use Rattle.table_words.specs.Tokens.{is_keyword, same_sign}
 use Rattle.schema_text.specs.declared.written.ColumnAttribute.TheVariants.{Plain}
 use Rattle.schema_text.specs.declared.written.ColumnAttributes.{ColumnAttributes}
 use Rattle.schema_text.specs.Columns.{unwritten_column, with_column_attribute, column_attribute_at, column_attributes_at, column_at}
-use Rattle.schema_text.specs.Lawful.{is_kind}
+use Rattle.schema_rules.specs.Lawful.{is_kind}
 use Rattle.print_laws.proofs.Numbers.{number_value-decimal, number_value-printed}
 use Rattle.table_words.specs.Pieces.{behind_name, name_at, behind_sign, behind_keyword, sign_at, number_at, keyword_at, literal_of, literal_at}
-use Rattle.schema_text.specs.Printing.{quoted, integer_name}
+use Rattle.schema_print.specs.Printing.{quoted, integer_name}
 use Rattle.print_laws.specs.Laws.{CanQuote, CanPrintKind, CanPrintDefault, CanPrintColumn, default_read, line_of, PrintedColumnsAreRead}
 use Rattle.print_laws.specs.Words.{keyword, name_word, sign_word, number_word, kind_words, null_words, default_words, column_words}
 

@@ -13,7 +13,7 @@ use Rattle.sql_words.specs.Front.{front_at}
 use Rattle.sql_words.specs.Reading.{Reading, words_of}
 use Rattle.table_words.specs.declared.token.Token.{Token}
 use Rattle.table_words.specs.Tokens.{token_of, words_to, text_words}
-use Rattle.schema_text.specs.Printing.{quoted, column_line, key_columns, unique_front, unique_line, index_front, index_line, lines_of, joined, printed_comment, printed_schema}
+use Rattle.schema_print.specs.Printing.{quoted, column_line, key_columns, unique_front, unique_line, index_front, index_line, lines_of, joined, printed_comment, printed_schema}
 use Rattle.print_laws.specs.Laws.{CanQuoteKey, CanPrintColumn, CanPrint, PrintedSchemasHaveWords}
 use Rattle.print_laws.specs.Words.{keyword, name_word, sign_word, column_words, places_words, unique_words, index_words, lines_words, joined_words, comment_words, schema_words}
 use Rattle.print_laws.proofs.Lexing.{Lexes, lex-end, lex-gap, lex-word, IsEnd, Writes, Closes, Begins, closes-writes, writes-then, closes-then, closes-both, writes-closed, closes-name}

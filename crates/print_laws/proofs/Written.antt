@@ -18,9 +18,9 @@ use Rattle.table_words.specs.Scope.{is_no_item}
 use Rattle.table_words.specs.Tokens.{is_keyword, same_sign}
 use Rattle.schema_text.specs.declared.written.Item.{Item}
 use Rattle.schema_text.specs.declared.written.Item.TheVariants as items
-use Rattle.schema_text.specs.Lawful.{is_kind, IsColumn, IsKey, IsLawful}
+use Rattle.schema_rules.specs.Lawful.{is_kind, IsColumn, IsKey, IsLawful}
 use Rattle.schema_text.specs.Options.{value_words, comment_at, option_at, options_at}
-use Rattle.schema_text.specs.Printing.{column_name}
+use Rattle.schema_print.specs.Printing.{column_name}
 use Rattle.schema_text.specs.Written.{primary_item_at, behind_key_word, item_at, items_at, table_at, written}
 use Rattle.print_laws.specs.Laws.{CanQuote, CanQuoteKey, CanPrintColumn, CanPrint, names_read, unique_read, index_read, line_of, table_read, PrintedSchemasAreWritten}
 use Rattle.print_laws.specs.Words.{name_word, sign_word, column_words, names_words, places_words, unique_words, index_words, lines_words, joined_words, comment_words, schema_words}

@@ -16,9 +16,9 @@ use Rattle.schema_text.specs.Columns.{column_at}
 use Rattle.schema_text.specs.declared.written.Item.{Item}
 use Rattle.schema_text.specs.declared.written.Item.TheVariants as items
 use Rattle.schema_text.specs.declared.written.WrittenTable.{WrittenTable}
-use Rattle.schema_text.specs.Lawful.{is_kind, IsLawful}
+use Rattle.schema_rules.specs.Lawful.{is_kind, IsLawful}
 use Rattle.schema_text.specs.Written.{written}
-use Rattle.schema_text.specs.Printing.{column_name, printed_schema}
+use Rattle.schema_print.specs.Printing.{column_name, printed_schema}
 use Rattle.print_laws.specs.Words.{sign_word, column_words, schema_words}
 
 -- a name that can stand between backquotes

@@ -11,7 +11,7 @@ use Rattle.sql_words.specs.declared.word.WordClass.TheVariants as class
 use Rattle.gho_schema.specs.declared.schema.Schema.{Schema}
 use Rattle.gho_schema.specs.declared.schema.Column.{Column}
 use Rattle.table_words.specs.declared.token.Token.{Token}
-use Rattle.schema_text.specs.Printing.{quoted, integer_name, column_name}
+use Rattle.schema_print.specs.Printing.{quoted, integer_name, column_name}
 
 -- ---- words
 

@@ -3,29 +3,13 @@ use Rattle.std.proofs.Common.{◌≡◌, ℕ, zero, suc, ◌+◌, ◌<◌, Bool,
 use Rattle.std.specs.Prelude.{position}
 use Rattle.std.specs.Char.{to_ascii_lowercase}
 use Rattle.std.specs.List.{list_any, slice_get, prefix_len, position_or_len, AllByRecursion}
-use Rattle.std.proofs.lemmas.Bool.{lt-ltb}
+use Rattle.std.proofs.lemmas.Bool.{lt-ltb, and_parts, or_parts}
 use Rattle.std.proofs.lemmas.Slice.Eq.{bytes_eq-Decides}
 use Rattle.gho_schema.specs.Names.{same_name}
-use Rattle.schema_text.specs.Keys.{is_among, differ_from, names_differ, place_of}
-use Rattle.schema_laws.proofs.Lists.{All-at, All-weaker}
-use Rattle.schema_laws.proofs.Steps.{both, neither, first_or, second_or}
-
--- ---- names compared
-
-pub same_name-own : (name : List ℕ) → same_name name name ≡ true
-unfolding same_name
-same_name-own name = (bytes_eq-Decides (map to_ascii_lowercase name) (map to_ascii_lowercase name)).1 refl
-
-same_name-turned : (a b : List ℕ) → same_name a b ≡ true → same_name b a ≡ true
-unfolding same_name
-same_name-turned a b e = (bytes_eq-Decides (map to_ascii_lowercase b) (map to_ascii_lowercase a)).1 (sym ((bytes_eq-Decides (map to_ascii_lowercase a) (map to_ascii_lowercase b)).0 e))
-
-other-by : (a b : Bool) → (b ≡ true → a ≡ true) → a ≡ false → b ≡ false
-other-by a true turned e = absurd (let no : a ≡ true = turned refl in cc)
-other-by a false turned e = refl
-
-pub other_name-turned : (a b : List ℕ) → same_name a b ≡ false → same_name b a ≡ false
-other_name-turned a b e = other-by (same_name a b) (same_name b a) (same_name-turned b a) e
+use Rattle.schema_rules.specs.Names.{is_among, differ_from, names_differ, place_of}
+use Rattle.schema_rules.proofs.Lists.{All-at, All-weaker}
+use Rattle.schema_rules.proofs.Steps.{first_or, second_or}
+use Rattle.schema_rules.proofs.SameNames.{same_name-own, same_name-turned, other_name-turned}
 
 -- ---- pairs of names
 
@@ -47,8 +31,8 @@ none-more : (before : List (List ℕ)) (name other : List ℕ) → is_among (bef
 unfolding is_among
 none-more before name other e =
     let apart = sym (any-append (λ (known : List ℕ). same_name known other) before (name ∷ [])) ∙ e in
-    let two = neither (list_any (λ (known : List ℕ). same_name known other) before) (same_name name other || false) apart in
-    (two.0, (neither (same_name name other) false two.1).0)
+    let two = or_parts (list_any (λ (known : List ℕ). same_name known other) before) (same_name name other || false) apart in
+    (two.0, (or_parts (same_name name other) false two.1).0)
 
 more-none : (before : List (List ℕ)) (name other : List ℕ) → is_among before other ≡ false → same_name name other ≡ false → is_among (before ++ name ∷ []) other ≡ false
 unfolding is_among
@@ -67,7 +51,7 @@ differ_from-parted : (before names : List (List ℕ)) → differ_from before nam
 unfolding differ_from
 differ_from-parted before [] e = record { others = tt; differ = tt }
 differ_from-parted before (name ∷ names) e =
-    let two = both (not (is_among before name)) (differ_from (before ++ name ∷ []) names) e in
+    let two = and_parts (not (is_among before name)) (differ_from (before ++ name ∷ []) names) e in
     let rest = differ_from-parted (before ++ name ∷ []) names two.1 in
     record {
       others = (not_true (is_among before name) two.0, All-weaker (λ (other : List ℕ). is_among (before ++ name ∷ []) other ≡ false) (λ (other : List ℕ). is_among before other ≡ false) (λ other no. (none-more before name other no).0) names rest.others);

@@ -2,7 +2,7 @@
 use Rattle.std.proofs.Common.{◌≡◌, ℕ, ◌+◌, ◌<◌, ◌≤◌, Bool, true, false, not, ◌&&◌, ◌||◌, cond, ltb, List, [], ◌∷◌, ◌++◌, length, Option, Some, None, Result, Ok, Err, refl, sym, ap, subst, ◌∙◌, map, arith, append_assoc, length-append}
 use Rattle.std.specs.Prelude.{is_some, is_none, filter, fold, count_by}
 use Rattle.std.specs.List.{filter_map, cons_option, list_all, AllByRecursion}
-use Rattle.std.proofs.lemmas.Bool.{ltb-false}
+use Rattle.std.proofs.lemmas.Bool.{ltb-false, not-false, and_parts, or_parts}
 use Rattle.std.proofs.lemmas.List.{length-map}
 use Rattle.std.proofs.lemmas.List.Elements.{filter-append, filter_map-append}
 use Rattle.std.proofs.lemmas.List.Sums.{length-filter}
@@ -16,23 +16,25 @@ use Rattle.gho_schema.specs.declared.schema.Index.{Index}
 use Rattle.gho_schema.specs.declared.schema.Schema.{Schema}
 use Rattle.table_words.specs.declared.code.SchemaCode.{SchemaCode}
 use Rattle.table_words.specs.declared.code.SchemaCode.TheVariants.{RepeatedName, UnknownKeyColumn, NoClusteredKey, TooManyColumns, TooManyKeys, NameTooLong, ReservedName, BadDefault}
-use Rattle.table_words.specs.Reads.{◌>>=◌}
+use Rattle.schema_rules.specs.Results.{◌>>=◌}
 use Rattle.table_words.specs.Tokens.{text_words}
 use Rattle.schema_text.specs.declared.keys.NamedKeys.{NamedKeys}
 use Rattle.schema_text.specs.declared.parts.Parts.{Parts}
 use Rattle.schema_text.specs.declared.written.WrittenColumn.{WrittenColumn}
 use Rattle.schema_text.specs.declared.written.WrittenKey.{WrittenKey}
 use Rattle.gho_schema.specs.Clustering.{clustered_place}
-use Rattle.schema_text.specs.Declaring.{Reasons, first_reason, column_names, size_reasons, are_known, name_reasons, nullable_of, default_of, declared_column, declared_columns, primary_index, key_index, schema_of, clustered, built, declared_parts, declared}
-use Rattle.schema_text.specs.Defaults.{stored, stored_default, defaults_fit}
-use Rattle.schema_text.specs.Keys.{names_differ, key_name, no_keys, with_key, named_keys}
-use Rattle.schema_text.specs.Limits.{is_column_name, is_tool_name, is_table_name, is_reserved}
+use Rattle.schema_rules.specs.Reasons.{Reasons, first_reason}
+use Rattle.schema_text.specs.Declaring.{column_names, size_reasons, are_known, name_reasons, nullable_of, declared_column, declared_columns, primary_index, key_index, schema_of, clustered, built, declared_parts, declared}
+use Rattle.schema_rules.specs.Defaults.{stored, stored_default, defaults_fit, default_or}
+use Rattle.schema_rules.specs.Names.{names_differ}
+use Rattle.schema_text.specs.Keys.{key_name, no_keys, with_key, named_keys}
+use Rattle.schema_rules.specs.Limits.{is_column_name, is_tool_name, is_table_name, is_reserved}
 use Rattle.schema_text.specs.Parts.{parts_of}
 use Rattle.schema_text.specs.Reading.{schema_at}
 use Rattle.schema_text.specs.Written.{written}
 use Rattle.schema_laws.proofs.Columns.{made}
-use Rattle.schema_laws.proofs.Lists.{All-append, All-anything, All-filter, All-map, fold-keeps}
-use Rattle.schema_laws.proofs.Steps.{bind_ok, unless_ok, none_first, ok_is, not_false, both, neither}
+use Rattle.schema_rules.proofs.Lists.{All-append, All-anything, All-filter, All-map, fold-keeps}
+use Rattle.schema_rules.proofs.Steps.{bind_ok, unless_ok, none_first, ok_is, default_is}
 use Rattle.reread_laws.specs.Laws.{HasName, PrimaryStandsFirst, key_names, has_default, IsDeclared, ReadSchemasAreDeclared}
 use Rattle.reread_laws.proofs.Differ.{Differ, differ-parts, differ-whole}
 use Rattle.reread_laws.proofs.Parted.{IsNamedText, text_names}
@@ -58,8 +60,8 @@ sized migrated name parts e =
     let second = none_first (is_reserved (is_tool_name migrated name) name) ReservedName third first.1 in
     let after = none_first (ltb 64 (length parts.columns)) TooManyColumns fourth second.1 in
     let last = none_first (ltb 8 uniques || ltb 8 plain) TooManyKeys [] after.1 in
-    let two = both (is_table_name (is_tool_name migrated name) name) (list_all (λ column. is_column_name column.name) parts.columns) (not_false lengths first.0) in
-    let counts = neither (ltb 8 uniques) (ltb 8 plain) last.0 in
+    let two = and_parts (is_table_name (is_tool_name migrated name) name) (list_all (λ column. is_column_name column.name) parts.columns) (not-false lengths first.0) in
+    let counts = or_parts (ltb 8 uniques) (ltb 8 plain) last.0 in
     record { named = two.0; columns = two.1; unreserved = second.0; uniques = ltb-false 8 uniques counts.0; plain = ltb-false 8 plain counts.1 }
 
 record Named (primaries : List (List (List ℕ))) (named : NamedKeys) : Type 0 where
@@ -70,15 +72,11 @@ name_reasons-none : (names : List (List ℕ)) (primaries : List (List (List ℕ)
 name_reasons-none names primaries named e =
     let unknown = not (list_all (are_known names) primaries && list_all (λ (key : WrittenKey). are_known names key.text.columns) named.keys) in
     let first = none_first (not (names_differ names) || ltb 1 (length primaries) || not (names_differ named.names)) RepeatedName ((unknown, UnknownKeyColumn) ∷ []) e in
-    let two = neither (not (names_differ names) || ltb 1 (length primaries)) (not (names_differ named.names)) first.0 in
-    let one = neither (not (names_differ names)) (ltb 1 (length primaries)) two.0 in
-    record { few = ltb-false 1 (length primaries) one.1; differ = not_false (names_differ named.names) two.1 }
+    let two = or_parts (not (names_differ names) || ltb 1 (length primaries)) (not (names_differ named.names)) first.0 in
+    let one = or_parts (not (names_differ names)) (ltb 1 (length primaries)) two.0 in
+    record { few = ltb-false 1 (length primaries) one.1; differ = not-false (names_differ named.names) two.1 }
 
 -- ---- columns
-
-default_is : (r : Result (Option Value) Unfit) (default : Option Value) → default_of r ≡ Ok default → r ≡ Ok default
-default_is (Ok d) default e = let same : d ≡ default = cc in ap (λ (x : Option Value). Ok x) same
-default_is (Err reason) default e = absurd cc
 
 null-has : (nullable : Bool) → (not nullable || is_some (cond nullable (Some Null) None)) ≡ true
 null-has true = refl
@@ -105,8 +103,8 @@ column-kept : (primaries : List (List (List ℕ))) (written : WrittenColumn) (co
 unfolding declared_column
 column-kept primaries written column e =
     let nullable = nullable_of primaries written in
-    let b = bind_ok (default_of (stored_default written.kind nullable written.attributes.plain.default)) (λ default. Ok (made written.name written.kind nullable default)) column e in
-    let has = default-has written.kind nullable written.attributes.plain.default b.0 (default_is _ b.0 b.1) in
+    let b = bind_ok (default_or BadDefault (stored_default written.kind nullable written.attributes.plain.default)) (λ default. Ok (made written.name written.kind nullable default)) column e in
+    let has = default-has written.kind nullable written.attributes.plain.default b.0 (default_is BadDefault _ b.0 b.1) in
     subst (Kept written) (ok_is {C = SchemaCode} (made written.name written.kind nullable b.0) column b.2) (record { name = refl; default = has })
 
 abbrev AllKept : List WrittenColumn → List Column → Type 0
@@ -127,7 +125,7 @@ names-fit [] [] kept fit = refl
 names-fit [] (c ∷ cs) kept fit = absurd kept
 names-fit (w ∷ ws) [] kept fit = absurd kept
 names-fit (w ∷ ws) (c ∷ cs) kept fit =
-    let two = both (is_column_name w.name) (list_all (λ column. is_column_name column.name) ws) fit in
+    let two = and_parts (is_column_name w.name) (list_all (λ column. is_column_name column.name) ws) fit in
     rw (kept.0.name, two.0, names-fit ws cs kept.1 two.1) refl
 
 have-defaults : (ws : List WrittenColumn) (columns : List Column) → AllKept ws columns → AllByRecursion (λ column. has_default column ≡ true) columns
@@ -274,7 +272,7 @@ parts-declared migrated name comment parts schema e =
     let last = unless_ok (first_reason ((not (defaults_fit whole.columns), BadDefault) ∷ (is_none (clustered_place whole), NoClusteredKey) ∷ [])) (Ok whole) schema columns.2 in
     let fit = none_first (not (defaults_fit whole.columns)) BadDefault ((is_none (clustered_place whole), NoClusteredKey) ∷ []) last.0 in
     subst (IsDeclared migrated) (ok_is {C = SchemaCode} whole schema last.1)
-    (whole-declared migrated name comment parts columns.0 (sized migrated name parts outer.0) (name_reasons-none names parts.primaries named inner.0) (columns-kept parts.primaries parts.columns columns.0 columns.1) (whole-fit name comment names parts.primaries named.keys columns.0 (not_false (defaults_fit whole.columns) fit.0)))
+    (whole-declared migrated name comment parts columns.0 (sized migrated name parts outer.0) (name_reasons-none names parts.primaries named inner.0) (columns-kept parts.primaries parts.columns columns.0 columns.1) (whole-fit name comment names parts.primaries named.keys columns.0 (not-false (defaults_fit whole.columns) fit.0)))
 
 pub read-declared : ReadSchemasAreDeclared
 unfolding schema_at declared

@@ -2,7 +2,7 @@
 use Rattle.std.proofs.Common.{◌≡◌, ℕ, zero, suc, ◌+◌, ◌<◌, ◌≤◌, Bool, true, false, not, ◌&&◌, ◌||◌, cond, ltb, List, [], ◌∷◌, ◌++◌, length, Option, Some, None, unwrap_or, Result, Ok, Err, refl, sym, ap, subst, ◌∙◌, map, arith, append_assoc, append-nil, length-append}
 use Rattle.std.specs.Prelude.{is_some, is_none, filter, count_by, position}
 use Rattle.std.specs.List.{filter_map, cons_option, list_all, list_any, slice_get, AllByRecursion}
-use Rattle.std.proofs.lemmas.Bool.{le-ltb, lt-ltb}
+use Rattle.std.proofs.lemmas.Bool.{le-ltb, lt-ltb, and_parts}
 use Rattle.std.proofs.lemmas.List.{length-map, map-append}
 use Rattle.std.proofs.lemmas.List.Elements.{filter-append, filter_map-append}
 use Rattle.std.proofs.lemmas.List.Sums.{length-filter}
@@ -16,22 +16,24 @@ use Rattle.gho_schema.specs.declared.schema.Schema.{Schema}
 use Rattle.gho_schema.specs.Names.{same_name}
 use Rattle.table_words.specs.declared.code.SchemaCode.{SchemaCode}
 use Rattle.table_words.specs.declared.code.SchemaCode.TheVariants.{RepeatedName, UnknownKeyColumn, NoClusteredKey, TooManyColumns, TooManyKeys, NameTooLong, ReservedName, BadDefault}
-use Rattle.table_words.specs.Reads.{◌>>=◌}
+use Rattle.schema_rules.specs.Results.{◌>>=◌}
 use Rattle.schema_text.specs.declared.keys.NamedKeys.{NamedKeys}
 use Rattle.schema_text.specs.declared.parts.Parts.{Parts}
 use Rattle.schema_text.specs.declared.written.WrittenColumn.{WrittenColumn}
 use Rattle.schema_text.specs.declared.written.WrittenKey.{WrittenKey}
 use Rattle.gho_schema.specs.Clustering.{is_not_null, may_cluster, clustered_among, clustered_place, unique_at, clustered_key}
-use Rattle.schema_text.specs.Declaring.{Reasons, first_reason, unless, column_names, size_reasons, are_known, name_reasons, nullable_of, default_of, declared_column, declared_columns, primary_index, key_index, schema_of, clustered, built, declared_parts, declared}
-use Rattle.schema_text.specs.Defaults.{stored_default, defaults_fit}
-use Rattle.schema_text.specs.Keys.{is_among, names_differ, place_of, places_of, named_keys}
-use Rattle.schema_text.specs.Lawful.{StoresDefault, IsColumn, IsKey, IsNotNull, IsLawful}
-use Rattle.schema_text.specs.Limits.{is_column_name, is_tool_name, is_table_name, is_reserved}
-use Rattle.schema_text.specs.Printing.{column_name}
+use Rattle.schema_rules.specs.Reasons.{Reasons, first_reason, unless}
+use Rattle.schema_text.specs.Declaring.{column_names, size_reasons, are_known, name_reasons, nullable_of, declared_column, declared_columns, primary_index, key_index, schema_of, clustered, built, declared_parts, declared}
+use Rattle.schema_rules.specs.Defaults.{stored_default, defaults_fit, default_or}
+use Rattle.schema_rules.specs.Names.{is_among, names_differ, place_of, places_of}
+use Rattle.schema_text.specs.Keys.{named_keys}
+use Rattle.schema_rules.specs.Lawful.{StoresDefault, IsColumn, IsKey, IsNotNull, IsLawful}
+use Rattle.schema_rules.specs.Limits.{is_column_name, is_tool_name, is_table_name, is_reserved}
+use Rattle.schema_print.specs.Printing.{column_name}
 use Rattle.schema_text.specs.Reading.{schema_at}
 use Rattle.schema_laws.proofs.Columns.{made}
-use Rattle.schema_laws.proofs.Lists.{All-at, All-append, slice_get-map-some, slice_get-within-some}
-use Rattle.schema_laws.proofs.Steps.{both, there}
+use Rattle.schema_rules.proofs.Lists.{All-at, All-append, slice_get-map-some, slice_get-within-some}
+use Rattle.schema_rules.proofs.Steps.{there}
 use Rattle.print_laws.specs.Laws.{CanPrint, default_read, line_of, names_read, table_read}
 use Rattle.reread_laws.specs.Laws.{HasName, PrimaryStandsFirst, key_names, has_default, IsDeclared, PrintedSchemasAreReadAgain}
 use Rattle.reread_laws.proofs.Differ.{Differ, differ-parts, other-place, place-own, among-own}
@@ -69,7 +71,7 @@ spare false false e = refl
 
 all-append : {X : Type 0} (test : X → Bool) (xs ys : List X) → list_all test xs ≡ true → list_all test ys ≡ true → list_all test (xs ++ ys) ≡ true
 all-append test [] ys first second = second
-all-append test (x ∷ xs) ys first second = let two = both (test x) (list_all test xs) first in rw (two.0, all-append test xs ys two.1 second) refl
+all-append test (x ∷ xs) ys first second = let two = and_parts (test x) (list_all test xs) first in rw (two.0, all-append test xs ys two.1 second) refl
 
 -- the columns of a PRIMARY KEY that stands first aren't null
 abbrev IsStrict : List Column → List Index → Type 0
@@ -180,7 +182,7 @@ module _ (columns : List Column) (differ : Differ (names_of columns)) where
   unfolding is_among
   not-among [] own column all at nullable = refl
   not-among (place ∷ places) own column all at nullable =
-      let two = both (is_not_null (slice_get columns place)) (list_all (λ place. is_not_null (slice_get columns place)) places) all in
+      let two = and_parts (is_not_null (slice_get columns place)) (list_all (λ place. is_not_null (slice_get columns place)) places) all in
       let here = not_null-some place (slice_get columns place) refl two.0 in
       let apart : place ≡ own → ⊥ = λ e. two-columns here.column column (sym here.at ∙ ap (slice_get columns) e ∙ at) here.not_null nullable in
       let other : same_name here.column.name column.name ≡ false = other-place (names_of columns) place own here.column.name column.name differ (slice_get-map-some (λ (c : Column). c.name) columns place here.column here.at) (slice_get-map-some (λ (c : Column). c.name) columns own column at) apart in
@@ -220,7 +222,7 @@ default-again column (Some (Text text)) stores has = rw stores refl
 default-again column (Some (Blob blob)) stores has = rw stores refl
 
 column-made : (name : List ℕ) (kind : Kind) (nullable other : Bool) (written default : Option Value) → other ≡ nullable → stored_default kind nullable written ≡ Ok default
-    → (default_of (stored_default kind other written) >>= λ d. Ok (made name kind other d)) ≡ Ok (made name kind nullable default)
+    → (default_or BadDefault (stored_default kind other written) >>= λ d. Ok (made name kind other d)) ≡ Ok (made name kind nullable default)
 column-made name kind nullable other written default same stored = rw (same, stored) refl
 
 column-again : (primaries : List (List (List ℕ))) (column : Column) → nullable_of primaries (line_of column) ≡ column.nullable → IsColumn column → has_default column ≡ true → declared_column primaries (line_of column) ≡ Ok column
@@ -347,7 +349,7 @@ named names keys = record { names = names; keys = keys }
 
 line-names : (columns : List Column) → list_all (λ column. is_column_name column.name) columns ≡ true → list_all (λ column. is_column_name column.name) (map line_of columns) ≡ true
 line-names [] all = refl
-line-names (column ∷ columns) all = let two = both (is_column_name column.name) (list_all (λ column. is_column_name column.name) columns) all in rw (two.0, line-names columns two.1) refl
+line-names (column ∷ columns) all = let two = and_parts (is_column_name column.name) (list_all (λ column. is_column_name column.name) columns) all in rw (two.0, line-names columns two.1) refl
 
 built-by : (name comment : List ℕ) (names : List (List ℕ)) (primaries : List (List (List ℕ))) (lines : List WrittenColumn) (keys : NamedKeys) (columns : List Column) (schema : Schema) → first_reason (name_reasons names primaries keys) ≡ None → declared_columns primaries lines ≡ Ok columns
     → schema_of name comment names primaries keys.keys columns ≡ schema → clustered schema ≡ Ok schema → built name comment names primaries lines keys ≡ Ok schema

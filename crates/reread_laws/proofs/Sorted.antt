@@ -4,8 +4,9 @@ use Rattle.std.specs.Prelude.{is_some, filter}
 use Rattle.std.specs.List.{AllByRecursion}
 use Rattle.gho_schema.specs.Names.{same_name}
 use Rattle.schema_text.specs.declared.written.WrittenKey.{WrittenKey}
-use Rattle.schema_laws.proofs.Lists.{All-append, All-filter}
-use Rattle.reread_laws.proofs.Differ.{Differ, other_name-turned}
+use Rattle.schema_rules.proofs.Lists.{All-append, All-filter}
+use Rattle.reread_laws.proofs.Differ.{Differ}
+use Rattle.schema_rules.proofs.SameNames.{other_name-turned}
 use Rattle.reread_laws.proofs.Parted.{IsNamedText, text_names}
 
 module _ {X : Type 0} (R : X → X → Type 0) (turned : (x y : X) → R x y → R y x) where

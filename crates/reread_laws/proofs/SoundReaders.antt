@@ -19,11 +19,12 @@ use Rattle.table_words.specs.Keys.{key_misfit, closed, names_at, key_columns_at,
 use Rattle.table_words.specs.Kinds.{kind_word, width_behind, width_at, signed_kind, length_of, length_within, length_at, kind_behind, kind_of, kind_at}
 use Rattle.table_words.specs.Listed.{with_others, listed, with_more, gathered}
 use Rattle.table_words.specs.Pieces.{behind_keyword, behind_sign, found_at, keyword_at, sign_at, with_rest, behind_name, name_at, number_of, number_at, text_of, text_at, literal_of, literal_at, any_word_at}
-use Rattle.table_words.specs.Reads.{◌>>=◌, Read}
+use Rattle.schema_rules.specs.Results.{◌>>=◌}
+use Rattle.table_words.specs.Reads.{Read}
 use Rattle.table_words.specs.Scope.{misfit}
 use Rattle.table_words.specs.Tokens.{is_keyword, same_sign, is_sign}
-use Rattle.schema_laws.proofs.Lists.{All-append}
-use Rattle.schema_laws.proofs.Steps.{bind_ok, ok_is, there, some_is, some_if}
+use Rattle.schema_rules.proofs.Lists.{All-append}
+use Rattle.schema_rules.proofs.Steps.{bind_ok, ok_is, there, some_is, some_if}
 use Rattle.print_laws.specs.Laws.{CanQuote}
 use Rattle.reread_laws.proofs.Sound.{Sound, AreSound}
 use Rattle.reread_laws.proofs.SoundValues.{name-sound, SoundValue, literal-sound}

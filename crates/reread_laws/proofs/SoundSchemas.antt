@@ -17,7 +17,7 @@ use Rattle.gho_schema.specs.declared.schema.Schema.{Schema}
 use Rattle.gho_schema.specs.Names.{same_name}
 use Rattle.table_words.specs.declared.code.SchemaCode.{SchemaCode}
 use Rattle.table_words.specs.declared.code.SchemaCode.TheVariants.{NoClusteredKey, BadDefault}
-use Rattle.table_words.specs.Reads.{◌>>=◌}
+use Rattle.schema_rules.specs.Results.{◌>>=◌}
 use Rattle.table_words.specs.Tokens.{text_words}
 use Rattle.schema_text.specs.declared.keys.NamedKeys.{NamedKeys}
 use Rattle.schema_text.specs.declared.parts.Parts.{Parts}
@@ -26,16 +26,18 @@ use Rattle.schema_text.specs.declared.written.Item.TheVariants as items
 use Rattle.schema_text.specs.declared.written.WrittenColumn.{WrittenColumn}
 use Rattle.schema_text.specs.declared.written.WrittenKey.{WrittenKey}
 use Rattle.gho_schema.specs.Clustering.{clustered_place}
-use Rattle.schema_text.specs.Declaring.{first_reason, column_names, size_reasons, name_reasons, nullable_of, default_of, declared_column, declared_columns, primary_index, key_index, schema_of, clustered, built, declared_parts, declared}
-use Rattle.schema_text.specs.Defaults.{stored, stored_default, defaults_fit}
-use Rattle.schema_text.specs.Keys.{is_among, spelled, numbered, first_free, first_column, key_name, no_keys, with_key, named_keys}
-use Rattle.schema_text.specs.Lawful.{is_kind, StoresDefault, IsColumn, IsLawful}
+use Rattle.schema_rules.specs.Reasons.{first_reason}
+use Rattle.schema_text.specs.Declaring.{column_names, size_reasons, name_reasons, nullable_of, declared_column, declared_columns, primary_index, key_index, schema_of, clustered, built, declared_parts, declared}
+use Rattle.schema_rules.specs.Defaults.{stored, stored_default, defaults_fit, default_or}
+use Rattle.schema_rules.specs.Names.{is_among, spelled, numbered, first_free, first_column}
+use Rattle.schema_text.specs.Keys.{key_name, no_keys, with_key, named_keys}
+use Rattle.schema_rules.specs.Lawful.{is_kind, StoresDefault, IsColumn, IsLawful}
 use Rattle.schema_text.specs.Parts.{no_parts, own_primary, own_key, with_item, parts_of}
 use Rattle.schema_text.specs.Reading.{schema_at}
 use Rattle.schema_text.specs.Written.{written}
 use Rattle.schema_laws.proofs.Columns.{made}
-use Rattle.schema_laws.proofs.Lists.{All-append, All-filter, All-map, fold-keeps}
-use Rattle.schema_laws.proofs.Steps.{bind_ok, unless_ok, ok_is, there, some_is}
+use Rattle.schema_rules.proofs.Lists.{All-append, All-filter, All-map, fold-keeps}
+use Rattle.schema_rules.proofs.Steps.{bind_ok, unless_ok, ok_is, there, some_is, default_is}
 use Rattle.schema_laws.proofs.Lawful.{read-lawful}
 use Rattle.print_laws.specs.Laws.{CanQuote, CanQuoteKey, CanPrintKind, CanPrintValue, CanPrintDefault, CanPrintColumn, CanPrint}
 use Rattle.reread_laws.specs.Laws.{ReadSchemasCanPrint, ReadSchemasAreReadAgain}
@@ -45,6 +47,7 @@ use Rattle.reread_laws.proofs.Sound.{AreBytes, text-sound}
 use Rattle.reread_laws.proofs.SoundValues.{SoundValue}
 use Rattle.reread_laws.proofs.SoundReaders.{AreNames, SoundName, SoundKey}
 use Rattle.reread_laws.proofs.SoundTables.{SoundDefault, SoundColumn, SoundItem, SoundTable, written-sound}
+use Rattle.std.proofs.lemmas.Bool.{and_parts}
 
 -- ---- decimal digits
 
@@ -104,10 +107,6 @@ stores-sound (Num n) (VarBinary limit) nullable sound = stored-if _ (Blob (signe
 stores-sound (Text text) (VarBinary limit) nullable sound = stored-if _ (Blob text) _ sound
 stores-sound (Blob blob) (VarBinary limit) nullable sound = stored-if _ (Blob blob) _ sound
 
-default_is : (r : Result (Option Value) Unfit) (default : Option Value) → default_of r ≡ Ok default → r ≡ Ok default
-default_is (Ok d) default e = let same : d ≡ default = cc in ap (λ (x : Option Value). Ok x) same
-default_is (Err reason) default e = absurd cc
-
 stored-sound : (r : Result Value Unfit) (default : Option Value) → AllStored r → stored r ≡ Ok default → SoundDefault default
 stored-sound (Ok value) default all e = subst SoundDefault (ok_is {C = Unfit} (Some value) default e) (all value refl)
 stored-sound (Err reason) default all e = absurd cc
@@ -127,8 +126,8 @@ column-made : (primaries : List (List (List ℕ))) (written : WrittenColumn) (co
 unfolding declared_column
 column-made primaries written column sound e =
     let nullable = nullable_of primaries written in
-    let b = bind_ok (default_of (stored_default written.kind nullable written.attributes.plain.default)) (λ default. Ok (made written.name written.kind nullable default)) column e in
-    let default = default-sound written.kind nullable written.attributes.plain.default b.0 sound.1 (default_is _ b.0 b.1) in
+    let b = bind_ok (default_or BadDefault (stored_default written.kind nullable written.attributes.plain.default)) (λ default. Ok (made written.name written.kind nullable default)) column e in
+    let default = default-sound written.kind nullable written.attributes.plain.default b.0 sound.1 (default_is BadDefault _ b.0 b.1) in
     subst SoundMade (ok_is {C = SchemaCode} (made written.name written.kind nullable b.0) column b.2) (sound.0, default)
 
 columns-made : (primaries : List (List (List ℕ))) (ws : List WrittenColumn) (columns : List Column) → AllByRecursion SoundColumn ws → declared_columns primaries ws ≡ Ok columns → AllByRecursion SoundMade columns
@@ -152,14 +151,6 @@ half-small bytes =
     (cond-less (eqb bytes 2) (2 ^ 15) (cond (eqb bytes 3) (2 ^ 23) (cond (eqb bytes 4) (2 ^ 31) (2 ^ 63))) (2 ^ 64) (lit< tt)
     (cond-less (eqb bytes 3) (2 ^ 23) (cond (eqb bytes 4) (2 ^ 31) (2 ^ 63)) (2 ^ 64) (lit< tt) (cond-less (eqb bytes 4) (2 ^ 31) (2 ^ 63) (2 ^ 64) (lit< tt) (lit< tt))))
 
-first-part : (a b : Bool) → (a && b) ≡ true → a ≡ true
-first-part true b e = refl
-first-part false b e = absurd cc
-
-second-part : (a b : Bool) → (a && b) ≡ true → b ≡ true
-second-part true b e = e
-second-part false b e = absurd cc
-
 below-twice : (n h a b : ℕ) → n ≤ 2 * h - 1 → h < a → 2 * a < b → n < b
 below-twice n h a b le lt big = omega arith
 
@@ -180,10 +171,10 @@ above-lowest zero n e = absurd cc
 above-lowest (suc k) n e = let le = at-most n k e in omega (arith, le)
 
 in-range-small : (number : ℤ) (bytes : ℕ) (unsigned : Bool) → (int_le (lowest bytes unsigned) number && int_le number (highest bytes unsigned)) ≡ true → unsigned_abs number < 10 ^ 38
-in-range-small (pos n) bytes true e = below-twice n (half bytes) (2 ^ 64) (10 ^ 38) (at-most n (2 * half bytes - 1) (second-part _ _ e)) (half-small bytes) big
-in-range-small (pos n) bytes false e = below-half n (half bytes) (2 ^ 64) (10 ^ 38) (at-most n (half bytes - 1) (second-part _ _ e)) (half-small bytes) big
+in-range-small (pos n) bytes true e = below-twice n (half bytes) (2 ^ 64) (10 ^ 38) (at-most n (2 * half bytes - 1) ((and_parts _ _ e).1)) (half-small bytes) big
+in-range-small (pos n) bytes false e = below-half n (half bytes) (2 ^ 64) (10 ^ 38) (at-most n (half bytes - 1) ((and_parts _ _ e).1)) (half-small bytes) big
 in-range-small (negsuc n) bytes true e = absurd cc
-in-range-small (negsuc n) bytes false e = next-half n (half bytes) (2 ^ 64) (10 ^ 38) (above-lowest (half bytes) n (first-part _ _ e)) (half-small bytes) big
+in-range-small (negsuc n) bytes false e = next-half n (half bytes) (2 ^ 64) (10 ^ 38) (above-lowest (half bytes) n ((and_parts _ _ e).0)) (half-small bytes) big
 
 if-num : (b : Bool) (n m : ℤ) (reason : Unfit) → cond b (Ok (Num n)) (Err reason) ≡ Ok (Num m) → b ≡ true
 if-num true n m reason e = refl
@@ -210,8 +201,8 @@ short n le = let more : 1000 < 10 ^ 38 = lit< tt in omega arith
 
 pub kind-prints : (kind : Kind) → is_kind kind ≡ true → CanPrintKind kind
 kind-prints (Int bytes unsigned) is = tt
-kind-prints (VarChar limit) is = short limit (at-most limit 1000 (second-part _ _ is))
-kind-prints (VarBinary limit) is = short limit (at-most limit 1000 (second-part _ _ is))
+kind-prints (VarChar limit) is = short limit (at-most limit 1000 ((and_parts _ _ is).1))
+kind-prints (VarBinary limit) is = short limit (at-most limit 1000 ((and_parts _ _ is).1))
 
 pub default-prints : (column : Column) (default : Option Value) → SoundDefault default → StoresDefault column default → CanPrintDefault default
 default-prints column None sound stores = tt
@@ -301,7 +292,7 @@ names-are columns sound = All-map SoundColumn CanQuote (λ column. column.name) 
 abbrev QuotesKey : Index → Type 0
 QuotesKey index = CanQuoteKey index.name
 
-name-quotes : (name : Option (List ℕ)) → SoundName name → CanQuoteKey name
+pub name-quotes : (name : Option (List ℕ)) → SoundName name → CanQuoteKey name
 name-quotes None is = tt
 name-quotes (Some name) is = is
 

@@ -13,7 +13,8 @@ use Rattle.table_words.specs.Attributes.{attribute_at}
 use Rattle.table_words.specs.Keys.{key_columns_at, key_at}
 use Rattle.table_words.specs.Kinds.{kind_at}
 use Rattle.table_words.specs.Pieces.{behind_keyword, behind_sign, keyword_at, sign_at, name_at}
-use Rattle.table_words.specs.Reads.{◌>>=◌, Read}
+use Rattle.schema_rules.specs.Results.{◌>>=◌}
+use Rattle.table_words.specs.Reads.{Read}
 use Rattle.table_words.specs.Scope.{is_no_item, misfit}
 use Rattle.table_words.specs.Tokens.{is_keyword}
 use Rattle.schema_text.specs.declared.written.ColumnAttribute.{ColumnAttribute}
@@ -26,11 +27,12 @@ use Rattle.schema_text.specs.declared.written.WrittenTable.{WrittenTable}
 use Rattle.schema_text.specs.Columns.{unwritten_column, with_column_attribute, primary_at, unique_behind, plain_of, plain_at, column_attribute_at, column_attributes_at, column_at}
 use Rattle.schema_text.specs.Options.{options_at}
 use Rattle.schema_text.specs.Written.{primary_item_at, key_item_at, key_word, behind_key_word, column_item_at, item_at, items_at, last_words, alone, table_at, unless_faulty, written}
-use Rattle.schema_laws.proofs.Steps.{bind_ok, ok_is}
+use Rattle.schema_rules.proofs.Steps.{bind_ok, ok_is}
 use Rattle.print_laws.specs.Laws.{CanQuote}
 use Rattle.reread_laws.proofs.Sound.{AreSound}
 use Rattle.reread_laws.proofs.SoundValues.{SoundValue}
 use Rattle.reread_laws.proofs.SoundReaders.{Leaves, LeavesWords, LeavesSome, Anything, leaves-bind, words-bind, words-some, leaves-ok, leaves-err, leaves-cond, some-ok, some-none, some-cond, SomeSound, behind_keyword-sound, keyword-sound, sign-sound, name_at-sound, listed-sound, gathered-sound, kind_at-sound, SoundAttribute, attribute-sound, AreNames, key_columns-sound, SoundKey, key_at-sound}
+use Rattle.schema_laws.proofs.Grammar.{faultless-is}
 
 -- ---- columns
 
@@ -142,10 +144,6 @@ pub record SoundTable (table : WrittenTable) : Type 0 where
 alone-is : (table made : WrittenTable) (words : List Token) → alone table words ≡ Ok made → table ≡ made
 alone-is table made [] e = cc
 alone-is table made (word ∷ rest) e = absurd cc
-
-faultless-is : (b : Bool) (table made : WrittenTable) → unless_faulty b table ≡ Ok made → table ≡ made
-faultless-is true table made e = absurd cc
-faultless-is false table made e = cc
 
 table-sound : (words : List Token) (table : WrittenTable) → AreSound words → table_at words ≡ Ok table → SoundTable table
 unfolding table_at

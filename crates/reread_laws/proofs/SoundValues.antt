@@ -15,10 +15,11 @@ use Rattle.word_laws.specs.ReadBack.{word_value}
 use Rattle.table_words.specs.declared.token.Token.{Token}
 use Rattle.table_words.specs.Pieces.{literal_of}
 use Rattle.table_words.specs.Tokens.{is_keyword}
-use Rattle.schema_laws.proofs.Lists.{All-append}
-use Rattle.schema_laws.proofs.Steps.{there, some_is, some_if}
+use Rattle.schema_rules.proofs.Lists.{All-append}
+use Rattle.schema_rules.proofs.Steps.{there, some_is, some_if}
 use Rattle.print_laws.specs.Laws.{CanQuote}
 use Rattle.reread_laws.proofs.Sound.{AreBytes, SoundText, Sound, All-take, prefix-passes}
+use Rattle.std.proofs.lemmas.Bool.{and_parts}
 
 -- ---- names
 
@@ -126,18 +127,10 @@ text-bytes bytes value are e = text-inside (get_or bytes 0 0) (drop 1 bytes) (fi
 hex-small : (c : ℕ) → is_ascii_hexdigit c ≡ true → digit_value c < 16
 hex-small c h = grind (arith, nat_tests, h)
 
-first-part : (a b : Bool) → (a && b) ≡ true → a ≡ true
-first-part true b e = refl
-first-part false b e = absurd cc
-
-second-part : (a b : Bool) → (a && b) ≡ true → b ≡ true
-second-part true b e = e
-second-part false b e = absurd cc
-
 pair-small : (b c : ℕ) → (is_ascii_hexdigit b && is_ascii_hexdigit c) ≡ true → 16 * digit_value b + digit_value c < 256
 pair-small b c h =
-    let first : digit_value b < 16 = hex-small b (first-part (is_ascii_hexdigit b) (is_ascii_hexdigit c) h) in
-    let second : digit_value c < 16 = hex-small c (second-part (is_ascii_hexdigit b) (is_ascii_hexdigit c) h) in
+    let first : digit_value b < 16 = hex-small b ((and_parts (is_ascii_hexdigit b) (is_ascii_hexdigit c) h).0) in
+    let second : digit_value c < 16 = hex-small c ((and_parts (is_ascii_hexdigit b) (is_ascii_hexdigit c) h).1) in
     omega arith
 
 pair-inside : (pair : Bool) (first : Piece) (others end : Option Piece) → (pair ≡ true → AreBytes first.value) → AreInside others → AreInside end → AreInside (cond pair (and_then first others) end)

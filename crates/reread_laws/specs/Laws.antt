@@ -4,11 +4,11 @@ use Rattle.std.specs.List.{filter_map, list_all, AllByRecursion}
 use Rattle.gho_schema.specs.declared.schema.Column.{Column}
 use Rattle.gho_schema.specs.declared.schema.Index.{Index}
 use Rattle.gho_schema.specs.declared.schema.Schema.{Schema}
-use Rattle.schema_text.specs.Defaults.{defaults_fit}
-use Rattle.schema_text.specs.Keys.{names_differ}
-use Rattle.schema_text.specs.Lawful.{IsLawful}
-use Rattle.schema_text.specs.Limits.{is_column_name, is_tool_name, is_table_name, is_reserved}
-use Rattle.schema_text.specs.Printing.{printed_schema}
+use Rattle.schema_rules.specs.Defaults.{defaults_fit}
+use Rattle.schema_rules.specs.Names.{names_differ}
+use Rattle.schema_rules.specs.Lawful.{IsLawful}
+use Rattle.schema_rules.specs.Limits.{is_column_name, is_tool_name, is_table_name, is_reserved}
+use Rattle.schema_print.specs.Printing.{printed_schema}
 use Rattle.schema_text.specs.Reading.{schema_at}
 use Rattle.print_laws.specs.Laws.{CanPrint}
 

@@ -9,21 +9,18 @@ use Rattle.gho_values.specs.Laws.{StoresAgain}
 use Rattle.gho_values.specs.Storing.{stores}
 use Rattle.gho_schema.specs.declared.schema.Column.{Column}
 use Rattle.table_words.specs.declared.code.SchemaCode.{SchemaCode}
-use Rattle.table_words.specs.Reads.{◌>>=◌}
+use Rattle.schema_rules.specs.Results.{◌>>=◌}
 use Rattle.schema_text.specs.declared.written.WrittenColumn.{WrittenColumn}
-use Rattle.schema_text.specs.Declaring.{nullable_of, default_of, declared_column, declared_columns}
-use Rattle.schema_text.specs.Defaults.{stored, stored_default}
-use Rattle.schema_text.specs.Lawful.{StoresDefault, IsColumn}
+use Rattle.schema_text.specs.Declaring.{nullable_of, declared_column, declared_columns}
+use Rattle.schema_rules.specs.Defaults.{stored, stored_default, default_or}
+use Rattle.schema_rules.specs.Lawful.{StoresDefault, IsColumn}
 use Rattle.schema_laws.proofs.Parts.{IsWritten}
-use Rattle.schema_laws.proofs.Steps.{bind_ok, done, ok_is}
+use Rattle.schema_rules.proofs.Steps.{bind_ok, done, ok_is, default_is}
+use Rattle.table_words.specs.declared.code.SchemaCode.TheVariants.{BadDefault}
 
 -- a column as it is declared
 abbrev pub made : List ℕ → Kind → Bool → Option Value → Column
 made name kind nullable default = record { name = name; kind = kind; nullable = nullable; default = default }
-
-default_is : (r : Result (Option Value) Unfit) (default : Option Value) → default_of r ≡ Ok default → r ≡ Ok default
-default_is (Ok d) default e = let same : d ≡ default = cc in ap (λ (x : Option Value). Ok x) same
-default_is (Err reason) default e = absurd cc
 
 stored_is : (r : Result Value Unfit) (default : Option Value) → stored r ≡ Ok default → (value : Value) × (r ≡ Ok value) × (default ≡ Some value)
 stored_is (Ok value) default e = let same : done (Option Value) Unfit (Some value) ≡ done (Option Value) Unfit default = e in (value, refl, sym (ok_is {C = Unfit} (Some value) default same))
@@ -52,8 +49,8 @@ declared_column-becomes : StoresAgain → (primaries : List (List (List ℕ))) (
 unfolding declared_column
 declared_column-becomes again primaries written column is e =
     let nullable = nullable_of primaries written in
-    let b = bind_ok (default_of (stored_default written.kind nullable written.attributes.plain.default)) (λ default. Ok (made written.name written.kind nullable default)) column e in
-    let stores = default_stores again written.name written.kind nullable written.attributes.plain.default b.0 (default_is _ b.0 b.1) in
+    let b = bind_ok (default_or BadDefault (stored_default written.kind nullable written.attributes.plain.default)) (λ default. Ok (made written.name written.kind nullable default)) column e in
+    let stores = default_stores again written.name written.kind nullable written.attributes.plain.default b.0 (default_is BadDefault _ b.0 b.1) in
     subst (Becomes primaries written) (ok_is {C = SchemaCode} (made written.name written.kind nullable b.0) column b.2) (record { name = refl; nullable = refl; is = record { kind = is; default = stores } })
 
 -- column by column

@@ -11,12 +11,12 @@ use Rattle.gho_schema.specs.Names.{same_name}
 use Rattle.schema_text.specs.declared.written.WrittenColumn.{WrittenColumn}
 use Rattle.gho_schema.specs.Clustering.{is_not_null}
 use Rattle.schema_text.specs.Declaring.{are_known, nullable_of}
-use Rattle.schema_text.specs.Keys.{is_among, place_of, places_of}
-use Rattle.schema_text.specs.Lawful.{IsKey}
+use Rattle.schema_rules.specs.Names.{is_among, place_of, places_of}
+use Rattle.schema_rules.specs.Lawful.{IsKey}
 use Rattle.schema_laws.proofs.Columns.{Becomes, AllBecome, column-at}
 use Rattle.schema_laws.proofs.Grammar.{HasColumns}
-use Rattle.schema_laws.proofs.Lists.{All-filter_map, All-weaker, All-list_all, list_all-All, each-any, Found, position-some, position-found, slice_get-map-some, slice_get-within-some}
-use Rattle.schema_laws.proofs.Steps.{some_is, first_or, second_or}
+use Rattle.schema_rules.proofs.Lists.{All-filter_map, All-weaker, All-list_all, list_all-All, each-any, Found, position-some, position-found, slice_get-map-some, slice_get-within-some}
+use Rattle.schema_rules.proofs.Steps.{some_is, first_or, second_or}
 
 -- ---- places
 

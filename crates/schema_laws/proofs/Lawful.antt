@@ -9,7 +9,7 @@ use Rattle.gho_schema.specs.declared.schema.Index.{Index}
 use Rattle.gho_schema.specs.declared.schema.Schema.{Schema}
 use Rattle.table_words.specs.declared.code.SchemaCode.{SchemaCode}
 use Rattle.table_words.specs.declared.code.SchemaCode.TheVariants.{RepeatedName, UnknownKeyColumn, NoClusteredKey, BadDefault}
-use Rattle.table_words.specs.Reads.{◌>>=◌}
+use Rattle.schema_rules.specs.Results.{◌>>=◌}
 use Rattle.table_words.specs.Tokens.{text_words}
 use Rattle.schema_text.specs.declared.keys.NamedKeys.{NamedKeys}
 use Rattle.schema_text.specs.declared.parts.Parts.{Parts}
@@ -17,10 +17,12 @@ use Rattle.schema_text.specs.declared.written.WrittenColumn.{WrittenColumn}
 use Rattle.schema_text.specs.declared.written.WrittenKey.{WrittenKey}
 use Rattle.schema_text.specs.declared.written.WrittenTable.{WrittenTable}
 use Rattle.gho_schema.specs.Clustering.{is_not_null, may_cluster, clustered_among, clustered_place, unique_at, clustered_key}
-use Rattle.schema_text.specs.Declaring.{Reasons, first_reason, column_names, size_reasons, are_known, name_reasons, declared_columns, primary_index, key_index, schema_of, clustered, built, declared_parts, declared}
-use Rattle.schema_text.specs.Defaults.{defaults_fit}
-use Rattle.schema_text.specs.Keys.{is_among, names_differ, named_keys}
-use Rattle.schema_text.specs.Lawful.{IsKey, IsNotNull, IsColumn, IsLawful}
+use Rattle.schema_rules.specs.Reasons.{Reasons, first_reason}
+use Rattle.schema_text.specs.Declaring.{column_names, size_reasons, are_known, name_reasons, declared_columns, primary_index, key_index, schema_of, clustered, built, declared_parts, declared}
+use Rattle.schema_rules.specs.Defaults.{defaults_fit}
+use Rattle.schema_rules.specs.Names.{is_among, names_differ}
+use Rattle.schema_text.specs.Keys.{named_keys}
+use Rattle.schema_rules.specs.Lawful.{IsKey, IsNotNull, IsColumn, IsLawful}
 use Rattle.schema_text.specs.Parts.{parts_of}
 use Rattle.schema_text.specs.Reading.{schema_at}
 use Rattle.schema_text.specs.Written.{written}
@@ -28,9 +30,10 @@ use Rattle.schema_text.proofs.Reasons.{few_columns}
 use Rattle.schema_laws.proofs.Columns.{AllBecome, declared_columns-become, names-become, columns-are}
 use Rattle.schema_laws.proofs.Grammar.{HasColumns, written-are}
 use Rattle.schema_laws.proofs.Keys.{places-are, names_of-known, primary-not_null}
-use Rattle.schema_laws.proofs.Lists.{All-map, All-filter, All-append, All-at, All-both, All-weaker, list_all-All, Found, position-found}
+use Rattle.schema_rules.proofs.Lists.{All-map, All-filter, All-append, All-at, All-both, All-weaker, list_all-All, Found, position-found}
 use Rattle.schema_laws.proofs.Parts.{IsWritten, AreParts, parts_of-are, KeyHas, IsNamed, named_keys-are}
-use Rattle.schema_laws.proofs.Steps.{bind_ok, unless_ok, none_first, done, ok_is, not_false, both, neither}
+use Rattle.schema_rules.proofs.Steps.{bind_ok, unless_ok, none_first, done, ok_is}
+use Rattle.std.proofs.lemmas.Bool.{not-false, and_parts, or_parts}
 
 -- ---- the clustered key
 
@@ -123,8 +126,8 @@ built-lawful again name comment parts named schema are keys few e =
     let let_in = unless_ok (first_reason (name_reasons names parts.primaries named)) (declared_columns parts.primaries parts.columns >>= λ columns. clustered (schema_of name comment names parts.primaries named.keys columns)) schema e in
     let second = none_first repeated RepeatedName ((unknown, UnknownKeyColumn) ∷ []) let_in.0 in
     let third = none_first unknown UnknownKeyColumn [] second.1 in
-    let differ : names_differ names ≡ true = not_false (names_differ names) (neither (not (names_differ names)) (ltb 1 (length parts.primaries)) (neither (not (names_differ names) || ltb 1 (length parts.primaries)) (not (names_differ named.names)) second.0).0).0 in
-    let known = both (list_all (are_known names) parts.primaries) (list_all (λ (key : WrittenKey). are_known names key.text.columns) named.keys) (not_false _ third.0) in
+    let differ : names_differ names ≡ true = not-false (names_differ names) (or_parts (not (names_differ names)) (ltb 1 (length parts.primaries)) (or_parts (not (names_differ names) || ltb 1 (length parts.primaries)) (not (names_differ named.names)) second.0).0).0 in
+    let known = and_parts (list_all (are_known names) parts.primaries) (list_all (λ (key : WrittenKey). are_known names key.text.columns) named.keys) (not-false _ third.0) in
     let made = bind_ok (declared_columns parts.primaries parts.columns) (λ columns. clustered (schema_of name comment names parts.primaries named.keys columns)) schema let_in.1 in
     let columns = made.0 in
     let become = declared_columns-become again parts.primaries parts.columns columns are.columns made.1 in

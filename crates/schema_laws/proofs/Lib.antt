@@ -2,6 +2,4 @@ pub mod Columns
 pub mod Grammar
 pub mod Keys
 pub mod Lawful
-pub mod Lists
 pub mod Parts
-pub mod Steps

@@ -1,7 +1,7 @@
 -- What holds of all schemas that are read. The functions of the module `laws` prove each.
 use Rattle.std.specs.Prelude.{◌≡◌, ℕ, List, Ok}
 use Rattle.gho_schema.specs.declared.schema.Schema.{Schema}
-use Rattle.schema_text.specs.Lawful.{IsLawful}
+use Rattle.schema_rules.specs.Lawful.{IsLawful}
 use Rattle.schema_text.specs.Reading.{schema_at}
 
 -- Every schema that is read is lawful.

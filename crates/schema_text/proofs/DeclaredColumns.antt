@@ -5,10 +5,11 @@ use Rattle.gho_schema.specs.declared.schema.Column.{Column}
 use Rattle.table_words.specs.declared.code.SchemaCode.{SchemaCode}
 use Rattle.table_words.specs.declared.code.SchemaFault.{SchemaFault}
 use Rattle.table_words.specs.declared.code.SchemaFault.TheVariants as faults
-use Rattle.table_words.specs.Reads.{◌>>=◌, Refuses}
+use Rattle.schema_rules.specs.Results.{◌>>=◌}
+use Rattle.table_words.specs.Reads.{Refuses}
 use Rattle.schema_text.specs.declared.written.WrittenColumn.{WrittenColumn}
 use Rattle.schema_text.specs.Declaring.{declared_column, declared_columns}
-use Rattle.schema_text.proofs.Rest.{from_here}
+use Rattle.schema_rules.proofs.Loops.{from_here}
 
 -- the columns so far, and those that are still declared
 abbrev pub with_front : List Column → Result (List Column) SchemaCode → Result (List Column) SchemaCode

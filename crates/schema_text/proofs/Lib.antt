@@ -1,5 +1,2 @@
 pub mod DeclaredColumns
-pub mod FreeNames
-pub mod Places
 pub mod Reasons
-pub mod Rest

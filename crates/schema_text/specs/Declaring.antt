@@ -8,33 +8,21 @@ use Rattle.gho_schema.specs.declared.schema.Column.{Column}
 use Rattle.gho_schema.specs.declared.schema.Index.{Index}
 use Rattle.table_words.specs.declared.code.SchemaCode.{SchemaCode}
 use Rattle.table_words.specs.declared.code.SchemaCode.TheVariants.{RepeatedName, UnknownKeyColumn, NoClusteredKey, TooManyColumns, TooManyKeys, NameTooLong, ReservedName, BadDefault}
-use Rattle.table_words.specs.Reads.{◌>>=◌}
+use Rattle.schema_rules.specs.Results.{◌>>=◌}
 use Rattle.schema_text.specs.declared.keys.NamedKeys.{NamedKeys}
 use Rattle.schema_text.specs.declared.parts.Parts.{Parts}
 use Rattle.schema_text.specs.declared.written.WrittenColumn.{WrittenColumn}
 use Rattle.schema_text.specs.declared.written.WrittenKey.{WrittenKey}
 use Rattle.schema_text.specs.declared.written.WrittenTable.{WrittenTable}
 use Rattle.gho_schema.specs.Clustering.{clustered_place}
-use Rattle.schema_text.specs.Defaults.{stored_default, defaults_fit}
-use Rattle.schema_text.specs.Keys.{is_among, names_differ, places_of, named_keys}
-use Rattle.schema_text.specs.Limits.{is_column_name, is_tool_name, is_table_name, is_reserved}
+use Rattle.schema_rules.specs.Defaults.{stored_default, defaults_fit, default_or}
+use Rattle.schema_rules.specs.Names.{is_among, names_differ, places_of}
+use Rattle.schema_text.specs.Keys.{named_keys}
+use Rattle.schema_rules.specs.Reasons.{Reasons, first_reason, unless}
+use Rattle.schema_rules.specs.Limits.{is_column_name, is_tool_name, is_table_name, is_reserved}
 use Rattle.schema_text.specs.Parts.{parts_of}
 
--- ---- reasons
-
--- reasons to refuse and the refusal of each, in order
-abbrev pub Reasons : Type 0 → Type 0
-Reasons C = List (Bool × C)
-
--- the refusal of the first reason that holds
-abbrev pub first_reason : {C : Type 0} → Reasons C → Option C
-first_reason [] = None
-first_reason (reason ∷ reasons) = if reason.0 then Some reason.1 else first_reason reasons
-
--- refused for that reason, where one holds
-abbrev pub unless : {A C : Type 0} → Option C → Result A C → Result A C
-unless (Some code) other = Err code
-unless None other = other
+-- ---- names and limits
 
 abbrev pub column_names : List WrittenColumn → List (List ℕ)
 column_names columns = map (λ column. column.name) columns
@@ -65,14 +53,10 @@ name_reasons names primaries named =
 abbrev pub nullable_of : List (List (List ℕ)) → WrittenColumn → Bool
 nullable_of primaries column = not (list_any (λ names. is_among names column.name) primaries) && unwrap_or column.attributes.plain.nullable true
 
-abbrev pub default_of : Result (Option Value) Unfit → Result (Option Value) SchemaCode
-default_of (Ok default) = Ok default
-default_of (Err reason) = Err BadDefault
-
 -- a column, where it stores its default
 unfoldable pub declared_column : List (List (List ℕ)) → WrittenColumn → Result Column SchemaCode
 declared_column primaries column = do
-  default ← default_of (stored_default column.kind (nullable_of primaries column) column.attributes.plain.default)
+  default ← default_or BadDefault (stored_default column.kind (nullable_of primaries column) column.attributes.plain.default)
   Ok (record { name = column.name; kind = column.kind; nullable = nullable_of primaries column; default = default })
 
 unfoldable pub declared_columns : List (List (List ℕ)) → List WrittenColumn → Result (List Column) SchemaCode

@@ -1,12 +1,7 @@
 pub mod Columns
 pub mod Declaring
-pub mod Defaults
 pub mod Keys
-pub mod Lawful
-pub mod Limits
 pub mod Options
 pub mod Parts
-pub mod Printing
 pub mod Reading
-pub mod Storing
 pub mod Written

@@ -2,7 +2,7 @@
 use Rattle.std.specs.Prelude.{ℕ, List, Result}
 use Rattle.gho_schema.specs.declared.schema.Schema.{Schema}
 use Rattle.table_words.specs.declared.code.SchemaCode.{SchemaCode}
-use Rattle.table_words.specs.Reads.{◌>>=◌}
+use Rattle.schema_rules.specs.Results.{◌>>=◌}
 use Rattle.table_words.specs.Tokens.{text_words}
 use Rattle.schema_text.specs.Declaring.{declared}
 use Rattle.schema_text.specs.Written.{written}

@@ -6,7 +6,7 @@ use Rattle.gho_schema.specs.Rows.{key_of, key_places}
 use Rattle.gho_schema.specs.Tables.{IsRow, IsTable, clash}
 use Rattle.alter_image.specs.Images.{image}
 use Rattle.row_store.specs.Databases.{TableRows, IsDatabase}
-use Rattle.schema_text.specs.Lawful.{IsLawful}
+use Rattle.schema_rules.specs.Lawful.{IsLawful}
 use Rattle.server_words.specs.declared.entry.Entry.{Entry}
 use Rattle.plan_words.specs.PlanData.{PlanData, Altered, altered_by}
 use Rattle.plan_words.specs.Journals.{IsFaithful, state_at}

@@ -7,7 +7,8 @@ use Rattle.table_words.specs.declared.code.SchemaFault.TheVariants as faults
 use Rattle.table_words.specs.declared.token.Token.{Token}
 use Rattle.table_words.specs.Listed.{with_others, listed}
 use Rattle.table_words.specs.Pieces.{behind_sign}
-use Rattle.table_words.specs.Reads.{◌>>=◌, Refuses}
+use Rattle.schema_rules.specs.Results.{◌>>=◌}
+use Rattle.table_words.specs.Reads.{Refuses}
 
 -- the items that were read, and those that are still read
 abbrev pub with_front : {A C : Type 0} → List A → Result (List A × List Token) C → Result (List A × List Token) C

@@ -1,15 +1,10 @@
 -- Reading from the front on: what is read and the words behind it, or why the text is refused at the first word that doesn't fit.
 use Rattle.std.specs.Prelude.{◌≡◌, List, Result, Ok, Err}
+pub use Rattle.schema_rules.specs.Results.{◌>>=◌}
 use Rattle.table_words.specs.declared.code.SchemaCode.{SchemaCode}
 use Rattle.table_words.specs.declared.code.SchemaFault.{SchemaFault}
 use Rattle.table_words.specs.declared.code.SchemaFault.TheVariants as faults
 use Rattle.table_words.specs.declared.token.Token.{Token}
-
-infixl 10 ◌>>=◌
--- goes on with what was read
-abbrev pub ◌>>=◌ : {A B C : Type 0} → Result A C → (A → Result B C) → Result B C
-(Ok x) >>= f = f x
-(Err code) >>= f = Err code
 
 -- what is read at the front, and the words behind it
 abbrev pub Read : Type 0 → Type 0

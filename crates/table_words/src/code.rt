@@ -32,24 +32,38 @@ pub enum SchemaCode {
 }
 
 impl SchemaCode {
-    ghost use Rattle.table_words.specs.Codes.{schema_number};
+    ghost use Rattle.table_words.specs.Codes.{schema_code, schema_number, schema_name};
+
+    /// The refusal's number and its name.
+    fn code(self) -> (u16, &'static str)
+        ensures { (result.0, result.1.now) ≡ schema_code self }
+    {
+        match self {
+            SchemaCode::Syntax => (10, "schema_syntax"),
+            SchemaCode::Scope => (11, "schema_scope"),
+            SchemaCode::RepeatedName => (12, "repeated_name"),
+            SchemaCode::UnknownKeyColumn => (13, "unknown_key_column"),
+            SchemaCode::NoClusteredKey => (14, "no_clustered_key"),
+            SchemaCode::TooManyColumns => (15, "too_many_columns"),
+            SchemaCode::TooManyKeys => (16, "too_many_keys"),
+            SchemaCode::NameTooLong => (17, "name_too_long"),
+            SchemaCode::ReservedName => (18, "reserved_name"),
+            SchemaCode::BadDefault => (19, "bad_default"),
+        }
+    }
 
     /// The refusal's number.
     pub fn number(self) -> u16
         ensures { result ≡ schema_number self }
     {
-        match self {
-            SchemaCode::Syntax => 10,
-            SchemaCode::Scope => 11,
-            SchemaCode::RepeatedName => 12,
-            SchemaCode::UnknownKeyColumn => 13,
-            SchemaCode::NoClusteredKey => 14,
-            SchemaCode::TooManyColumns => 15,
-            SchemaCode::TooManyKeys => 16,
-            SchemaCode::NameTooLong => 17,
-            SchemaCode::ReservedName => 18,
-            SchemaCode::BadDefault => 19,
-        }
+        self.code().0
+    }
+
+    /// The refusal's name.
+    pub fn name(self) -> &'static str
+        ensures { result.now ≡ schema_name self }
+    {
+        self.code().1
     }
 }
 

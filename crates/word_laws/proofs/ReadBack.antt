@@ -36,13 +36,13 @@ own = numerals_by_value _ tells_all_ascii_digits
 wide : (n : ℕ) → n < 10 ^ 38 → n < 10 ^ 64
 wide n few = let more : 10 ^ 38 < 10 ^ 64 = lit< tt in omega arith
 
-decimal_digits : (n : ℕ) → n < 10 ^ 38 → AreDigits (decimal n)
+pub decimal_digits : (n : ℕ) → n < 10 ^ 38 → AreDigits (decimal n)
 decimal_digits n few =
     let numeral = (decimal_is_IsNumeral_wide n (wide n few)).0 in
     let positive : 0 < 38 = omega arith in
     record { all = own.from (decimal n) numeral.1; some = numeral.0; few = length-decimal-le_wide 38 n positive few (wide n few) }
 
-decimal_value : (n : ℕ) → n < 10 ^ 38 → digits_value 10 (decimal n) ≡ n
+pub decimal_value : (n : ℕ) → n < 10 ^ 38 → digits_value 10 (decimal n) ≡ n
 decimal_value n few = (decimal_is_IsNumeral_wide n (wide n few)).1
 
 module _

@@ -2,7 +2,7 @@ use Rattle.std.proofs.Common.{◌++◌, List, ℕ, sym, ap, ◌∙◌, append_as
 use Rattle.std.specs.Prelude.{option_to_list}
 use Rattle.std.specs.List.{filter_map}
 use Rattle.gho_schema.specs.declared.schema.Index.{Index}
-use Rattle.alter_schema.proofs.Rest.{filter_map-up_to_here}
+use Rattle.schema_rules.proofs.Loops.{filter_map-up_to_here}
 use Rattle.alter_schema.proofs.indexing.push_names.Goals as goal
 
 pub loop-index-preserved : goal.loop-index-preserved

@@ -1,0 +1,7 @@
+pub mod Defaults
+pub mod Lawful
+pub mod Limits
+pub mod Names
+pub mod Reasons
+pub mod Results
+pub mod Storing
