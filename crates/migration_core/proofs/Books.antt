@@ -5,12 +5,12 @@ use Rattle.std.proofs.lemmas.List.{length-append}
 use Rattle.std.proofs.lemmas.List.Sums.{fold-append, count_by-le-length}
 use Rattle.std.proofs.lemmas.Option.{slice_get-map}
 use Rattle.std.specs.List.{AllByRecursion, slice_get}
-use Rattle.std.specs.Option.{IsSome, option_map}
+use Rattle.std.specs.Option.{option_map}
 use Rattle.script_text.specs.declared.actor.Actor.{Actor}
 use Rattle.script_text.specs.declared.actor.Actor.TheVariants.{Client}
 use Rattle.script_text.specs.declared.script.ScriptLine.{ScriptLine}
 use Rattle.server_words.specs.declared.entry.Entry.{Entry}
-use Rattle.plan_words.specs.PlanData.{PlanData, plan_altered}
+use Rattle.plan_words.specs.PlanData.{PlanData}
 use Rattle.plan_words.specs.Journals.{same_actor, turns_of, script_of}
 use Rattle.tool_program.specs.declared.tool.Tool.{Tool}
 use Rattle.tool_program.specs.declared.tool.Tool.TheVariants.{Creating}
@@ -99,9 +99,9 @@ last-more : (journal : List Entry) (entry : Entry) → last_actor (journal ++ (e
 unfolding last_actor
 last-more journal entry = fold-append (λ (old : Option Actor) (e : Entry). Some e.actor) None journal (entry ∷ [])
 
-pub IsBook-none : (plan : PlanData) → IsSome (plan_altered plan) → length plan.clients < 4294967295 → IsBook plan [] Creating (map (seat_at []) (actors plan)) None
+pub IsBook-none : (plan : PlanData) → IsBook plan [] Creating (map (seat_at []) (actors plan)) None
 unfolding progress last_actor
-IsBook-none plan altered few = record { tool_is = refl; turns_are = refl; seats_are = refl; last_is = refl; altered = altered; few = few }
+IsBook-none plan = record { tool_is = refl; turns_are = refl; seats_are = refl; last_is = refl }
 
 pub IsBook-more : (plan : PlanData) (journal : List Entry) (entry : Entry) (tool next : Tool) (seats marks : List Seat) (last : Option Actor) → IsBook plan journal tool seats last → next ≡ (after_turn plan (progress plan journal) entry).tool
     → marks ≡ map (marked entry.actor entry.session) seats → IsBook plan (journal ++ (entry ∷ [])) next marks (Some entry.actor)
@@ -110,6 +110,4 @@ IsBook-more plan journal entry tool next seats marks last book is are = record {
   turns_are = ap (λ (p : Progress). p.turns) (progress-more plan journal entry) ∙ ap (λ n. n + 1) book.turns_are ∙ sym (length-append journal (entry ∷ []));
   seats_are = are ∙ ap (map (marked entry.actor entry.session)) book.seats_are ∙ seats-more journal entry (actors plan);
   last_is = sym (last-more journal entry);
-  altered = book.altered;
-  few = book.few;
 }

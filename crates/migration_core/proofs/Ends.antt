@@ -2,7 +2,7 @@
 use Rattle.std.proofs.Common.{◌≡◌, ℕ, ◌+◌, Bool, true, false, List, [], ◌∷◌, ◌++◌, Option, Some, None, cond, refl, sym, subst}
 use Rattle.std.proofs.lemmas.Bool.{true≢false, eq-eqb}
 use Rattle.std.specs.List.{AllByRecursion, find}
-use Rattle.std.specs.Option.{IsSome, IfSome, IfNone}
+use Rattle.std.specs.Option.{IfSome, IfNone}
 use Rattle.script_text.specs.declared.actor.Actor.{Actor}
 use Rattle.script_text.specs.declared.actor.Actor.TheVariants.{Op, Insp, Copy, Apply, Lock, Ren, Client}
 use Rattle.script_text.specs.declared.script.ScriptLine.{ScriptLine}
@@ -114,21 +114,13 @@ silent plan journal new altered over idle =
     rw (given_to_tool plan journal (tool_actor (progress plan journal).tool) (no_client (progress plan journal).tool), same_self (tool_actor (progress plan journal).tool), over, altered) at idle
 
 -- where no actor's turn comes next, the run has ended
-pub none_next : (plan : PlanData) (journal : List Entry) (new : Altered) → plan_altered plan ≡ Some new → next_actor plan journal ≡ None → has_ended plan journal ≡ true
+none_next : (plan : PlanData) (journal : List Entry) (new : Altered) → plan_altered plan ≡ Some new → next_actor plan journal ≡ None → has_ended plan journal ≡ true
 unfolding has_ended
 none_next plan journal new altered none =
     let rests : Rests plan journal (actors plan) = none_ready plan journal none in
     let over : clients_over plan journal ≡ true = rest_clients plan journal rests in
     let done : is_over (progress plan journal).tool ≡ true = silent_over plan new (progress plan journal).tool (silent plan journal new altered over (rest_tool plan journal (progress plan journal).tool rests)) in
     rw (done, over) refl
-
--- where no actor's turn comes next in a plan whose ALTER is taken, the run has ended
-ended_with : (plan : PlanData) (journal : List Entry) (new : Option Altered) → plan_altered plan ≡ new → IsSome new → next_actor plan journal ≡ None → has_ended plan journal ≡ true
-ended_with plan journal None is some none = absurd (cc)
-ended_with plan journal (Some new) is some none = none_next plan journal new is none
-
-pub ended_if_none : (plan : PlanData) (journal : List Entry) → IsSome (plan_altered plan) → next_actor plan journal ≡ None → has_ended plan journal ≡ true
-ended_if_none plan journal some none = ended_with plan journal (plan_altered plan) refl some none
 
 found_first : {X : Type 0} (b : Bool) (y x : X) (more all : Option X) → cond b (Some y) more ≡ Some x → (more ≡ Some x → all ≡ Some x) → cond b (Some y) all ≡ Some x
 found_first true y x more all some there = some
@@ -157,6 +149,6 @@ pub some_ready : (plan : PlanData) (journal : List Entry) (next : Option Actor) 
 some_ready plan journal None is = tt
 some_ready plan journal (Some actor) is = next_is_ready plan journal actor (sym is)
 
-pub none_ended : (plan : PlanData) (journal : List Entry) (next : Option Actor) → IsSome (plan_altered plan) → next ≡ next_actor plan journal → IfNone next (has_ended plan journal ≡ true)
-none_ended plan journal None some is = ended_if_none plan journal some (sym is)
-none_ended plan journal (Some actor) some is = tt
+pub none_ended : (plan : PlanData) (journal : List Entry) (new : Altered) (next : Option Actor) → plan_altered plan ≡ Some new → next ≡ next_actor plan journal → IfNone next (has_ended plan journal ≡ true)
+none_ended plan journal new None altered is = none_next plan journal new altered (sym is)
+none_ended plan journal new (Some actor) altered is = tt

@@ -12,7 +12,7 @@ use Rattle.tool_program.specs.Programs.{given, has_ended}
 use Rattle.tool_program.specs.Orders.{is_some, next_actor, ReplayOrder}
 use Rattle.migration_core.specs.declared.run.Stepped.{Stepped}
 use Rattle.migration_core.specs.declared.run.Stepped.TheVariants.{Took, Idle, Over, NoMemory}
-use Rattle.migration_core.specs.Runs.{RunView, turn_of, journal_after, is_over, Steps, Grows, Passes}
+use Rattle.migration_core.specs.Runs.{RunView, turn_of, with_turn, journal_after, is_over, Steps, Grows, Passes}
 use Rattle.migration_core.proofs.Ends.{next_is_ready}
 use Rattle.migration_core.proofs.Kept.{journal_behind}
 
@@ -38,6 +38,17 @@ or_true false = refl
 pub full_over : (plan : PlanData) (journal : List Entry) → 200000 ≤ length journal → is_over plan journal ≡ true
 unfolding is_over
 full_over plan journal full = ap (λ b. has_ended plan journal || b) (le-leb 200000 (length journal) full) ∙ or_true (has_ended plan journal)
+
+-- one more turn fits where there is room
+bound_with : (plan : PlanData) (journal : List Entry) (actor : Actor) (asked : Option Asked) → length journal < 200000 → length (with_turn plan journal actor asked) ≤ 200000
+bound_with plan journal actor None room = omega (arith, room)
+bound_with plan journal actor (Some asked) room =
+    let more : length (journal ++ (turn_of plan journal actor asked ∷ [])) ≡ length journal + 1 = length-append journal (turn_of plan journal actor asked ∷ []) in
+    omega (arith, room, more)
+
+pub bound_after : (plan : PlanData) (journal : List Entry) (actor : Actor) → length journal < 200000 → length (journal_after plan journal actor) ≤ 200000
+unfolding journal_after
+bound_after plan journal actor room = bound_with plan journal actor (given plan journal actor) room
 
 -- the journal after the next actor's turn is in the order of a replay, and has one turn more
 record Grown (plan : PlanData) (before after : List Entry) : Type 0 where

@@ -1,9 +1,9 @@
 -- The journal of a run, with what is kept of it so that no turn reads it anew.
-use Rattle.std.specs.Prelude.{◌≡◌, ℕ, ◌+◌, ◌<◌, if◌then◌else◌, List, map, length, IsSome, Option, Some}
+use Rattle.std.specs.Prelude.{◌≡◌, ℕ, ◌+◌, if◌then◌else◌, List, map, length, Option, Some}
 use Rattle.script_text.specs.declared.actor.Actor.{Actor}
 use Rattle.script_text.specs.declared.actor.Actor.TheVariants.{Op, Insp, Copy, Apply, Lock, Ren, Client}
 use Rattle.server_words.specs.declared.entry.Entry.{Entry}
-use Rattle.plan_words.specs.PlanData.{PlanData, plan_altered}
+use Rattle.plan_words.specs.PlanData.{PlanData}
 use Rattle.plan_words.specs.Journals.{same_actor, turns_of}
 use Rattle.tool_program.specs.declared.tool.Tool.{Tool}
 use Rattle.tool_program.specs.Programs.{session_named, progress}
@@ -34,11 +34,8 @@ place_of Ren = 5
 place_of (Client client) = client + 5
 
 -- What is kept of a journal: how far the tool is, each actor's seat in the fixed order, and the actor of the last turn.
--- The ALTER is taken, and the clients have numbers of 32 bits.
 pub record IsBook (plan : PlanData) (journal : List Entry) (tool : Tool) (seats : List Seat) (last : Option Actor) : Type 0 where
   pub tool_is : tool ≡ (progress plan journal).tool
   pub turns_are : (progress plan journal).turns ≡ length journal
   pub seats_are : seats ≡ map (seat_at journal) (actors plan)
   pub last_is : last ≡ last_actor journal
-  pub altered : IsSome (plan_altered plan)
-  pub few : length plan.clients < 4294967295

@@ -1,13 +1,9 @@
 -- What is kept of a plan, and what an answer changes in how far the tool is.
-use Rattle.std.specs.Prelude.{◌≡◌, ℕ, ◌+◌, if◌then◌else◌, List, Some, IfSome}
+use Rattle.std.specs.Prelude.{◌≡◌, ℕ, ◌+◌, if◌then◌else◌, List, Some}
 use Rattle.std.specs.Ordering.{is_eq}
 use Rattle.gho_values.specs.declared.value.Value.{Value}
 use Rattle.gho_values.specs.declared.span.Bound.TheVariants.{Open}
 use Rattle.gho_values.specs.Comparing.{compare_keys}
-use Rattle.gho_schema.specs.declared.schema.Schema.{Schema}
-use Rattle.alter_image.specs.declared.map.MapColumn.{MapColumn}
-use Rattle.row_store.specs.Databases.{find_table}
-use Rattle.schema_rules.specs.Lawful.{IsLawful}
 use Rattle.server_words.specs.declared.answer.Answer.{Answer}
 use Rattle.server_words.specs.declared.answer.Answer.TheVariants as answers
 use Rattle.server_words.specs.declared.cause.Cause.TheVariants.{Unfit}
@@ -19,13 +15,8 @@ use Rattle.tool_program.specs.Programs.{new_column}
 use Rattle.migration_core.specs.declared.next.Next.{Next}
 use Rattle.migration_core.specs.declared.next.Next.TheVariants.{Same, Copied, Becomes}
 
--- the schema of the table to migrate is lawful
-abbrev pub HasLawfulSchema : PlanData → Type 0
-HasLawfulSchema plan = IfSome (find_table plan.table plan.tables) (λ table. IsLawful table.schema)
-
--- what is kept of a plan: the new schema and map of its table, and the names of the tool's tables
-pub record IsMigration (plan : PlanData) (schema : Schema) (map : List MapColumn) (new_table old_table : List ℕ) : Type 0 where
-  pub altered : plan_altered plan ≡ Some (schema, map)
+-- what is kept of a plan: the names of the tool's tables
+pub record IsMigration (plan : PlanData) (new_table old_table : List ℕ) : Type 0 where
   pub new_table_is : new_table ≡ ghost_name plan.table
   pub old_table_is : old_table ≡ old_name plan.table
 

@@ -83,9 +83,11 @@ pub record IsKept (plan : PlanData) (journal : List Entry) : Type 0 where
   pub made : (number : ℕ) → (state_at plan journal).made < number → is_live (session_of number (state_at plan journal).sessions) ≡ false
   pub few : (state_at plan journal).made ≤ length journal
 
--- the run's journal is kept; and the server's state is the one at its end, unless the run is halted
+-- The run's journal is kept, and has no more turns than a run takes at most; and the server's state is the one at its end,
+-- unless the run is halted.
 pub record IsRun (plan : PlanData) (journal : List Entry) (is_halted : Bool) (state : State) : Type 0 where
   pub keeps : IsKept plan journal
+  pub bound : length journal ≤ turn_limit
   pub state_is : is_halted ≡ false → state ≡ state_at plan journal
 
 -- the next actor took a turn

@@ -1,14 +1,13 @@
 //! The journal of a run, with what is kept of it so that no turn reads it anew.
 
-ghost use Rattle.std.specs.Prelude.{◌≡◌, ◌+◌, ◌<◌, [], ◌∷◌, ◌++◌, map, length, option_map, slice_get, Some, IfOk, IsSome, OnOk, OnErr};
+ghost use Rattle.std.specs.Prelude.{◌≡◌, ◌+◌, ◌<◌, [], ◌∷◌, ◌++◌, map, length, option_map, slice_get, Some, IfOk, OnOk, OnErr};
 ghost use Rattle.script_text.specs.declared.actor.Actor.TheVariants.{Op, Insp, Copy, Apply, Lock, Ren};
 ghost use Rattle.server_words.specs.declared.entry.Asked.TheVariants.{Call};
 ghost use Rattle.server_words.specs.declared.request.Request.TheVariants.{Do};
 ghost use Rattle.plan_words.specs.Journals.{script_of, client_asks, line_asks, word_asks};
-ghost use Rattle.plan_words.specs.PlanData.{plan_altered};
 ghost use Rattle.tool_program.specs.Programs.{clients_over, session_named, progress, after_turn};
 ghost use Rattle.tool_program.specs.Orders.{actors, last_actor};
-ghost use Rattle.migration_core.specs.Calls.{HasLawfulSchema, applied};
+ghost use Rattle.migration_core.specs.Calls.{applied};
 ghost use Rattle.migration_core.specs.Books.{seat_at, place_of};
 ghost use Rattle.migration_core.specs.Runs.{turn_limit};
 
@@ -110,7 +109,6 @@ fn tool_seats(alloc: Global) -> Result<Vec<Seat>, AllocError>
 /// The seats of all actors before the first turn, in the fixed order.
 #[tactic(auto, unfolding(tool_program::specs::Orders::actors, tool_program::specs::Orders::clients_from))]
 fn seats_of(alloc: Global, plan: &Plan) -> Result<Vec<Seat>, AllocError>
-    requires { length plan.now.clients < 4294967295 }
     ensures { IfOk result (λ seats. seats.items ≡ map (seat_at []) (actors plan.now)) }
 {
     let mut seats = tool_seats(alloc)?;
@@ -125,9 +123,6 @@ fn seats_of(alloc: Global, plan: &Plan) -> Result<Vec<Seat>, AllocError>
 impl<'a> Book<'a> {
     /// The book of the plan without turns.
     pub fn open(alloc: Global, plan: &'a Plan) -> Result<Book<'a>, AllocError>
-        requires altered { IsSome (plan_altered plan.now) }
-        requires lawful { HasLawfulSchema plan.now }
-        requires few { length plan.now.clients < 4294967295 }
         ensures plan { IfOk result (λ book. book.plan ≡ plan.now) }
         ensures journal { IfOk result (λ book. book.journal ≡ []) }
     {
@@ -239,10 +234,8 @@ impl<'a> Book<'a> {
         next.apply(&mut self.tool);
         mark_turn(&mut self.seats, entry.actor, entry.session);
         self.last = Some(entry.actor);
-        match self.entries.push(entry) {
-            Ok(()) => Ok(()),
-            Err(_) => unreachable!(),
-        }
+        self.entries.push_reserved(entry);
+        Ok(())
     }
 
     /// The turns as a journal. It takes no memory.

@@ -13,6 +13,5 @@ mod turn;
 mod whole;
 
 pub use book::TURN_LIMIT;
-pub use migration::plan_altered;
 pub use run::{Replayed, Run, Stepped};
 pub use whole::{End, Left, replay};

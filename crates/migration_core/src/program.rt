@@ -137,8 +137,8 @@ impl Book<'_> {
         ensures ready { IfSome result (λ actor. is_ready self.now.plan self.now.journal actor ≡ true) }
         ensures ended { IfNone result (has_ended self.now.plan self.now.journal ≡ true) }
     {
-        // The book knows that the ALTER is taken: a tool that isn't over has a call.
-        let _ = &self.seats;
+        // A plan's ALTER can be done, so a tool that isn't over has a call.
+        let _ = self.migration().plan.altered();
         match self.first_ready(self.behind_last()) {
             Some(actor) => Some(actor),
             None => self.first_ready(self.seats()),

@@ -1,21 +1,16 @@
 //! A run.
 
-ghost use Rattle.std.specs.Prelude.{◌≡◌, ◌<◌, [], length, true, false, IsSome, IfSome, IfNone, IfOk};
+ghost use Rattle.std.specs.Prelude.{◌≡◌, ◌≤◌, [], length, true, false, IfSome, IfNone, IfOk};
 ghost use Rattle.plan_words.specs.Journals.{opening, state_at, IsFaithful, KeepsPlan};
-ghost use Rattle.plan_words.specs.Histories.{history, Serial, tables_left};
-ghost use Rattle.serial_laws.specs.SerialLaws.{IsMigratable};
-ghost use Rattle.plan_words.specs.PlanData.{plan_altered};
 ghost use Rattle.tool_program.specs.Programs.{has_ended, verdict_of, Follows};
 ghost use Rattle.tool_program.specs.Orders.{is_ready, next_actor, ReplayOrder};
-ghost use Rattle.migration_core.specs.Calls.{HasLawfulSchema};
-ghost use Rattle.migration_core.specs.Runs.{Steps, Passes, is_over};
+ghost use Rattle.migration_core.specs.Runs.{Steps, Passes, is_over, turn_limit};
 ghost use Rattle.migration_core.specs.declared.run.Replayed.TheVariants as Replayed;
 
 use crate::book::{Book, TURN_LIMIT};
 use crate::turn::take_turn;
 use plan_words::Plan;
 use script_text::Actor;
-use serial_laws::laws::journals_are_serial;
 use server_words::{Entry, Journal, Serve, Verdict};
 use std::alloc::{AllocError, Global};
 use std::marker::Model;
@@ -65,10 +60,7 @@ impl<'a, V: Serve> Model for Run<'a, V> {
 impl<'a, V: Serve> Run<'a, V> {
     /// A run of the plan without turns, on a server at the plan's opening.
     pub fn open(alloc: Global, plan: &'a Plan, server: V) -> Result<Run<'a, V>, AllocError>
-        requires altered { IsSome (plan_altered plan.now) }
-        requires lawful { HasLawfulSchema plan.now }
-        requires few { length plan.now.clients < u32.MAX }
-        requires opening { V.state server ≡ opening plan.now }
+        requires { V.state server ≡ opening plan.now }
         ensures { IfOk result (λ run. run ≡ record { plan = plan.now; journal = []; is_halted = false }) }
     {
         Ok(Run {
@@ -167,6 +159,7 @@ impl<'a, V: Serve> Run<'a, V> {
         ensures faithful { IsFaithful self.now.plan self.now.journal }
         ensures kept { KeepsPlan self.now.plan self.now.journal }
         ensures follows { Follows self.now.plan self.now.journal }
+        ensures bound { length self.now.journal ≤ turn_limit }
     {
         self.book.entries()
     }
@@ -178,17 +171,15 @@ impl<'a, V: Serve> Run<'a, V> {
         &self.server
     }
 
-    /// The server and the journal. Its history is serial: what ended, one at a time, leads from the plan's opening tables to
-    /// those at its end. It takes no memory.
+    /// The server and the journal. It takes no memory.
     pub fn stop(self) -> (V, Journal)
         ensures journal { result.1 ≡ self.entry.journal }
         ensures state { self.entry.is_halted ≡ false → V.state result.0 ≡ state_at self.entry.plan self.entry.journal }
         ensures faithful { IsFaithful self.entry.plan self.entry.journal }
         ensures kept { KeepsPlan self.entry.plan self.entry.journal }
         ensures follows { Follows self.entry.plan self.entry.journal }
-        ensures serial { IsMigratable self.entry.plan → Serial self.entry.plan self.entry.plan.tables (history self.entry.plan self.entry.journal) (tables_left self.entry.plan (state_at self.entry.plan self.entry.journal).tables) }
+        ensures bound { length self.entry.journal ≤ turn_limit }
     {
-        journals_are_serial();
         (self.server, self.book.into_journal())
     }
 }

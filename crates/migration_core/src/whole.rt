@@ -1,14 +1,10 @@
 //! The replay of a whole plan.
 
-ghost use Rattle.std.specs.Prelude.{◌≡◌, ◌<◌, length, true, IsSome, IfSome, IfOk};
+ghost use Rattle.std.specs.Prelude.{◌≡◌, ◌≤◌, length, true, IfSome, IfOk};
 ghost use Rattle.plan_words.specs.Journals.{opening, state_at, IsFaithful, KeepsPlan};
-ghost use Rattle.plan_words.specs.Histories.{history, Serial, tables_left};
-ghost use Rattle.serial_laws.specs.SerialLaws.{IsMigratable};
-ghost use Rattle.plan_words.specs.PlanData.{plan_altered};
 ghost use Rattle.tool_program.specs.Programs.{verdict_of, Follows};
 ghost use Rattle.tool_program.specs.Orders.{ReplayOrder};
-ghost use Rattle.migration_core.specs.Calls.{HasLawfulSchema};
-ghost use Rattle.migration_core.specs.Runs.{is_over};
+ghost use Rattle.migration_core.specs.Runs.{is_over, turn_limit};
 
 use crate::run::{Replayed, Run};
 use plan_words::Plan;
@@ -37,10 +33,7 @@ pub struct Left<V: Serve> {
 /// a turn, those before it are left.
 #[tactic(auto, unfolding(tool_program::specs::Orders::ReplayOrder))]
 pub fn replay<V: Serve>(alloc: Global, plan: &Plan, server: V) -> Result<Left<V>, AllocError>
-    requires altered { IsSome (plan_altered plan.now) }
-    requires lawful { HasLawfulSchema plan.now }
-    requires few { length plan.now.clients < u32.MAX }
-    requires opening { V.state server ≡ opening plan.now }
+    requires { V.state server ≡ opening plan.now }
     ensures order { IfOk result (λ left. ReplayOrder plan.now left.journal) }
     ensures over { IfOk result (λ left. IfSome left.end (λ end. is_over plan.now left.journal ≡ true)) }
     ensures verdict { IfOk result (λ left. IfSome left.end (λ end. end.verdict ≡ verdict_of plan.now left.journal)) }
@@ -48,7 +41,7 @@ pub fn replay<V: Serve>(alloc: Global, plan: &Plan, server: V) -> Result<Left<V>
     ensures faithful { IfOk result (λ left. IsFaithful plan.now left.journal) }
     ensures kept { IfOk result (λ left. KeepsPlan plan.now left.journal) }
     ensures follows { IfOk result (λ left. Follows plan.now left.journal) }
-    ensures serial { IfOk result (λ left. IsMigratable plan.now → Serial plan.now plan.now.tables (history plan.now left.journal) (tables_left plan.now (state_at plan.now left.journal).tables)) }
+    ensures bound { IfOk result (λ left. length left.journal ≤ turn_limit) }
 {
     let mut run = Run::open(alloc, plan, server)?;
     match run.replay(alloc) {

@@ -26,30 +26,52 @@ use Rattle.migration_host.specs.declared.status.Status.{Status}
 use Rattle.migration_host.specs.declared.turns.Turn.{Turn}
 use Rattle.migration_host.specs.Outcomes.{IsUntaken, IsRun, IsReport, IsSchema, IsRefusal, Refuses, PlanChecks, Comes, PlanComes, status_of}
 use Rattle.migration_host.specs.Endings.{Taking, Giving, ReadsAndComes, TellsUsage, TellsReadFault, TellsFaulty, TellsCommand, ComesTo, GivesAll, GivesFront, GivesNone, Gives, status_number, command}
-use Rattle.migration_host.specs.Promises.{IsSerial, PrintsReport, PrintsSchema, PrintsRevert, PrintsUnfinished, PrintsRefusal, PrintsUsage, PrintsReadFault, PrintsFront, PrintsNone, IsUsageOrLost, Ends, done, checked, usage, refused, reverted, read_fault, write_fault, no_memory, turns_spent}
+use Rattle.migration_host.specs.Promises.{EndsBy, IsSerial, PrintsReport, PrintsSchema, PrintsRevert, PrintsUnfinished, PrintsRefusal, PrintsUsage, PrintsReadFault, PrintsFront, PrintsNone, IsUsageOrLost, Ends, done, checked, usage, refused, reverted, read_fault, write_fault, no_memory, turns_spent}
 
 -- ---- journals of runs that are over
 
-full_or_ended : (tool : Tool) (clients full : Bool) → (tool_is_over tool && clients || full) ≡ true → (if tool_is_over tool && clients then tool_verdict tool else verdicts.Unfinished) ≡ verdicts.Unfinished → full ≡ true
-full_or_ended Creating clients full over is = over
-full_or_ended Reaching clients full over is = over
-full_or_ended (Choosing low top) clients full over is = over
-full_or_ended (Spanning low top high) clients full over is = over
-full_or_ended (Copying keys copied end top) clients full over is = over
-full_or_ended Renaming clients full over is = over
-full_or_ended Done true full over is = absurd (cc)
-full_or_ended Done false full over is = over
-full_or_ended (Reverting cause) clients full over is = over
-full_or_ended (Reverted cause) true full over is = absurd (cc)
-full_or_ended (Reverted cause) false full over is = over
+-- a run with this verdict has ended, or it is full
+abbrev By : Bool → Bool → Verdict → Type 0
+By ended full verdicts.Unfinished = (ended ≡ false) × (full ≡ true)
+By ended full verdicts.Done = ended ≡ true
+By ended full (verdicts.Reverted cause) = ended ≡ true
 
-at_most : (a b : ℕ) → nat_le a b ≡ true → a ≤ b
-at_most a b is = grind (arith, nat_tests)
+unended : (full : Bool) (verdict : Verdict) → full ≡ true → verdicts.Unfinished ≡ verdict → By false full verdict
+unended full verdicts.Unfinished over is = (refl, over)
+unended full verdicts.Done over is = absurd (cc)
+unended full (verdicts.Reverted cause) over is = absurd (cc)
 
--- an unfinished run that is over has a full journal
-is_full : (plan : PlanData) (journal : List Entry) → is_over plan journal ≡ true → verdict_of plan journal ≡ verdicts.Unfinished → turn_limit ≤ length journal
+tool_ended : (verdict : Verdict) (full : Bool) → (verdict ≡ verdicts.Unfinished → ⊥) → By true full verdict
+tool_ended verdicts.Unfinished full isnt = absurd (isnt refl)
+tool_ended verdicts.Done full isnt = refl
+tool_ended (verdicts.Reverted cause) full isnt = refl
+
+ended_by : (tool : Tool) (clients full : Bool) (verdict : Verdict) → (tool_is_over tool && clients || full) ≡ true → (if tool_is_over tool && clients then tool_verdict tool else verdicts.Unfinished) ≡ verdict → By (tool_is_over tool && clients) full verdict
+ended_by Creating clients full verdict over is = unended full verdict over is
+ended_by Reaching clients full verdict over is = unended full verdict over is
+ended_by (Choosing low top) clients full verdict over is = unended full verdict over is
+ended_by (Spanning low top high) clients full verdict over is = unended full verdict over is
+ended_by (Copying keys copied end top) clients full verdict over is = unended full verdict over is
+ended_by Renaming clients full verdict over is = unended full verdict over is
+ended_by Done true full verdict over is = tool_ended verdict full (λ other. cc)
+ended_by Done false full verdict over is = unended full verdict over is
+ended_by (Reverting cause) clients full verdict over is = unended full verdict over is
+ended_by (Reverted cause) true full verdict over is = tool_ended verdict full (λ other. cc)
+ended_by (Reverted cause) false full verdict over is = unended full verdict over is
+
+at_limit : (count : ℕ) → nat_le turn_limit count ≡ true → count ≤ turn_limit → count ≡ turn_limit
+at_limit count full bound = grind (arith, nat_tests)
+
+by_verdict : (plan : PlanData) (journal : List Entry) (verdict : Verdict) → length journal ≤ turn_limit → By (has_ended plan journal) (nat_le turn_limit (length journal)) verdict → EndsBy plan journal verdict
+by_verdict plan journal verdicts.Unfinished bound by = (by.0, at_limit (length journal) by.1 bound)
+by_verdict plan journal verdicts.Done bound by = by
+by_verdict plan journal (verdicts.Reverted cause) bound by = by
+
+-- a run that is over has ended, or its journal is full, as its verdict says
+ends_as : (plan : PlanData) (journal : List Entry) (verdict : Verdict) → is_over plan journal ≡ true → length journal ≤ turn_limit → verdict_of plan journal ≡ verdict → EndsBy plan journal verdict
 unfolding is_over verdict_of has_ended
-is_full plan journal over is = at_most turn_limit (length journal) (full_or_ended (progress plan journal).tool (clients_over plan journal) (nat_le turn_limit (length journal)) over is)
+ends_as plan journal verdict over bound is =
+    by_verdict plan journal verdict bound (ended_by (progress plan journal).tool (clients_over plan journal) (nat_le turn_limit (length journal)) verdict over is)
 
 -- a run that is over took turns
 is_taken : (plan : PlanData) (journal : List Entry) → is_over plan journal ≡ true → (length journal == 0) ≡ false
@@ -74,7 +96,7 @@ abbrev report_of : VerdictsTellTheAlter → (source : Taking) (sink : Giving) (p
 report_of tell source sink printed turns journal read plan verdict accepted run told is given = record {
   serial = serial_of Replay source turns journal (Some printed) read plan accepted run;
   taken = is_taken plan journal told.over;
-  over = told.over;
+  over = ends_as plan journal verdict told.over run.replay.bound is;
   verdict_is = is;
   tells = tell plan journal run.replay.follows;
   given = subst (λ (text : List ℕ). Appends sink.before sink.after text) (told.text_is ∙ ap (λ (v : Verdict). report plan journal v (state_at plan journal).tables) is) given;
@@ -91,10 +113,7 @@ of_verdict tell name words source sink printed turns journal number read plan (v
       names = name plan journal cause run.replay.follows verdict_is;
     })
 of_verdict tell name words source sink printed turns journal number read plan verdicts.Unfinished is number_is given accepted run told verdict_is =
-    turns_spent (number_is ∙ ap status_number (told.status_is ∙ ap status_of verdict_is)) is (
-      report_of tell source sink printed turns journal read plan verdicts.Unfinished accepted run told verdict_is given,
-      is_full plan journal told.over verdict_is,
-    )
+    turns_spent (number_is ∙ ap status_number (told.status_is ∙ ap status_of verdict_is)) is (report_of tell source sink printed turns journal read plan verdicts.Unfinished accepted run told verdict_is given)
 
 some_told : (words : List (List ℕ)) (told : Command) → command words ≡ Some told → IsSome (command words)
 some_told words told is = rw is refl
@@ -161,8 +180,7 @@ none_taken turns journal none some = absurd (cc (sym (ap (λ (entries : List Ent
 
 plan_ran : (told : Command) (source : Taking) (printed : Option Printed) (turns : List Turn) (journal : List Entry) (read : ReadsAndComes told source printed turns journal) (said : Result PlanData Refusal) (shown : Option Printed) → reads read.bytes ≡ said → Comes told said shown turns journal → (length journal == 0) ≡ false
     → IsSerial source turns journal
-plan_ran Replay source printed turns journal read (Ok plan) None said (inl none) some = none_taken turns journal none some
-plan_ran Replay source printed turns journal read (Ok plan) None said (inr run) some = serial_of Replay source turns journal printed read plan said run
+plan_ran Replay source printed turns journal read (Ok plan) None said run some = serial_of Replay source turns journal printed read plan said run
 plan_ran Replay source printed turns journal read (Ok plan) (Some shown) said comes some = serial_of Replay source turns journal printed read plan said comes.0
 plan_ran Check source printed turns journal read (Ok plan) shown said comes some = none_taken turns journal comes.0 some
 plan_ran Replay source printed turns journal read (Err refusal) shown said comes some = none_taken turns journal comes.0 some

@@ -1,6 +1,6 @@
 -- What comes of a plan's bytes: the turns that are taken, what is printed, and the status that it has where it is printed
 -- whole. This project's rule.
-use Rattle.std.specs.Prelude.{◌≡◌, ℕ, true, ◌⊎◌, List, [], map, Option, Some, None, Result, Ok, Err}
+use Rattle.std.specs.Prelude.{◌≡◌, ℕ, true, List, [], map, Option, Some, None, Result, Ok, Err}
 use Rattle.gho_schema.specs.declared.schema.Schema.{Schema}
 use Rattle.schema_print.specs.Printing.{printed_schema}
 use Rattle.server_words.specs.declared.cause.Verdict.{Verdict}
@@ -11,8 +11,8 @@ use Rattle.plan_text.specs.declared.fault.Refusal.{Refusal}
 use Rattle.plan_words.specs.Journals.{state_at}
 use Rattle.tool_program.specs.Programs.{verdict_of}
 use Rattle.migration_core.specs.Runs.{is_over}
-use Rattle.plan_replay.specs.Checks.{Alters}
-use Rattle.plan_replay.specs.Replays.{IsReplay}
+use Rattle.migration_host.specs.Checks.{Alters}
+use Rattle.migration_host.specs.Replays.{IsReplay}
 use Rattle.report_text.specs.Reports.{report}
 use Rattle.migration_host.specs.declared.command.Command.{Command}
 use Rattle.migration_host.specs.declared.command.Command.TheVariants.{Check, Replay}
@@ -53,10 +53,10 @@ abbrev pub Reports : PlanData → List Entry → Option Printed → Type 0
 Reports plan journal None = Unit {0}
 Reports plan journal (Some printed) = IsReport plan journal printed
 
--- What comes of a plan: its replay with the report; where memory is wanting nothing is printed, and all or some turns may
--- not have been taken.
+-- What comes of a plan: its replay with the report; where memory is wanting nothing is printed, and the turns are those
+-- that were taken until then.
 abbrev pub PlanComes : PlanData → Option Printed → List Turn → List Entry → Type 0
-PlanComes plan None turns journal = IsUntaken turns journal ⊎ IsRun plan turns journal
+PlanComes plan None turns journal = IsRun plan turns journal
 PlanComes plan (Some printed) turns journal = IsRun plan turns journal × IsReport plan journal printed
 
 -- the text of the schema that the plan's ALTER leaves

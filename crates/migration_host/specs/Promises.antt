@@ -14,11 +14,11 @@ use Rattle.plan_text.specs.declared.TheConstants.{PLAN_LIMIT}
 use Rattle.plan_text.specs.declared.fault.Refusal.{Refusal}
 use Rattle.plan_words.specs.Journals.{state_at}
 use Rattle.plan_text.specs.Plans.{reads}
-use Rattle.tool_program.specs.Programs.{verdict_of}
+use Rattle.tool_program.specs.Programs.{has_ended, verdict_of}
 use Rattle.serial_laws.specs.VerdictLaws.{TellsAlter, NamesTurn}
-use Rattle.migration_core.specs.Runs.{is_over, turn_limit}
-use Rattle.plan_replay.specs.Checks.{Alters}
-use Rattle.plan_replay.specs.Replays.{IsReplay}
+use Rattle.migration_core.specs.Runs.{turn_limit}
+use Rattle.migration_host.specs.Checks.{Alters}
+use Rattle.migration_host.specs.Replays.{IsReplay}
 use Rattle.report_text.specs.Reports.{report}
 use Rattle.migration_host.specs.declared.command.Command.TheVariants.{Check, Replay}
 use Rattle.migration_host.specs.declared.outcome.Printed.{Printed}
@@ -39,12 +39,19 @@ pub record IsSerial (source : Taking) (turns : List Turn) (journal : List Entry)
   pub replay : IsReplay plan journal
   pub turns_are : turns ≡ turns_of journal
 
--- Statuses 0, 3 and 7 of `replay`: the journal is such a one; its run has ended or it is full; what is given is the report of it with
--- this verdict and of the tables at its end; and the verdict tells whether the ALTER was done.
+-- Where the verdict is done or reverted, the run has ended; where it is unfinished, the run hasn't, and took as many turns
+-- as a run takes at most.
+abbrev pub EndsBy : PlanData → List Entry → Verdict → Type 0
+EndsBy plan journal Unfinished = (has_ended plan journal ≡ false) × (length journal ≡ turn_limit)
+EndsBy plan journal verdict = has_ended plan journal ≡ true
+
+-- Statuses 0, 3 and 7 of `replay`: the journal is such a one; its run has ended, or at status 7 hasn't, and the journal is
+-- full; what is given is the report of it with this verdict and of the tables at its end; and the verdict tells whether the
+-- ALTER was done.
 pub record PrintsReport (source : Taking) (sink : Giving) (turns : List Turn) (journal : List Entry) (verdict : Verdict) : Type 0 where
   pub serial : IsSerial source turns journal
   pub taken : (length journal == 0) ≡ false
-  pub over : is_over serial.plan journal ≡ true
+  pub over : EndsBy serial.plan journal verdict
   pub verdict_is : verdict_of serial.plan journal ≡ verdict
   pub tells : TellsAlter serial.plan journal
   pub given : Appends sink.before sink.after (report serial.plan journal verdict (state_at serial.plan journal).tables)
@@ -57,7 +64,7 @@ pub record PrintsRevert (source : Taking) (sink : Giving) (turns : List Turn) (j
 
 -- Status 7: the journal is full, and the run hasn't ended.
 abbrev pub PrintsUnfinished : Taking → Giving → List Turn → List Entry → Type 0
-PrintsUnfinished source sink turns journal = PrintsReport source sink turns journal Unfinished × (turn_limit ≤ length journal)
+PrintsUnfinished source sink turns journal = PrintsReport source sink turns journal Unfinished
 
 -- Status 0 of `check`: the source was read whole, its bytes are an accepted plan, and what is given is the text of the
 -- schema that its ALTER leaves; no turn was taken.
@@ -99,7 +106,8 @@ pub record PrintsFront (words : List (List ℕ)) (source : Taking) (sink : Givin
   pub given : GivesPart sink.before sink.after printed.text
   pub rose : Rose sink.faults_before sink.faults_after
 
--- Status 6: memory was wanting, and nothing is given.
+-- Status 6: memory was wanting, and nothing is given. Where a plan was read, the journal is that of the turns that were
+-- taken until then.
 pub record PrintsNone (words : List (List ℕ)) (source : Taking) (sink : Giving) (turns : List Turn) (journal : List Entry) : Type 0 where
   pub comes : ComesTo (command words) source None turns journal
   pub given : Appends sink.before sink.after []

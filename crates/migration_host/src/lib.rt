@@ -1,13 +1,16 @@
 //! The migration from end to end: a plan's bytes in, a report's bytes out.
 #![tactic(auto)]
 
+mod accepting;
 mod command;
 mod line;
 mod outcome;
+mod replay;
 mod status;
 mod top;
 mod turns;
 
+pub use accepting::read_plan;
 pub use command::Command;
 pub use line::Line;
 pub use status::Status;

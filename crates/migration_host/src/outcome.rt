@@ -2,21 +2,23 @@
 
 ghost use Rattle.std.specs.Prelude.{◌≡◌, [], ◌++◌, IfSome, IfOk, OnOk, Ok};
 ghost use Rattle.plan_text.specs.Plans.{reads};
-ghost use Rattle.serial_laws.specs.SerialLaws.{IsMigratable};
-ghost use Rattle.plan_replay.specs.Replays.{IsEnd};
+ghost use Rattle.plan_words.specs.Migratable.{IsMigratable};
+ghost use Rattle.migration_host.specs.Replays.{IsEnd};
 ghost use Rattle.migration_host.specs.Outcomes.{Comes, IsSchemaText, PlanChecks, PlanComes, Refuses, Reports};
 ghost use Rattle.migration_host.specs.Texts.{place_text, refused_text};
 
+use crate::accepting::read_plan;
 use crate::command::Command;
+use crate::replay::replay_plan;
 use crate::status::{Status, status_of};
-use crate::turns::{Turns, turns_of};
+use crate::turns::{Turns, turns_in};
 use gho_values::{Sequence, Text};
-use plan_laws::laws::accepted_plans_are_migratable;
-use plan_replay::{End, altered_schema, replay_plan};
-use plan_text::{PlanFault, Refusal, read_plan};
+use migration_core::{End, TURN_LIMIT};
+use plan_text::{PlanFault, Refusal};
 use plan_words::Plan;
 use report_text::report;
 use schema_print::print_schema;
+use serial_laws::laws::journals_are_serial;
 use server_core::Server;
 use server_words::{Journal, Serve};
 use std::alloc::{AllocError, Global};
@@ -128,33 +130,32 @@ fn plan_replayed(alloc: Global, plan: &Plan) -> Outcome
     requires { IsMigratable plan.now }
     ensures { PlanComes plan.now result.printed result.turns result.journal }
 {
-    let Ok(left) = replay_plan(alloc, plan) else {
+    journals_are_serial();
+    // The room for the turns is made before the first, so that none that was taken is thrown away.
+    let Ok(room) = Vec::with_capacity(alloc, TURN_LIMIT) else {
         return untaken(alloc, None);
     };
-    let Ok(turns) = turns_of(alloc, left.journal.as_slice()) else {
+    let Ok(left) = replay_plan(alloc, plan) else {
         return untaken(alloc, None);
     };
     Outcome {
         printed: reported(alloc, plan, &left.journal, &left.end),
-        turns,
+        turns: turns_in(room, left.journal.as_slice()),
         journal: left.journal,
     }
 }
 
 /// The text of the schema that a plan's ALTER leaves.
 fn schema_text(alloc: Global, plan: &Plan) -> Result<Text, AllocError>
-    requires { IsMigratable plan.now }
     ensures { IfOk result (λ text. IsSchemaText plan.now text) }
 {
-    let schema = altered_schema(alloc, plan)?;
     let mut text = Text::new(alloc);
-    print_schema(&schema, &mut text)?;
+    print_schema(&plan.altered().schema, &mut text)?;
     Ok(text)
 }
 
 /// What comes of the check of a plan.
 fn plan_checked(alloc: Global, plan: &Plan) -> Option<Printed>
-    requires { IsMigratable plan.now }
     ensures { PlanChecks plan.now result }
 {
     match schema_text(alloc, plan) {
@@ -181,7 +182,6 @@ fn plan_outcome(alloc: Global, command: Command, plan: &Plan) -> Outcome
 pub fn outcome_of(alloc: Global, command: Command, bytes: &[u8]) -> Outcome
     ensures { Comes command (reads bytes.now) result.printed result.turns result.journal }
 {
-    accepted_plans_are_migratable();
     match read_plan(alloc, bytes) {
         Ok(plan) => plan_outcome(alloc, command, &plan),
         Err(PlanFault::Refused(refusal)) => untaken(alloc, refused(alloc, refusal)),

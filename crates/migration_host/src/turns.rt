@@ -1,12 +1,12 @@
 //! Whose turns a run took.
 
-ghost use Rattle.std.specs.Prelude.{◌≡◌, IfOk};
+ghost use Rattle.std.specs.Prelude.{◌≡◌, ◌≤◌, [], length};
+ghost use Rattle.std.specs.Vec.{vec_capacity};
 ghost use Rattle.migration_host.specs.Outcomes.{turns_of};
 
 use gho_values::Sequence;
 use script_text::Actor;
 use server_words::Entry;
-use std::alloc::{AllocError, Global};
 
 /// Whose turn it was.
 #[derive(Debug, Drop)]
@@ -20,16 +20,18 @@ pub struct Turn {
 /// Turns in order.
 pub type Turns = Sequence<Turn>;
 
-/// Whose turns a replay's journal has.
-pub(crate) fn turns_of(alloc: Global, journal: &[Entry]) -> Result<Turns, AllocError>
-    ensures { IfOk result (λ turns. turns ≡ turns_of journal.now) }
+/// Whose turns a replay's journal has, in the room that was made for them. It takes no memory.
+pub(crate) fn turns_in(room: Vec<Turn>, journal: &[Entry]) -> Turns
+    requires empty { room.items ≡ [] }
+    requires room { length journal.now ≤ vec_capacity room }
+    ensures { result ≡ turns_of journal.now }
 {
-    let mut turns = Sequence::new(alloc);
+    let mut turns = room;
     for entry in journal {
-        turns.push(Turn {
+        turns.push_reserved(Turn {
             worker: 0,
             actor: entry.actor,
-        })?;
+        });
     }
-    Ok(turns)
+    Sequence::from_vec(turns)
 }

@@ -2,12 +2,10 @@
 //! in which they ended, and then the whole table is altered. Nothing here is the server's or the report's code.
 
 ghost use Rattle.std.specs.Prelude.{◌<◌, ◌^◌, length};
-ghost use Rattle.serial_laws.specs.SerialLaws.{IsMigratable};
 
 use alter_image::{MapColumn, image};
 use gho_schema::Schema;
 use gho_values::{Duplicate, Row, Rows, Sequence, Text, print_row};
-use plan_replay::altered_plan;
 use plan_words::Plan;
 use script_text::{Actor, ScriptWord, Statement};
 use serial_model::{PlainTable, alone_in_order, plain_tables};
@@ -158,24 +156,20 @@ fn push_altered(
     text: &mut Text,
     plan: &Plan,
     table: &PlainTable,
-) -> Result<(), AllocError>
-    requires { IsMigratable plan.now }
-{
-    let (schema, map) = altered_plan(alloc, plan)?;
+) -> Result<(), AllocError> {
+    let altered = plan.altered();
     // There is no memory for so many columns.
-    if map.len() >= u32::MAX as usize {
+    if altered.map.len() >= u32::MAX as usize {
         return Err(AllocError);
     }
-    let rows = images_of(alloc, map.as_slice(), table.rows())?;
-    push_columns(text, &schema)?;
+    let rows = images_of(alloc, altered.map.as_slice(), table.rows())?;
+    push_columns(text, &altered.schema)?;
     push_rows(text, rows.as_slice())?;
-    push_names(alloc, text, schema.name.as_str())
+    push_names(alloc, text, altered.schema.name.as_str())
 }
 
 /// The report of a run of the plan whose ALTER was done, by the transactions that the journal has.
-pub fn modelled(alloc: Global, plan: &Plan, journal: &Journal) -> Result<Text, AllocError>
-    requires { IsMigratable plan.now }
-{
+pub fn modelled(alloc: Global, plan: &Plan, journal: &Journal) -> Result<Text, AllocError> {
     let history = history_of(alloc, journal)?;
     let opening = plain_tables(alloc, plan.tables())?;
     let ran = alone_in_order(alloc, &opening, history.txns.as_slice())?;

@@ -3,9 +3,7 @@
 use crate::cases::Case;
 use crate::model::modelled;
 use gho_edges::{BytesSink, BytesSource, OpenGate};
-use migration_host::{Ended, Line, ghost_};
-use plan_laws::laws::accepted_plans_are_migratable;
-use plan_text::read_plan;
+use migration_host::{Ended, Line, ghost_, read_plan};
 use std::alloc::{AllocError, Global};
 use std::sync::Wait;
 use std::thread::Threads;
@@ -46,7 +44,6 @@ fn is_modelled(alloc: Global, plan: &[u8], printed: &Printed) -> Result<bool, Al
     if printed.ended.status != 0 || printed.ended.journal.is_empty() {
         return Ok(true);
     }
-    accepted_plans_are_migratable();
     match read_plan(alloc, plan) {
         Ok(plan) => {
             let text = modelled(alloc, &plan, &printed.ended.journal)?;

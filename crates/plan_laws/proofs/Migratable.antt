@@ -14,8 +14,7 @@ use Rattle.table_words.specs.declared.code.SchemaCode.{SchemaCode}
 use Rattle.schema_rules.specs.Results.{◌>>=◌}
 use Rattle.schema_rules.specs.Lawful.{IsLawful}
 use Rattle.schema_text.specs.Reading.{schema_at}
-use Rattle.schema_laws.specs.Laws.{ReadSchemasAreLawful}
-use Rattle.alter_schema.specs.declared.code.AlterCode.{AlterCode}
+use Rattle.schema_text.specs.Laws.{ReadSchemasAreLawful}
 use Rattle.alter_schema.specs.Altering.{altered}
 use Rattle.alter_text.specs.Reading.{alter_at}
 use Rattle.alter_laws.specs.Laws.{ImagesKeepClusteredKeys, ImagesStayApart, AlteredTablesKeepNames}
@@ -28,8 +27,9 @@ use Rattle.plan_text.specs.Clients.{clients_in}
 use Rattle.plan_text.specs.PlanKeys.{PlanKeys, keys_at}
 use Rattle.plan_text.specs.PlanRows.{rows_in}
 use Rattle.plan_text.specs.Plans.{built, of_table, of_alter, plan_at, document, document_in, reads}
+use Rattle.plan_text.proofs.Accepted.{alter_was}
 use Rattle.plan_text.proofs.RowOrder.{bound}
-use Rattle.serial_laws.specs.SerialLaws.{KeepsRows, IsMigratable}
+use Rattle.plan_words.specs.Migratable.{KeepsRows, IsMigratable}
 use Rattle.plan_laws.proofs.PlanRows.{rows_are}
 
 -- a value that was read, and what goes on with it
@@ -49,10 +49,6 @@ was_built None x is = absurd (cc)
 schema_was : (read : Result Schema SchemaCode) (x : Schema) → of_table 1 read ≡ Ok x → read ≡ Ok x
 schema_was (Ok y) x is = cc
 schema_was (Err code) x is = absurd (cc)
-
-alter_was : {A : Type 0} (read : Result A AlterCode) (x : A) → of_alter read ≡ Ok x → read ≡ Ok x
-alter_was (Ok y) x is = cc
-alter_was (Err code) x is = absurd (cc)
 
 tested : {A : Type 0} (b : Bool) (x y : A) → cond b (Some x) None ≡ Some y → (b ≡ true) × (x ≡ y)
 tested true x y is = (refl, cc)

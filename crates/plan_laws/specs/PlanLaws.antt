@@ -2,7 +2,7 @@
 use Rattle.std.specs.Prelude.{◌≡◌, ℕ, List, Ok}
 use Rattle.plan_words.specs.PlanData.{PlanData}
 use Rattle.plan_text.specs.Plans.{reads}
-use Rattle.serial_laws.specs.SerialLaws.{IsMigratable}
+use Rattle.plan_words.specs.Migratable.{IsMigratable}
 
 -- An accepted plan is migratable: its one table is a table, and its ALTER keeps the keys of the rows.
 abbrev pub AcceptedPlansAreMigratable : Type 0

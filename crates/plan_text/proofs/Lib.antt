@@ -1,4 +1,4 @@
-mod Accepted
+pub mod Accepted
 mod Clashes
 mod ClientTexts
 mod Members

@@ -4,12 +4,8 @@ use Rattle.std.proofs.lemmas.List.{drop_all}
 use Rattle.toml.specs.declared.value.Value.{Value}
 use Rattle.toml.specs.Data.{Data, Items, no_items, item, as_str}
 use Rattle.toml.specs.View.{view, items_view}
-use Rattle.toml.proofs.Views.{items_view-drop}
 use Rattle.plan_text.specs.PlanKeys.{are_texts}
-
--- the item at this place is the first of those from there on
-from_here : (items : List Value) (i : ℕ) (x : Value) → i < length items → x ≡ get_or items i x → items_view (drop i items) ≡ item (view x) (items_view (drop (i + 1) items))
-from_here items i x lt is = items_view-drop items i x lt ∙ ap (λ (y : Value). item (view y) (items_view (drop (i + 1) items))) (sym is)
+use Rattle.plan_text.proofs.Members.{from_here}
 
 pub goes_on : (items : List Value) (i : ℕ) (x : Value) (total : Bool) → i < length items → x ≡ get_or items i x → is_some (as_str (view x)) ≡ true
     → are_texts (items_view (drop i items)) ≡ total → are_texts (items_view (drop (i + 1) items)) ≡ total

@@ -4,7 +4,6 @@ use Rattle.std.proofs.lemmas.List.{drop_all}
 use Rattle.toml.specs.declared.value.Value.{Value as TomlValue}
 use Rattle.toml.specs.Data.{Data, Items, no_items, item, Members}
 use Rattle.toml.specs.View.{view, items_view}
-use Rattle.toml.proofs.Views.{items_view-drop}
 use Rattle.gho_values.specs.declared.value.Value.{Value}
 use Rattle.gho_schema.specs.declared.schema.Schema.{Schema}
 use Rattle.gho_schema.specs.Options.{◌>>=◌}
@@ -13,13 +12,10 @@ use Rattle.plan_text.specs.declared.fault.PlanFault.{PlanFault}
 use Rattle.plan_text.specs.declared.fault.PlanFault.TheVariants as faults
 use Rattle.plan_text.specs.PlanRows.{put_text, rows_of}
 use Rattle.plan_text.specs.Documents.{Finds}
+use Rattle.plan_text.proofs.Members.{from_here}
 
 abbrev pub Row : Type 0
 Row = List Value
-
--- the item at this place is the first of those from there on
-from_here : (items : List TomlValue) (i : ℕ) (x : TomlValue) → i < length items → x ≡ get_or items i x → items_view (drop i items) ≡ item (view x) (items_view (drop (i + 1) items))
-from_here items i x lt is = items_view-drop items i x lt ∙ ap (λ (y : TomlValue). item (view y) (items_view (drop (i + 1) items))) (sym is)
 
 pub goes_on : (schema : Schema) (rows new : List Row) (items : List TomlValue) (i : ℕ) (x : TomlValue) (total : Option (List Row))
     → i < length items → x ≡ get_or items i x → put_text schema rows (view x) ≡ Some new

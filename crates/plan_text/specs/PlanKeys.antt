@@ -4,7 +4,8 @@ use Rattle.std.specs.Ordering.{int_eq}
 use Rattle.toml.specs.Data.{Data, Items, no_items, item, Members, get_member, as_bool, as_str, as_integer, as_array, as_table}
 use Rattle.toml.specs.View.{items_view}
 use Rattle.gho_schema.specs.Options.{◌>>=◌}
-use Rattle.plan_text.specs.declared.keys.TheConstants.{CLIENT_LIMIT, ROW_LIMIT}
+use Rattle.plan_words.specs.declared.plan.TheConstants.{CLIENT_LIMIT}
+use Rattle.plan_text.specs.declared.keys.TheConstants.{ROW_LIMIT}
 use Rattle.plan_text.specs.declared.keys.KeyTexts.{KeyTexts}
 use Rattle.plan_text.specs.Documents.{member_count, item_count, text_at}
 

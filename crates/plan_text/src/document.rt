@@ -1,15 +1,18 @@
 //! A plan's document.
 
-ghost use Rattle.std.specs.Prelude.{◌≡◌, [], ◌∷◌, IfOk};
+ghost use Rattle.std.specs.Prelude.{◌≡◌, ◌≤◌, [], ◌∷◌, length, IfOk, Ok};
 ghost use Rattle.row_store.specs.Databases.{database};
 ghost use Rattle.toml.specs.View.{table_view};
+ghost use Rattle.schema_rules.specs.Lawful.{IsLawful};
+ghost use Rattle.schema_text.specs.Laws.{ReadSchemasAreLawful};
 ghost use Rattle.schema_text.specs.Reading.{schema_at};
+ghost use Rattle.alter_schema.specs.Altering.{altered};
 ghost use Rattle.plan_words.specs.PlanOptions.{default_options};
 ghost use Rattle.plan_words.specs.PlanParts.{data_of};
 ghost use Rattle.plan_text.specs.Accepting.{plan_of, accepted};
 ghost use Rattle.plan_text.specs.Documents.{Finds};
 ghost use Rattle.plan_text.specs.PlanKeys.{keys_view};
-ghost use Rattle.plan_text.specs.Plans.{of_table, plan_at, document, document_in, reads, Says};
+ghost use Rattle.plan_text.specs.Plans.{of_table, of_alter, plan_at, document, document_in, reads, Says};
 
 use crate::PLAN_LIMIT;
 use crate::clients::clients_in;
@@ -23,9 +26,8 @@ use gho_schema::Schema;
 use gho_schema::laws::put_keeps_order;
 use gho_values::laws::stored_values_store_again;
 use gho_values::{Name, Sequence};
-use plan_words::{Options, Plan, PlanParts, Scripts};
+use plan_words::{AlteredSchema, CLIENT_LIMIT, Options, Plan, PlanParts, Scripts};
 use row_store::{AddFault, Table, Tables};
-use schema_laws::read_schemas_are_lawful;
 use schema_text::read_schema;
 use std::alloc::{AllocError, Global};
 use table_words::SchemaFault;
@@ -89,14 +91,31 @@ fn parts_of(
     }
 }
 
-/// The plan, once its schema and its clauses are read.
+/// What the plan's clauses make of its schema.
+fn altered_of(
+    alloc: Global,
+    keys: &KeyTexts<'_>,
+    schema: &Schema,
+    clauses: &Clauses,
+) -> Result<AlteredSchema, PlanFault>
+    requires { IsLawful schema.now }
+    ensures { Says (λ new. (new.schema, new.map)) result (of_alter (altered keys.now.approve_renamed_columns schema.now clauses.now)) }
+{
+    let (schema, map) = altered(alloc, schema, clauses, keys.approve_renamed_columns)?;
+    Ok(AlteredSchema { schema, map })
+}
+
+/// The plan, once its schema and its clauses are read, and the clauses are tried.
 #[tactic(auto, unfolding(crate::specs::Accepting::accepted))]
 fn accepted(
     alloc: Global,
     keys: &KeyTexts<'_>,
     schema: Schema,
     clauses: Clauses,
+    new: AlteredSchema,
 ) -> Result<Plan, PlanFault>
+    requires altered { altered keys.now.approve_renamed_columns schema clauses ≡ Ok (new.schema, new.map) }
+    requires few { length keys.now.clients.now ≤ CLIENT_LIMIT }
     ensures { Finds (λ plan. plan) result (accepted (keys_view keys.now) schema clauses) }
 {
     stored_values_store_again();
@@ -108,20 +127,20 @@ fn accepted(
         return Err(NOT_BUILT);
     }
     let tables = only_table(alloc, Table::from_rows(schema, rows))?;
-    Ok(Plan::new(parts_of(alloc, keys, name, clauses, tables, clients)))
+    Ok(Plan::new(parts_of(alloc, keys, name, clauses, tables, clients), new))
 }
 
 #[tactic(auto, unfolding(crate::specs::Plans::plan_at))]
 fn plan_at(alloc: Global, document: &TomlTable) -> Result<Plan, PlanFault>
+    requires { ReadSchemasAreLawful }
     ensures { Says (λ plan. plan) result (plan_at (table_view document.now)) }
 {
-    read_schemas_are_lawful();
     let keys = keys_at(document).ok_or(NOT_BUILT)?;
     let schema = schema_of(alloc, 1, keys.create, keys.table)?;
     let migrated = Name::new(alloc, keys.table)?;
     let clauses = read_alter(alloc, keys.alter, &migrated)?;
-    let _ = altered(alloc, &schema, &clauses, keys.approve_renamed_columns)?;
-    accepted(alloc, &keys, schema, clauses)
+    let new = altered_of(alloc, &keys, &schema, &clauses)?;
+    accepted(alloc, &keys, schema, clauses, new)
 }
 
 #[tactic(auto, unfolding(crate::specs::Plans::document))]
@@ -140,9 +159,10 @@ fn document_of(alloc: Global, bytes: &[u8]) -> Result<TomlTable, PlanFault>
     }
 }
 
-/// The plan that these bytes are.
+/// The plan that these bytes are. That schemas which are read are lawful is a law: `schema_laws` proves it.
 #[tactic(auto, unfolding(crate::specs::Plans::reads))]
 pub fn read_plan(alloc: Global, bytes: &[u8]) -> Result<Plan, PlanFault>
+    requires { ReadSchemasAreLawful }
     ensures { Says (λ plan. plan) result (reads bytes.now) }
 {
     if bytes.len() > PLAN_LIMIT {

@@ -1,18 +1,16 @@
 //! What stands at the keys of a plan's document.
 
-ghost use Rattle.std.specs.Prelude.{◌≡◌, nat_lt, codes, is_some, option_map};
+ghost use Rattle.std.specs.Prelude.{◌≡◌, ◌≤◌, nat_lt, codes, length, is_some, option_map, IfSome};
 ghost use Rattle.toml.specs.Data.{get_member, as_str};
 ghost use Rattle.toml.specs.View.{view, table_view, items_view};
 ghost use Rattle.plan_text.specs.Documents.{member_count, item_count, text_at};
 ghost use Rattle.plan_text.specs.PlanKeys.{are_texts, texts_in, texts_behind, key_number, rows_at, one_table, tables_at, is_first_version, truth_behind, approves, approves_behind, has_plan_keys, keys_view, keys_at};
 
+use plan_words::CLIENT_LIMIT;
 use toml::{Table, Value};
 
 /// The most opening rows that a plan has. This project's rule.
 pub const ROW_LIMIT: usize = 20_000;
-
-/// The most clients that a plan has. This project's rule.
-pub const CLIENT_LIMIT: usize = 64;
 
 /// What the keys of a plan say.
 #[derive(Clone, Copy)]
@@ -76,14 +74,16 @@ fn are_texts(items: &[Value]) -> bool
 
 /// Whether there are more items than so many.
 fn are_more(limit: usize, items: &[Value]) -> bool
-    ensures { result ≡ nat_lt limit (item_count (items_view items.now)) }
+    ensures more { result ≡ nat_lt limit (item_count (items_view items.now)) }
+    ensures count { result ≡ nat_lt limit (length items.now) }
 {
     items.len() > limit
 }
 
 /// The items, where they are at most so many texts.
 fn texts_in(limit: usize, items: &[Value]) -> Option<&[Value]>
-    ensures { option_map (λ items. items_view items.now) result ≡ texts_in limit (items_view items.now) }
+    ensures texts { option_map (λ items. items_view items.now) result ≡ texts_in limit (items_view items.now) }
+    ensures few { IfSome result (λ items. length items.now ≤ limit) }
 {
     if are_more(limit, items) || !are_texts(items) {
         None
@@ -94,7 +94,8 @@ fn texts_in(limit: usize, items: &[Value]) -> Option<&[Value]>
 
 /// The texts at a key; none where it isn't there.
 fn texts_behind<'a>(limit: usize, value: Option<&'a Value>) -> Option<&'a [Value]>
-    ensures { option_map (λ items. items_view items.now) result ≡ texts_behind limit (option_map (λ value. view value.now) value.entry) }
+    ensures texts { option_map (λ items. items_view items.now) result ≡ texts_behind limit (option_map (λ value. view value.now) value.entry) }
+    ensures few { IfSome result (λ items. length items.now ≤ limit) }
 {
     let Some(value) = value else {
         return Some(&[]);
@@ -209,7 +210,8 @@ fn has_plan_keys(document: &Table) -> bool
 /// What the keys of a plan's document say.
 #[tactic(auto, unfolding(crate::specs::PlanKeys::keys_at))]
 pub fn keys_at(document: &Table) -> Option<KeyTexts<'_>>
-    ensures { option_map keys_view result ≡ keys_at (table_view document.now) }
+    ensures keys { option_map keys_view result ≡ keys_at (table_view document.now) }
+    ensures few { IfSome result (λ keys. length keys.clients.now ≤ CLIENT_LIMIT) }
 {
     let table = text_at(document, "table")?;
     let alter = text_at(document, "alter")?;

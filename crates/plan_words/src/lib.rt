@@ -6,5 +6,5 @@ mod plan;
 mod runs;
 
 pub use options::Options;
-pub use plan::{Losses, Plan, PlanParts, Scripts};
+pub use plan::{AlteredSchema, CLIENT_LIMIT, Losses, Plan, PlanParts, Scripts};
 pub use runs::{ActorRun, ActorRuns};

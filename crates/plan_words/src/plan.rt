@@ -1,16 +1,21 @@
 //! A plan: what to migrate, by which ALTER, and what clients, operator and faults do meanwhile.
 
-ghost use Rattle.std.specs.Prelude.{◌≡◌};
+ghost use Rattle.std.specs.Prelude.{◌≡◌, ◌≤◌, length, Some};
 ghost use Rattle.row_store.specs.Databases.{database};
+ghost use Rattle.plan_words.specs.PlanData.{plan_altered};
 ghost use Rattle.plan_words.specs.PlanParts.{data_of};
 
 use crate::options::Options;
 use crate::runs::ActorRuns;
-use alter_image::Clauses;
+use alter_image::{Clauses, ColumnMap};
+use gho_schema::Schema;
 use gho_values::{Name, Sequence};
 use row_store::Tables;
 use script_text::{Commands, Loss, Script};
 use std::marker::Model;
+
+/// The most clients that a plan has. This project's rule.
+pub const CLIENT_LIMIT: usize = 64;
 
 /// The scripts of the clients, in the clients' order.
 pub type Scripts = Sequence<Script>;
@@ -39,27 +44,48 @@ pub struct PlanParts {
     pub options: Options,
 }
 
-/// An accepted plan.
+/// What a plan's ALTER makes of its table.
+#[derive(Drop)]
+pub struct AlteredSchema {
+    /// The schema that the ALTER leaves.
+    pub schema: Schema,
+    /// Where the values of each of its columns come from.
+    pub map: ColumnMap,
+}
+
+/// An accepted plan: its ALTER can be done, and it has at most 64 clients.
 #[derive(Drop)]
 pub struct Plan {
     parts: PlanParts,
+    altered: AlteredSchema,
 }
 
 impl Model for Plan {
     ghost use Rattle.plan_words.specs.PlanData.{PlanData};
-    ghost use Rattle.plan_words.specs.PlanParts.{data_of};
+    ghost use Rattle.plan_words.specs.PlanParts.{data_of, IsPlan};
 
     ghost Value = { PlanData };
 
     ghost view = { λ p. data_of p.parts };
+
+    ghost invariant = { λ p. IsPlan (data_of p.parts) p.altered };
 }
 
 impl Plan {
-    /// A plan of these parts. It takes no memory.
-    pub fn new(parts: PlanParts) -> Plan
+    /// A plan of these parts, whose ALTER leaves this schema. It takes no memory.
+    pub fn new(parts: PlanParts, altered: AlteredSchema) -> Plan
+        requires altered { plan_altered (data_of parts) ≡ Some (altered.schema, altered.map) }
+        requires few { length parts.clients ≤ CLIENT_LIMIT }
         ensures { result ≡ data_of parts }
     {
-        Plan { parts }
+        Plan { parts, altered }
+    }
+
+    /// What the ALTER makes of the plan's table.
+    pub fn altered(&self) -> &AlteredSchema
+        ensures { plan_altered self.now ≡ Some (result.now.schema, result.now.map) }
+    {
+        &self.altered
     }
 
     /// The name of the table to migrate.
@@ -85,7 +111,8 @@ impl Plan {
 
     /// The clients' scripts, in the clients' order.
     pub fn clients(&self) -> &Scripts
-        ensures { result.now ≡ self.now.clients }
+        ensures clients { result.now ≡ self.now.clients }
+        ensures few { length self.now.clients ≤ CLIENT_LIMIT }
     {
         &self.parts.clients
     }

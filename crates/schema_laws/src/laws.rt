@@ -1,6 +1,6 @@
 //! The laws.
 
-ghost use Rattle.schema_laws.specs.Laws.{ReadSchemasAreLawful};
+ghost use Rattle.schema_text.specs.Laws.{ReadSchemasAreLawful};
 
 use gho_values::laws::stored_values_store_again;
 

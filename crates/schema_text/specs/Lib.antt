@@ -1,6 +1,7 @@
 pub mod Columns
 pub mod Declaring
 pub mod Keys
+pub mod Laws
 pub mod Options
 pub mod Parts
 pub mod Reading

@@ -23,7 +23,7 @@ use Rattle.plan_words.specs.PlanData.{PlanData}
 use Rattle.plan_words.specs.Histories.{Happening}
 use Rattle.tool_program.specs.Programs.{after_answer}
 use Rattle.tool_program.specs.declared.tool.Tool.TheVariants.{Choosing, Spanning}
-use Rattle.serial_laws.specs.SerialLaws.{IsMigratable}
+use Rattle.plan_words.specs.Migratable.{IsMigratable}
 use Rattle.serial_laws.proofs.Sorted.{Row, Total}
 use Rattle.serial_laws.proofs.Lists.{all-front}
 use Rattle.serial_laws.proofs.Names.{NamesApart}

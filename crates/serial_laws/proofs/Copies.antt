@@ -35,7 +35,7 @@ use Rattle.plan_words.specs.Histories.{Happening}
 use Rattle.tool_program.specs.ToolNames.{ghost_name}
 use Rattle.tool_program.specs.Programs.{after_answer, after_chunk_call, after_copy, after_commit, chunk_call}
 use Rattle.tool_program.specs.declared.tool.Tool.TheVariants.{Copying, Choosing, Renaming}
-use Rattle.serial_laws.specs.SerialLaws.{IsMigratable}
+use Rattle.plan_words.specs.Migratable.{IsMigratable}
 use Rattle.serial_laws.proofs.Lists.{all-front, all-back, all-so, find_first, get_behind}
 use Rattle.serial_laws.proofs.Sorted.{Row, Total, Before, same_key, turned, front_before, behind_after}
 use Rattle.serial_laws.proofs.Names.{NamesApart}

@@ -19,7 +19,7 @@ use Rattle.plan_words.specs.Histories.{Happening, Serial}
 use Rattle.tool_program.specs.ToolNames.{ghost_name, old_name}
 use Rattle.tool_program.specs.Programs.{after_answer}
 use Rattle.tool_program.specs.declared.tool.Tool.TheVariants.{Creating, Reaching}
-use Rattle.serial_laws.specs.SerialLaws.{IsMigratable}
+use Rattle.plan_words.specs.Migratable.{IsMigratable}
 use Rattle.serial_laws.proofs.Lists.{all-so}
 use Rattle.serial_laws.proofs.Sorted.{Row, Total, Before, same_key}
 use Rattle.serial_laws.proofs.Names.{NamesApart}

@@ -15,7 +15,7 @@ use Rattle.alter_image.specs.declared.map.MapColumn.{MapColumn}
 use Rattle.alter_image.specs.Images.{image, images}
 use Rattle.row_store.specs.Databases.{TableRows, clashing}
 use Rattle.plan_words.specs.PlanData.{Altered}
-use Rattle.serial_laws.specs.SerialLaws.{KeepsRows}
+use Rattle.plan_words.specs.Migratable.{KeepsRows}
 use Rattle.serial_laws.proofs.Lists.{all-front, all-back, all-so, find_none, any_none}
 use Rattle.serial_laws.proofs.Sorted.{Row, Total, Before, same_key, turned, front_before}
 

@@ -16,7 +16,7 @@ use Rattle.plan_words.specs.Histories.{Happening, Alter, Leads, Serial, tables_l
 use Rattle.tool_program.specs.ToolNames.{ghost_name, old_name}
 use Rattle.tool_program.specs.Programs.{after_answer}
 use Rattle.tool_program.specs.declared.tool.Tool.TheVariants.{Renaming, Done}
-use Rattle.serial_laws.specs.SerialLaws.{IsMigratable}
+use Rattle.plan_words.specs.Migratable.{IsMigratable}
 use Rattle.serial_laws.proofs.Sorted.{Row}
 use Rattle.serial_laws.proofs.Names.{NamesApart}
 use Rattle.serial_laws.proofs.Images.{Imaged, imaged-images}

@@ -19,7 +19,7 @@ use Rattle.plan_words.specs.Histories.{Happening, Serial, tables_left}
 use Rattle.tool_program.specs.ToolNames.{ghost_name}
 use Rattle.tool_program.specs.declared.tool.Tool.{Tool}
 use Rattle.tool_program.specs.declared.tool.Tool.TheVariants.{Creating, Reaching, Choosing, Spanning, Copying, Renaming, Done, Reverting, Reverted}
-use Rattle.serial_laws.specs.SerialLaws.{IsMigratable}
+use Rattle.plan_words.specs.Migratable.{IsMigratable}
 use Rattle.serial_laws.proofs.Sorted.{Row}
 use Rattle.serial_laws.proofs.Sessions.{Calm, CalmBut}
 use Rattle.serial_laws.proofs.Cuts.{LeftBehind}

@@ -30,7 +30,8 @@ use Rattle.tool_program.specs.ToolNames.{ghost_name}
 use Rattle.tool_program.specs.declared.tool.Tool.{Tool}
 use Rattle.tool_program.specs.declared.tool.Tool.TheVariants.{Creating, Reaching, Choosing, Spanning, Copying, Renaming, Done, Reverting, Reverted}
 use Rattle.tool_program.specs.Programs.{Progress, progress, given, IsGiven, Follows, session_named, session_for, clients_over, tool_asks, tool_call, tool_actor, asks_request, after_answer, chunk_call, after_turn}
-use Rattle.serial_laws.specs.SerialLaws.{IsMigratable, JournalsAreSerial}
+use Rattle.plan_words.specs.Migratable.{IsMigratable}
+use Rattle.serial_laws.specs.SerialLaws.{JournalsAreSerial}
 use Rattle.serial_laws.proofs.Sessions.{Calm, Quiet, calm-quiet, Busy, but-busy}
 use Rattle.serial_laws.proofs.Names.{NamesApart, names_apart, same}
 use Rattle.serial_laws.proofs.Tables.{Known, Leaves, leaves_said}

@@ -11,7 +11,7 @@ mark_turn-requires c =
 
 pub invariant_of-self-3 : goal.invariant_of-self-3
 invariant_of-self-3 c =
-    let items : c.push.new.self.items ≡ c.self.inside.entries.items ++ (c.args.entry ∷ []) = search rules in
+    let items : c.push_reserved.new.self.items ≡ c.self.inside.entries.items ++ (c.args.entry ∷ []) = search rules in
     let next : c.apply.new.tool ≡ (after_turn c.self.inside.migration (progress c.self.inside.migration c.self.inside.entries.items) c.args.entry).tool = search rules in
     rw items
     (IsBook-more c.self.inside.migration c.self.inside.entries.items c.args.entry c.self.inside.tool c.apply.new.tool c.self.inside.seats.items c.mark_turn.new.seats.items c.self.inside.last c.self.invariant next c.mark_turn.ensures)

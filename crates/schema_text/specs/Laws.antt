@@ -1,4 +1,4 @@
--- What holds of all schemas that are read. The functions of the module `laws` prove each.
+-- What holds of all schemas that are read. The crate `schema_laws` proves it.
 use Rattle.std.specs.Prelude.{◌≡◌, ℕ, List, Ok}
 use Rattle.gho_schema.specs.declared.schema.Schema.{Schema}
 use Rattle.schema_rules.specs.Lawful.{IsLawful}

@@ -1,11 +1,12 @@
 //! The replay of a plan.
 
 ghost use Rattle.std.specs.Prelude.{IfSome, IfOk};
-ghost use Rattle.serial_laws.specs.SerialLaws.{IsMigratable};
-ghost use Rattle.plan_replay.specs.Replays.{IsReplay, IsEnd};
+ghost use Rattle.plan_words.specs.Migratable.{IsMigratable};
+ghost use Rattle.migration_host.specs.Replays.{IsReplay, IsEnd};
 
 use migration_core::{Left, replay};
 use plan_words::Plan;
+use serial_laws::laws::journals_are_serial;
 use server_core::Server;
 use server_words::Limits;
 use std::alloc::{AllocError, Global};
@@ -18,15 +19,12 @@ const LIMITS: Limits = Limits {
 
 /// Replays a plan: the actors go round in their fixed order, and each that is ready takes a turn, until the run has
 /// ended. Where there is no memory for a turn, those before it are left.
-pub fn replay_plan(alloc: Global, plan: &Plan) -> Result<Left<Server>, AllocError>
+pub(crate) fn replay_plan(alloc: Global, plan: &Plan) -> Result<Left<Server>, AllocError>
     requires { IsMigratable plan.now }
     ensures journal { IfOk result (λ left. IsReplay plan.now left.journal) }
     ensures end { IfOk result (λ left. IfSome left.end (λ end. IsEnd plan.now left.journal end.verdict end.server)) }
 {
-    // There is no memory for so many clients.
-    if plan.clients().len() >= u32::MAX as usize {
-        return Err(AllocError);
-    }
+    journals_are_serial();
     let tables = plan.tables().copy_tables(alloc)?;
     replay(alloc, plan, Server::open(alloc, tables, LIMITS))
 }
