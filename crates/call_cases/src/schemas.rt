@@ -3,7 +3,8 @@
 use crate::reading::{CallFault, place_of, row_of, text_of};
 use gho_schema::{KeyedRows, Places, PutFault, Schema, key_of};
 use gho_values::{Sequence, Text, print_row};
-use schema_text::{SchemaFault, print_schema, read_schema};
+use schema_print::print_schema;
+use schema_text::{SchemaFault, read_schema};
 use std::alloc::{AllocError, Global};
 
 /// The schema of a text, for a plan that migrates `t`, or the refusal's number.
