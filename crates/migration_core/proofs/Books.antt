@@ -16,7 +16,7 @@ use Rattle.tool_program.specs.declared.tool.Tool.{Tool}
 use Rattle.tool_program.specs.declared.tool.Tool.TheVariants.{Creating}
 use Rattle.tool_program.specs.Programs.{session_named, Progress, progress, after_turn}
 use Rattle.tool_program.specs.Orders.{actors, clients_from, last_actor}
-use Rattle.migration_core.specs.declared.seat.Seat.{Seat}
+use Rattle.migration_core.specs.declared.seat.ActorState.{ActorState}
 use Rattle.migration_core.specs.Books.{seat_at, marked, place_of, IsBook}
 
 -- the clients stand in their order
@@ -51,12 +51,12 @@ pub client_seated : (plan : PlanData) (journal : List Entry) (client : ℕ) (scr
 client_seated plan journal client script is = seat_stands plan journal (place_of (Client client)) (Client client) (client_stands plan client script is)
 
 -- the seats name the actors
-pub seated : (journal : List Entry) (all : List Actor) → map (λ (seat : Seat). seat.actor) (map (seat_at journal) all) ≡ all
+pub seated : (journal : List Entry) (all : List Actor) → map (λ (seat : ActorState). seat.actor) (map (seat_at journal) all) ≡ all
 seated journal [] = refl
 seated journal (actor ∷ all) = ap (λ others. actor ∷ others) (seated journal all)
 
 -- no actor took more turns than the journal has
-pub few_turns : (journal : List Entry) (limit : ℕ) (all : List Actor) → length journal < limit → AllByRecursion (λ (seat : Seat). seat.turns < limit) (map (seat_at journal) all)
+pub few_turns : (journal : List Entry) (limit : ℕ) (all : List Actor) → length journal < limit → AllByRecursion (λ (seat : ActorState). seat.turns < limit) (map (seat_at journal) all)
 few_turns journal limit [] few = tt
 few_turns journal limit (actor ∷ all) few =
     let at_most : turns_of actor journal ≤ length journal = count_by-le-length (λ (e : Entry). same_actor e.actor actor) journal in
@@ -69,7 +69,7 @@ named-more actor journal entry = fold-append (λ (old : Option ℕ) (e : Entry).
 turns-more : (actor : Actor) (journal : List Entry) (entry : Entry) → turns_of actor (journal ++ (entry ∷ [])) ≡ turns_of actor journal + cond (same_actor entry.actor actor) 1 0
 turns-more actor journal entry = fold-append (λ (n : ℕ) (e : Entry). n + cond (same_actor e.actor actor) 1 0) 0 journal (entry ∷ [])
 
-abbrev the_seat : Actor → Option ℕ → ℕ → Seat
+abbrev the_seat : Actor → Option ℕ → ℕ → ActorState
 the_seat actor session turns = record { actor = actor; session = session; turns = turns }
 
 seat-as : (actor : Actor) (session other : Option ℕ) (turns others : ℕ) → session ≡ other → turns ≡ others → the_seat actor session turns ≡ the_seat actor other others
@@ -103,7 +103,7 @@ pub IsBook-none : (plan : PlanData) → IsBook plan [] Creating (map (seat_at []
 unfolding progress last_actor
 IsBook-none plan = record { tool_is = refl; turns_are = refl; seats_are = refl; last_is = refl }
 
-pub IsBook-more : (plan : PlanData) (journal : List Entry) (entry : Entry) (tool next : Tool) (seats marks : List Seat) (last : Option Actor) → IsBook plan journal tool seats last → next ≡ (after_turn plan (progress plan journal) entry).tool
+pub IsBook-more : (plan : PlanData) (journal : List Entry) (entry : Entry) (tool next : Tool) (seats marks : List ActorState) (last : Option Actor) → IsBook plan journal tool seats last → next ≡ (after_turn plan (progress plan journal) entry).tool
     → marks ≡ map (marked entry.actor entry.session) seats → IsBook plan (journal ++ (entry ∷ [])) next marks (Some entry.actor)
 IsBook-more plan journal entry tool next seats marks last book is are = record {
   tool_is = is ∙ ap (λ (p : Progress). p.tool) (sym (progress-more plan journal entry));

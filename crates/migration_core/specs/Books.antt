@@ -8,7 +8,7 @@ use Rattle.plan_words.specs.Journals.{same_actor, turns_of}
 use Rattle.tool_program.specs.declared.tool.Tool.{Tool}
 use Rattle.tool_program.specs.Programs.{session_named, progress}
 use Rattle.tool_program.specs.Orders.{actors, last_actor}
-use Rattle.migration_core.specs.declared.seat.Seat.{Seat}
+use Rattle.migration_core.specs.declared.seat.ActorState.{ActorState}
 
 -- a plan, and a journal of it
 pub record BookView : Type 0 where
@@ -16,11 +16,11 @@ pub record BookView : Type 0 where
   pub journal : List Entry
 
 -- what is kept of an actor
-abbrev pub seat_at : List Entry → Actor → Seat
+abbrev pub seat_at : List Entry → Actor → ActorState
 seat_at journal actor = record { actor = actor; session = session_named actor journal; turns = turns_of actor journal }
 
 -- the seat after a turn of this actor in this session
-abbrev pub marked : Actor → ℕ → Seat → Seat
+abbrev pub marked : Actor → ℕ → ActorState → ActorState
 marked actor session seat = if same_actor actor seat.actor then record seat { session = Some session; turns = seat.turns + 1 } else seat
 
 -- the actor's place in the fixed order
@@ -34,7 +34,7 @@ place_of Ren = 5
 place_of (Client client) = client + 5
 
 -- What is kept of a journal: how far the tool is, each actor's seat in the fixed order, and the actor of the last turn.
-pub record IsBook (plan : PlanData) (journal : List Entry) (tool : Tool) (seats : List Seat) (last : Option Actor) : Type 0 where
+pub record IsBook (plan : PlanData) (journal : List Entry) (tool : Tool) (seats : List ActorState) (last : Option Actor) : Type 0 where
   pub tool_is : tool ≡ (progress plan journal).tool
   pub turns_are : (progress plan journal).turns ≡ length journal
   pub seats_are : seats ≡ map (seat_at journal) (actors plan)

@@ -14,7 +14,7 @@ ghost use Rattle.migration_core.specs.Runs.{turn_limit};
 use crate::actor::{is_client, place_of};
 use crate::migration::Migration;
 use crate::next::Next;
-use crate::seat::{Seat, mark_turn};
+use crate::seat::{ActorState, mark_turn};
 use plan_words::Plan;
 use script_text::{Actor, Script, ScriptLine, ScriptWord, Statement};
 use server_words::{Entry, Journal};
@@ -27,15 +27,15 @@ pub const TURN_LIMIT: usize = 200_000;
 
 /// A plan, and a journal of it.
 #[derive(Drop)]
-pub struct Book<'a> {
+pub struct TurnBook<'a> {
     migration: Migration<'a>,
     entries: Vec<Entry>,
     tool: Tool,
-    pub(crate) seats: Vec<Seat>,
+    pub(crate) seats: Vec<ActorState>,
     last: Option<Actor>,
 }
 
-impl<'a> Model for Book<'a> {
+impl<'a> Model for TurnBook<'a> {
     ghost use Rattle.migration_core.specs.Books.{BookView, IsBook};
 
     ghost Value = { BookView };
@@ -47,10 +47,10 @@ impl<'a> Model for Book<'a> {
 
 /// The seat of an actor before the first turn.
 #[tactic(auto, unfolding(tool_program::specs::Programs::session_named))]
-fn free_seat(actor: Actor) -> Seat
+fn free_seat(actor: Actor) -> ActorState
     ensures { result ≡ seat_at [] actor }
 {
-    Seat {
+    ActorState {
         actor,
         session: None,
         turns: 0,
@@ -89,7 +89,7 @@ fn statement_at(script: &Script, turns: u64) -> Option<&Statement>
 }
 
 /// The seats of the tool's actors before the first turn.
-fn tool_seats(alloc: Global) -> Result<Vec<Seat>, AllocError>
+fn tool_seats(alloc: Global) -> Result<Vec<ActorState>, AllocError>
     ensures { IfOk result (λ seats. seats.items ≡ map (seat_at []) (Op ∷ Insp ∷ Copy ∷ Apply ∷ Lock ∷ Ren ∷ [])) }
 {
     let mut seats = Vec::with_capacity(alloc, 6)?;
@@ -108,7 +108,7 @@ fn tool_seats(alloc: Global) -> Result<Vec<Seat>, AllocError>
 
 /// The seats of all actors before the first turn, in the fixed order.
 #[tactic(auto, unfolding(tool_program::specs::Orders::actors, tool_program::specs::Orders::clients_from))]
-fn seats_of(alloc: Global, plan: &Plan) -> Result<Vec<Seat>, AllocError>
+fn seats_of(alloc: Global, plan: &Plan) -> Result<Vec<ActorState>, AllocError>
     ensures { IfOk result (λ seats. seats.items ≡ map (seat_at []) (actors plan.now)) }
 {
     let mut seats = tool_seats(alloc)?;
@@ -120,13 +120,13 @@ fn seats_of(alloc: Global, plan: &Plan) -> Result<Vec<Seat>, AllocError>
     Ok(seats)
 }
 
-impl<'a> Book<'a> {
+impl<'a> TurnBook<'a> {
     /// The book of the plan without turns.
-    pub fn open(alloc: Global, plan: &'a Plan) -> Result<Book<'a>, AllocError>
+    pub fn open(alloc: Global, plan: &'a Plan) -> Result<TurnBook<'a>, AllocError>
         ensures plan { IfOk result (λ book. book.plan ≡ plan.now) }
         ensures journal { IfOk result (λ book. book.journal ≡ []) }
     {
-        Ok(Book {
+        Ok(TurnBook {
             migration: Migration::open(alloc, plan)?,
             entries: Vec::new(alloc),
             tool: Tool::Creating,
@@ -136,7 +136,7 @@ impl<'a> Book<'a> {
     }
 
     /// What is kept of an actor.
-    fn seat(&self, actor: Actor) -> Option<&Seat>
+    fn seat(&self, actor: Actor) -> Option<&ActorState>
         ensures { option_map (λ seat. seat.now) result ≡ slice_get (map (seat_at self.now.journal) (actors self.now.plan)) (place_of actor) }
     {
         self.seats.as_slice().get(place_of(actor))
@@ -192,7 +192,7 @@ impl<'a> Book<'a> {
 
     /// The seats of all actors, in the fixed order.
     #[tactic(auto, using(crate::proofs::Books::seated))]
-    pub fn seats(&self) -> &[Seat]
+    pub fn seats(&self) -> &[ActorState]
         ensures { map (λ seat. seat.actor) result.now ≡ actors self.now.plan }
     {
         self.seats.as_slice()

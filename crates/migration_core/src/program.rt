@@ -10,9 +10,9 @@ ghost use Rattle.tool_program.specs.Orders.{actors, behind_last, last_actor, is_
 ghost use Rattle.migration_core.specs.Runs.{is_over};
 
 use crate::actor::{is_over, same_actor, tool_actor};
-use crate::book::{Book, TURN_LIMIT};
+use crate::book::{TURN_LIMIT, TurnBook};
 use crate::next::copy_of;
-use crate::seat::{Seat, behind};
+use crate::seat::{ActorState, behind};
 use gho_values::Duplicate;
 use script_text::{Actor, Statement};
 use server_words::{Asked, Request, Verdict};
@@ -29,7 +29,7 @@ fn asked_by(statement: Option<&Statement>) -> Result<Option<Asked>, AllocError>
     })
 }
 
-impl Book<'_> {
+impl TurnBook<'_> {
     /// Whether the clients are over, and the tool's next call is this actor's.
     fn has_turn(&self, actor: Actor) -> bool
         ensures { result ≡ (same_actor (tool_actor (progress self.now.plan self.now.journal).tool) actor && clients_over self.now.plan self.now.journal) }
@@ -109,7 +109,7 @@ impl Book<'_> {
     }
 
     /// The first of the seats whose actor is ready.
-    fn first_ready(&self, seats: &[Seat]) -> Option<Actor>
+    fn first_ready(&self, seats: &[ActorState]) -> Option<Actor>
         ensures { result ≡ find (is_ready self.now.plan self.now.journal) (map (λ seat. seat.actor) seats.now) }
     {
         for seat in seats {
@@ -121,7 +121,7 @@ impl Book<'_> {
     }
 
     /// The seats behind that of the last turn's actor; none before the first turn.
-    fn behind_last(&self) -> &[Seat]
+    fn behind_last(&self) -> &[ActorState]
         ensures { map (λ seat. seat.actor) result.now ≡ behind_last (last_actor self.now.journal) (actors self.now.plan) }
     {
         match self.last() {

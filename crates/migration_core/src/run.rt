@@ -7,7 +7,7 @@ ghost use Rattle.tool_program.specs.Orders.{is_ready, next_actor, ReplayOrder};
 ghost use Rattle.migration_core.specs.Runs.{Steps, Passes, is_over, turn_limit};
 ghost use Rattle.migration_core.specs.declared.run.Replayed.TheVariants as Replayed;
 
-use crate::book::{Book, TURN_LIMIT};
+use crate::book::{TURN_LIMIT, TurnBook};
 use crate::turn::take_turn;
 use plan_words::Plan;
 use script_text::Actor;
@@ -42,7 +42,7 @@ pub enum Replayed {
 /// Where a step finds no memory for its turn, the run is halted: no further turn is taken.
 #[derive(Drop)]
 pub struct Run<'a, V: Serve> {
-    book: Book<'a>,
+    book: TurnBook<'a>,
     server: V,
     is_halted: bool,
 }
@@ -64,7 +64,7 @@ impl<'a, V: Serve> Run<'a, V> {
         ensures { IfOk result (λ run. run ≡ record { plan = plan.now; journal = []; is_halted = false }) }
     {
         Ok(Run {
-            book: Book::open(alloc, plan)?,
+            book: TurnBook::open(alloc, plan)?,
             server,
             is_halted: false,
         })

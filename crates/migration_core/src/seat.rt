@@ -10,7 +10,7 @@ use script_text::Actor;
 
 /// What is kept of an actor.
 #[derive(Debug, Drop)]
-pub struct Seat {
+pub struct ActorState {
     /// Whose seat it is.
     pub actor: Actor,
     /// The session of the actor's last turn.
@@ -20,7 +20,7 @@ pub struct Seat {
 }
 
 /// Marks in a seat that the actor took a turn in this session, where it is the actor's.
-fn mark(seat: &mut Seat, actor: Actor, session: u32)
+fn mark(seat: &mut ActorState, actor: Actor, session: u32)
     requires { seat.old.turns < 2 ^ 32 }
     ensures { seat.new ≡ marked actor session seat.old }
 {
@@ -31,7 +31,7 @@ fn mark(seat: &mut Seat, actor: Actor, session: u32)
 }
 
 /// Marks in the actor's seat that it took a turn in this session.
-pub fn mark_turn(seats: &mut Vec<Seat>, actor: Actor, session: u32)
+pub fn mark_turn(seats: &mut Vec<ActorState>, actor: Actor, session: u32)
     requires { AllByRecursion (λ seat. seat.turns < 2 ^ 32) seats.old.items }
     ensures { seats.new.items ≡ map (marked actor session) seats.old.items }
 {
@@ -42,7 +42,7 @@ pub fn mark_turn(seats: &mut Vec<Seat>, actor: Actor, session: u32)
 
 /// The seats behind the actor's.
 #[tactic(auto, unfolding(tool_program::specs::Orders::behind))]
-pub fn behind(actor: Actor, seats: &[Seat]) -> &[Seat]
+pub fn behind(actor: Actor, seats: &[ActorState]) -> &[ActorState]
     ensures { map (λ seat. seat.actor) result.now ≡ behind actor (map (λ seat. seat.actor) seats.now) }
 {
     match seats.split_first() {

@@ -6,7 +6,7 @@ ghost use Rattle.tool_program.specs.Orders.{is_ready};
 ghost use Rattle.migration_core.specs.Runs.{IsKept, connected_for, journal_after, turn_limit};
 
 use crate::actor::is_client;
-use crate::book::Book;
+use crate::book::TurnBook;
 use script_text::Actor;
 use server_words::{Answer, Asked, Entry, Serve};
 use std::alloc::{AllocError, Global};
@@ -47,7 +47,7 @@ fn ask<V: Serve>(
 /// done the turn or a part of it.
 pub fn take_turn<V: Serve>(
     server: &mut V,
-    book: &mut Book,
+    book: &mut TurnBook,
     alloc: Global,
     actor: Actor,
 ) -> Result<(), AllocError>

@@ -35,16 +35,16 @@ pub record Past : Type 0 where
   pub replies : List Reply
 
 -- what a history lists: a transaction that ended, or the ALTER
-pub data Happening : Type 0 where
-  Txn : Past → Happening
-  Alter : Happening
+pub data HistoryItem : Type 0 where
+  Txn : Past → HistoryItem
+  Alter : HistoryItem
 
 -- a statement outside a transaction, as a transaction that ended
 abbrev pub single : Statement → EndedTxn
 single statement = record { lines = record { word = words.Do statement; mark = marks.Answered } ∷ []; ended = ends.Single }
 
 -- a client's turn ends the single statement that it asks
-abbrev pub ends_txn : List Entry → ℕ → Asked → Answer → List Happening
+abbrev pub ends_txn : List Entry → ℕ → Asked → Answer → List HistoryItem
 ends_txn before client (Call (requests.Do statement)) answer =
     Txn (record { client = client; number = turns_of (Client client) before + 1; txn = single statement; replies = reply_of answer ∷ [] }) ∷ []
 ends_txn before client asked answer = []
@@ -55,20 +55,20 @@ takes_away name [] = false
 takes_away name (pair ∷ pairs) = bytes_eq pair.old name
 
 -- the RENAME of the migrated table that was done is the ALTER
-abbrev pub alters : PlanData → Asked → Answer → List Happening
+abbrev pub alters : PlanData → Asked → Answer → List HistoryItem
 alters plan (Call (requests.Rename pairs)) (answers.Ok count) = if takes_away plan.table pairs then Alter ∷ [] else []
 alters plan asked answer = []
 
 -- what a turn adds to the history
-abbrev pub adds : PlanData → List Entry → Actor → Asked → Answer → List Happening
+abbrev pub adds : PlanData → List Entry → Actor → Asked → Answer → List HistoryItem
 adds plan before (Client client) asked answer = ends_txn before client asked answer
 adds plan before actor asked answer = alters plan asked answer
 
-abbrev pub entry_adds : PlanData → List Entry → Entry → List Happening
+abbrev pub entry_adds : PlanData → List Entry → Entry → List HistoryItem
 entry_adds plan before entry = adds plan before entry.actor entry.asked entry.answer
 
 -- *History*: what ended, in the order of the turns that ended it.
-unfoldable pub history : PlanData → List Entry → List Happening
+unfoldable pub history : PlanData → List Entry → List HistoryItem
 history plan journal = gathered (entry_adds plan) [] journal
 
 -- *Altered table* in a database: the migrated table with the new schema and the image of every row, the others as they
@@ -86,12 +86,12 @@ altered_database plan tables = altered_in plan tables (find_table plan.table tab
 
 -- one happening leads from the one database to the other: a transaction's replies and database are those that it has
 -- alone; the ALTER alters the whole table at once
-abbrev pub Leads : PlanData → Happening → Database → Database → Type 0
+abbrev pub Leads : PlanData → HistoryItem → Database → Database → Type 0
 Leads plan (Txn past) before after = (past.replies ≡ (alone before past.txn).replies) × (after ≡ (alone before past.txn).tables)
 Leads plan Alter before after = altered_database plan before ≡ Some after
 
 -- *Serial history*: what happened, one at a time, leads from the one database to the other.
-abbrev pub Serial : PlanData → Database → List Happening → Database → Type 0
+abbrev pub Serial : PlanData → Database → List HistoryItem → Database → Type 0
 Serial plan before [] after = after ≡ before
 Serial plan before (happening ∷ happenings) after = (between : Database) × Leads plan happening before between × Serial plan between happenings after
 
@@ -106,7 +106,7 @@ pub record NumberedReply : Type 0 where
   pub reply : Reply
 
 -- the replies of a transaction to one client, numbered
-abbrev pub replies_in : ℕ → Happening → List NumberedReply
+abbrev pub replies_in : ℕ → HistoryItem → List NumberedReply
 replies_in client Alter = []
 replies_in client (Txn past) = if past.client == client then map (λ reply. record { transaction = past.number; line = 1; reply = reply }) past.replies else []
 
@@ -115,6 +115,6 @@ unfoldable pub replies_of : PlanData → List Entry → ℕ → List NumberedRep
 replies_of plan journal client = flat_map (replies_in client) (history plan journal)
 
 -- the history has the ALTER
-abbrev pub is_alter : Happening → Bool
+abbrev pub is_alter : HistoryItem → Bool
 is_alter Alter = true
 is_alter (Txn past) = false

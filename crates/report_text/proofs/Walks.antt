@@ -17,7 +17,7 @@ use Rattle.server_words.specs.declared.request.Request.TheVariants as requests
 use Rattle.server_words.specs.Along.{gathered}
 use Rattle.plan_words.specs.PlanData.{PlanData}
 use Rattle.plan_words.specs.Journals.{same_actor, is_client, turns_of}
-use Rattle.plan_words.specs.Histories.{Happening, Alter, NumberedReply, replies_in, replies_of, adds, alters, ends_txn, takes_away, entry_adds, history}
+use Rattle.plan_words.specs.Histories.{HistoryItem, Alter, NumberedReply, replies_in, replies_of, adds, alters, ends_txn, takes_away, entry_adds, history}
 use Rattle.report_text.specs.Replies.{numbered_text, client_line, client_text}
 use Rattle.report_text.specs.Walks.{turn_replies, replies_from}
 

@@ -20,7 +20,7 @@ use Rattle.server_words.specs.States.{State, after_events}
 use Rattle.server_words.specs.Chunks.{keys_of, keys_in, chunk_end, span_keys, first_keys, last_of, end_key}
 use Rattle.server_words.specs.Serving.{answered}
 use Rattle.plan_words.specs.PlanData.{PlanData}
-use Rattle.plan_words.specs.Histories.{Happening}
+use Rattle.plan_words.specs.Histories.{HistoryItem}
 use Rattle.tool_program.specs.Programs.{after_answer}
 use Rattle.tool_program.specs.declared.tool.Tool.TheVariants.{Choosing, Spanning}
 use Rattle.plan_words.specs.Migratable.{IsMigratable}
@@ -38,7 +38,7 @@ pub span_rows : Total → (plan : PlanData) (m : IsMigratable plan) (low : Bound
 span_rows total plan m low rows done chunk row more are cuts = rw are (rows_of_span total (places plan m) low done chunk row more cuts)
 
 -- the chunk's end is chosen
-chosen : (plan : PlanData) (m : IsMigratable plan) (low : Bound) (top : List Value) (before state : State) (number turn : ℕ) (past : List Happening) (named : Option ℕ) → OpenedTo before state number → (at : AtChoosing plan m low top before past)
+chosen : (plan : PlanData) (m : IsMigratable plan) (low : Bound) (top : List Value) (before state : State) (number turn : ℕ) (past : List HistoryItem) (named : Option ℕ) → OpenedTo before state number → (at : AtChoosing plan m low top before past)
     → (end : List Value) → (chunk : Cut (places plan m) 999 at.front at.last) → end ≡ key_of (places plan m) chunk.row → Stage plan m (after_answer plan turn (Choosing low top) (answers.End end)) state past named
 unfolding after_answer
 chosen plan m low top before state number turn past named opened at end chunk end_is =
@@ -63,7 +63,7 @@ chosen plan m low top before state number turn past named opened at end chunk en
       imaged = at.imaged;
     }
 
-end_of_chunk : Total → (plan : PlanData) (m : IsMigratable plan) (low : Bound) (top : List Value) (before : State) (past : List Happening) → (at : AtChoosing plan m low top before past) → (chunk : Cut (places plan m) 999 at.front at.last)
+end_of_chunk : Total → (plan : PlanData) (m : IsMigratable plan) (low : Bound) (top : List Value) (before : State) (past : List HistoryItem) → (at : AtChoosing plan m low top before past) → (chunk : Cut (places plan m) 999 at.front at.last)
     → chunk_end low top 1000 (own plan m at.rows) ≡ key_of (places plan m) chunk.row
 unfolding chunk_end
 end_of_chunk total plan m low top before past at chunk =
@@ -73,7 +73,7 @@ end_of_chunk total plan m low top before past at chunk =
     (ap (λ rows. unwrap_or (slice_get (keys_of (places plan m) rows) 999) (key_of (places plan m) at.last)) (span_rows total plan m low at.rows at.done at.front at.last [] all cuts)
     ∙ chunk.end_is)
 
-pub chooses : Total → (plan : PlanData) (m : IsMigratable plan) (names : NamesApart m.table.schema.name plan.table) (low : Bound) (top : List Value) (before state : State) (number turn : ℕ) (past : List Happening) (named : Option ℕ) → OpenedTo before state number
+pub chooses : Total → (plan : PlanData) (m : IsMigratable plan) (names : NamesApart m.table.schema.name plan.table) (low : Bound) (top : List Value) (before state : State) (number turn : ℕ) (past : List HistoryItem) (named : Option ℕ) → OpenedTo before state number
     → AtChoosing plan m low top before past
     → Stage plan m (after_answer plan turn (Choosing low top) (answered state number (requests.ChunkEnd plan.table low top 1000)).answer) (answered state number (requests.ChunkEnd plan.table low top 1000)).after past named
 unfolding answered
@@ -89,7 +89,7 @@ all_given span keys long =
     let fewer : nat_lt 1000 (length keys) ≡ false = le-ltb 1000 (length keys) long in
     rw whole (rw fewer refl)
 
-given_keys : Total → (plan : PlanData) (m : IsMigratable plan) (low : Bound) (top high : List Value) (before : State) (past : List Happening) → (at : AtSpanning plan m low top high before past)
+given_keys : Total → (plan : PlanData) (m : IsMigratable plan) (low : Bound) (top high : List Value) (before : State) (past : List HistoryItem) → (at : AtSpanning plan m low top high before past)
     → span_keys (record { low = low; high = Closed high }) 1000 (own plan m at.rows) ≡ answers.Keys (keys_of (places plan m) (at.chunk ++ (at.row ∷ []))) high
 unfolding span_keys
 given_keys total plan m low top high before past at =
@@ -100,7 +100,7 @@ given_keys total plan m low top high before past at =
     (omega (arith, length-map (at.chunk ++ (at.row ∷ [])) (key_of (places plan m)), at.long)))
 
 -- the chunk is begun: none of its rows is copied yet
-pub spans : Total → (plan : PlanData) (m : IsMigratable plan) (names : NamesApart m.table.schema.name plan.table) (low : Bound) (top high : List Value) (before state : State) (number turn : ℕ) (past : List Happening) (named : Option ℕ) → OpenedTo before state number
+pub spans : Total → (plan : PlanData) (m : IsMigratable plan) (names : NamesApart m.table.schema.name plan.table) (low : Bound) (top high : List Value) (before state : State) (number turn : ℕ) (past : List HistoryItem) (named : Option ℕ) → OpenedTo before state number
     → named ≡ Some number → AtSpanning plan m low top high before past
     → Stage plan m (after_answer plan turn (Spanning low top high) (answered state number (requests.BeginSpan plan.table (record { low = low; high = Closed high }) 1000)).answer)
     (answered state number (requests.BeginSpan plan.table (record { low = low; high = Closed high }) 1000)).after past named

@@ -24,14 +24,14 @@ use Rattle.server_words.specs.declared.answer.Answer.{Answer}
 use Rattle.server_words.specs.declared.answer.Answer.TheVariants as answers
 use Rattle.server_words.specs.declared.request.Request.TheVariants as requests
 use Rattle.server_words.specs.declared.session.Session.{Session}
-use Rattle.server_words.specs.declared.said.Said.{Said}
+use Rattle.server_words.specs.declared.said.StatementResult.{StatementResult}
 use Rattle.server_words.specs.Statements.{only, refuses_value}
 use Rattle.server_words.specs.States.{State, after_event, after_events, view, session_of, writes_of, is_in_transaction, with_session, wrote, with_writes, committed, at_rest}
 use Rattle.server_words.specs.Chunks.{keys_of}
 use Rattle.server_words.specs.Copying.{copies, copies_row, copies_image, copies_unless}
 use Rattle.server_words.specs.Serving.{answered, with_said}
 use Rattle.plan_words.specs.PlanData.{PlanData}
-use Rattle.plan_words.specs.Histories.{Happening}
+use Rattle.plan_words.specs.Histories.{HistoryItem}
 use Rattle.tool_program.specs.ToolNames.{ghost_name}
 use Rattle.tool_program.specs.Programs.{after_answer, after_chunk_call, after_copy, after_commit, chunk_call}
 use Rattle.tool_program.specs.declared.tool.Tool.TheVariants.{Copying, Choosing, Renaming}
@@ -109,7 +109,7 @@ wrote_in : (number : ℕ) (events : List RowEvent) (state : State) → is_in_tra
 wrote_in number events state busy = rw busy refl
 
 -- one row more is copied
-copied_row : Known → (plan : PlanData) (m : IsMigratable plan) (names : NamesApart m.table.schema.name plan.table) (keys : List (List Value)) (copied : ℕ) (end top : List Value) (state : State) (past : List Happening) (named named' : Option ℕ)
+copied_row : Known → (plan : PlanData) (m : IsMigratable plan) (names : NamesApart m.table.schema.name plan.table) (keys : List (List Value)) (copied : ℕ) (end top : List Value) (state : State) (past : List HistoryItem) (named named' : Option ℕ)
     → (at : AtCopying plan m keys copied end top state past named) → named' ≡ Some at.number → (row : Row) (others : List Row) → at.todo ≡ row ∷ others → (new : Row) → image m.new.1 row ≡ Ok new → Fresh plan m (at.made ++ at.images) new
     → AtCopying plan m keys (copied + 1) end top (record state { sessions = with_session at.number (wrote (record { table = ghost_name plan.table; change = Write new } ∷ [])) state.sessions }) past named'
 copied_row known plan m names keys copied end top state past named named' at session row others todo_is new is fresh =
@@ -146,7 +146,7 @@ copied_row known plan m names keys copied end top state past named named' at ses
           ∙ ap (two plan m at.rows) (append_assoc at.made at.images (new ∷ []));
     }
 
-copy_done : Known → (plan : PlanData) (m : IsMigratable plan) (names : NamesApart m.table.schema.name plan.table) (keys : List (List Value)) (copied : ℕ) (end top : List Value) (state : State) (turn : ℕ) (past : List Happening) (named named' : Option ℕ)
+copy_done : Known → (plan : PlanData) (m : IsMigratable plan) (names : NamesApart m.table.schema.name plan.table) (keys : List (List Value)) (copied : ℕ) (end top : List Value) (state : State) (turn : ℕ) (past : List HistoryItem) (named named' : Option ℕ)
     → (at : AtCopying plan m keys copied end top state past named) → named' ≡ Some at.number → (row : Row) (others : List Row) → at.todo ≡ row ∷ others → at.rows ≡ at.done ++ at.got ++ (row ∷ (others ++ at.more)) → (made : Result (List Value) UnfitAt) → image m.new.1 row ≡ made
     → Stage plan m (after_copy plan turn keys copied end top (key_of (places plan m) row) (copies_image (ghost_name plan.table) (ghost_table plan m (at.made ++ at.images)) made).answer)
     (with_writes at.number (copies_image (ghost_name plan.table) (ghost_table plan m (at.made ++ at.images)) made).events state) past named'
@@ -160,13 +160,13 @@ copy_done known plan m names keys copied end top state turn past named named' at
     rw new_one.clashes (rw busy.0 (copied_row known plan m names keys copied end top state past named named' at session row others todo_is new is new_one))
 
 -- what a session sees in the open chunk
-chunk_view : (plan : PlanData) (m : IsMigratable plan) (keys : List (List Value)) (copied : ℕ) (end top : List Value) (state : State) (past : List Happening) (named : Option ℕ) → (at : AtCopying plan m keys copied end top state past named)
+chunk_view : (plan : PlanData) (m : IsMigratable plan) (keys : List (List Value)) (copied : ℕ) (end top : List Value) (state : State) (past : List HistoryItem) (named : Option ℕ) → (at : AtCopying plan m keys copied end top state past named)
     → view at.number state ≡ two plan m at.rows (at.made ++ at.images)
 chunk_view plan m keys copied end top state past named at =
     let busy : Busy at.writes (session_of at.number state.sessions) = but-busy at.number at.writes state.sessions at.but in
     rw (at.both.tables, busy.1) at.view
 
-copies_next : Known → (plan : PlanData) (m : IsMigratable plan) (names : NamesApart m.table.schema.name plan.table) (keys : List (List Value)) (copied : ℕ) (end top : List Value) (state : State) (turn : ℕ) (past : List Happening) (named named' : Option ℕ)
+copies_next : Known → (plan : PlanData) (m : IsMigratable plan) (names : NamesApart m.table.schema.name plan.table) (keys : List (List Value)) (copied : ℕ) (end top : List Value) (state : State) (turn : ℕ) (past : List HistoryItem) (named named' : Option ℕ)
     → (at : AtCopying plan m keys copied end top state past named) → named' ≡ Some at.number → (row : Row) (others : List Row) → at.todo ≡ row ∷ others
     → Stage plan m (after_copy plan turn keys copied end top (key_of (places plan m) row) (answered state at.number (requests.CopyRow plan.table (ghost_name plan.table) m.new.1 (key_of (places plan m) row))).answer)
     (answered state at.number (requests.CopyRow plan.table (ghost_name plan.table) m.new.1 (key_of (places plan m) row))).after past named'
@@ -178,7 +178,7 @@ copies_next known plan m names keys copied end top state turn past named named' 
     rw said (copy_done known plan m names keys copied end top state turn past named named' at session row others todo_is cut (image m.new.1 row) refl)
 
 -- the chunk is committed: the next one begins behind it, unless it was the last
-commit_done : Known → (plan : PlanData) (m : IsMigratable plan) (keys : List (List Value)) (copied : ℕ) (end top : List Value) (state after : State) (turn : ℕ) (past : List Happening) (named named' : Option ℕ)
+commit_done : Known → (plan : PlanData) (m : IsMigratable plan) (keys : List (List Value)) (copied : ℕ) (end top : List Value) (state after : State) (turn : ℕ) (past : List HistoryItem) (named named' : Option ℕ)
     → (at : AtCopying plan m keys copied end top state past named) → at.todo ≡ [] → Both plan m after past at.rows (at.made ++ at.images) → Calm after.sessions → LeftBehind at.row at.last at.more
     → Stage plan m (cond (is_eq (compare_keys end top)) Renaming (Choosing (Open end) top)) after past named'
 commit_done known plan m keys copied end top state after turn past named named' at todo_is both calm left =
@@ -213,7 +213,7 @@ commit_done known plan m keys copied end top state after turn past named named' 
           })
     ]
 
-commits_chunk : Known → (plan : PlanData) (m : IsMigratable plan) (names : NamesApart m.table.schema.name plan.table) (keys : List (List Value)) (copied : ℕ) (end top : List Value) (state : State) (turn : ℕ) (past : List Happening) (named named' : Option ℕ)
+commits_chunk : Known → (plan : PlanData) (m : IsMigratable plan) (names : NamesApart m.table.schema.name plan.table) (keys : List (List Value)) (copied : ℕ) (end top : List Value) (state : State) (turn : ℕ) (past : List HistoryItem) (named named' : Option ℕ)
     → (at : AtCopying plan m keys copied end top state past named) → at.todo ≡ []
     → Stage plan m (after_commit keys copied end top (answered state at.number requests.Commit).answer) (answered state at.number requests.Commit).after past named'
 unfolding answered
@@ -223,7 +223,7 @@ commits_chunk known plan m names keys copied end top state turn past named named
     (record { is_table = at.both.is_table; tables = rw (at.both.tables, busy.1) at.view; serial = at.both.serial })
     (ends at.number at.writes state.sessions at.but) at.left
 
-copying_at : Known → (plan : PlanData) (m : IsMigratable plan) (names : NamesApart m.table.schema.name plan.table) (keys : List (List Value)) (copied : ℕ) (end top : List Value) (state : State) (turn : ℕ) (past : List Happening) (named named' : Option ℕ)
+copying_at : Known → (plan : PlanData) (m : IsMigratable plan) (names : NamesApart m.table.schema.name plan.table) (keys : List (List Value)) (copied : ℕ) (end top : List Value) (state : State) (turn : ℕ) (past : List HistoryItem) (named named' : Option ℕ)
     → (at : AtCopying plan m keys copied end top state past named) → named' ≡ Some at.number → (todo : List Row) → at.todo ≡ todo → slice_get keys copied ≡ slice_get (keys_of (places plan m) todo) 0
     → Stage plan m (after_chunk_call plan turn keys copied end top (slice_get keys copied) (answered state at.number (chunk_call plan m.new.1 (slice_get keys copied))).answer)
     (answered state at.number (chunk_call plan m.new.1 (slice_get keys copied))).after past named'
@@ -232,7 +232,7 @@ copying_at known plan m names keys copied end top state turn past named named' a
     rw key (copies_next known plan m names keys copied end top state turn past named named' at session row others todo_is)
 
 -- a row is copied, or the chunk is committed where all are
-pub copying : Known → (plan : PlanData) (m : IsMigratable plan) (names : NamesApart m.table.schema.name plan.table) (keys : List (List Value)) (copied : ℕ) (end top : List Value) (state : State) (turn : ℕ) (past : List Happening) (named named' : Option ℕ)
+pub copying : Known → (plan : PlanData) (m : IsMigratable plan) (names : NamesApart m.table.schema.name plan.table) (keys : List (List Value)) (copied : ℕ) (end top : List Value) (state : State) (turn : ℕ) (past : List HistoryItem) (named named' : Option ℕ)
     → (at : AtCopying plan m keys copied end top state past named) → named' ≡ Some at.number
     → Stage plan m (after_answer plan turn (Copying keys copied end top) (answered state at.number (chunk_call plan m.new.1 (slice_get keys copied))).answer)
     (answered state at.number (chunk_call plan m.new.1 (slice_get keys copied))).after past named'

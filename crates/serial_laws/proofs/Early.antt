@@ -15,7 +15,7 @@ use Rattle.server_words.specs.States.{State}
 use Rattle.server_words.specs.Chunks.{ends_of, keys_of}
 use Rattle.server_words.specs.Serving.{answered}
 use Rattle.plan_words.specs.PlanData.{PlanData}
-use Rattle.plan_words.specs.Histories.{Happening, Serial}
+use Rattle.plan_words.specs.Histories.{HistoryItem, Serial}
 use Rattle.tool_program.specs.ToolNames.{ghost_name, old_name}
 use Rattle.tool_program.specs.Programs.{after_answer}
 use Rattle.tool_program.specs.declared.tool.Tool.TheVariants.{Creating, Reaching}
@@ -30,7 +30,7 @@ no_ghost : (plan : PlanData) (m : IsMigratable plan) (names : NamesApart m.table
 no_ghost plan m names rows tables are = rw are (rw names.own_not_ghost refl)
 
 -- the new table is made
-pub creates_ghost : (plan : PlanData) (m : IsMigratable plan) (names : NamesApart m.table.schema.name plan.table) (before state : State) (number turn : ℕ) (past : List Happening) (named : Option ℕ) → OpenedTo before state number → AtCreating plan m before past
+pub creates_ghost : (plan : PlanData) (m : IsMigratable plan) (names : NamesApart m.table.schema.name plan.table) (before state : State) (number turn : ℕ) (past : List HistoryItem) (named : Option ℕ) → OpenedTo before state number → AtCreating plan m before past
     → Stage plan m (after_answer plan turn Creating (answered state number (requests.Create (record m.new.0 { name = ghost_name plan.table }))).answer)
     (answered state number (requests.Create (record m.new.0 { name = ghost_name plan.table }))).after past named
 unfolding answered after_answer
@@ -56,7 +56,7 @@ from_least total keys row rows ascends =
     (rw (same_key total (key_of keys row)) refl, all-so (Before keys row) (λ other. above (Closed (key_of keys row)) (key_of keys other) ≡ true) (λ other less. rw less refl) rows ascends.0)
 
 -- the range is known: none of the rows is copied yet
-reached : Total → (plan : PlanData) (m : IsMigratable plan) (before state : State) (number turn : ℕ) (past : List Happening) (named : Option ℕ) → OpenedTo before state number → AtReaching plan m before past → (rows : List Row)
+reached : Total → (plan : PlanData) (m : IsMigratable plan) (before state : State) (number turn : ℕ) (past : List HistoryItem) (named : Option ℕ) → OpenedTo before state number → AtReaching plan m before past → (rows : List Row)
     → Both plan m before past rows [] → Stage plan m (after_answer plan turn Reaching (ends_of (keys_of (places plan m) rows))) state past named
 unfolding after_answer
 reached total plan m before state number turn past named opened at [] both =
@@ -78,7 +78,7 @@ reached total plan m before state number turn past named opened at (row ∷ rows
       imaged = tt;
     }
 
-pub reaches : Total → (plan : PlanData) (m : IsMigratable plan) (names : NamesApart m.table.schema.name plan.table) (before state : State) (number turn : ℕ) (past : List Happening) (named : Option ℕ) → OpenedTo before state number → AtReaching plan m before past
+pub reaches : Total → (plan : PlanData) (m : IsMigratable plan) (names : NamesApart m.table.schema.name plan.table) (before state : State) (number turn : ℕ) (past : List HistoryItem) (named : Option ℕ) → OpenedTo before state number → AtReaching plan m before past
     → Stage plan m (after_answer plan turn Reaching (answered state number (requests.Ends plan.table)).answer) (answered state number (requests.Ends plan.table)).after past named
 unfolding answered
 reaches total plan m names before state number turn past named opened at =

@@ -19,7 +19,7 @@ use Rattle.server_words.specs.Along.{gathered-more}
 use Rattle.server_words.specs.States.{State}
 use Rattle.plan_words.specs.PlanData.{PlanData, plan_altered}
 use Rattle.plan_words.specs.Journals.{opening, same_actor, is_client, state_at, after_entry, turns_of, script_of, word_asks, line_asks, script_asks, client_asks}
-use Rattle.plan_words.specs.Histories.{Happening, history, entry_adds}
+use Rattle.plan_words.specs.Histories.{HistoryItem, history, entry_adds}
 use Rattle.tool_program.specs.declared.tool.Tool.{Tool}
 use Rattle.tool_program.specs.declared.tool.Tool.TheVariants.{Creating}
 use Rattle.tool_program.specs.Programs.{Progress, progress, after_turn, given, tool_actor, tool_asks, clients_over, over_from, is_none, session_named}

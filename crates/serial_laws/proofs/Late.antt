@@ -12,7 +12,7 @@ use Rattle.server_words.specs.declared.request.Request.TheVariants as requests
 use Rattle.server_words.specs.States.{State}
 use Rattle.server_words.specs.Serving.{answered}
 use Rattle.plan_words.specs.PlanData.{PlanData, Altered, altered_table}
-use Rattle.plan_words.specs.Histories.{Happening, Alter, Leads, Serial, tables_left, altered_database, alters}
+use Rattle.plan_words.specs.Histories.{HistoryItem, Alter, Leads, Serial, tables_left, altered_database, alters}
 use Rattle.tool_program.specs.ToolNames.{ghost_name, old_name}
 use Rattle.tool_program.specs.Programs.{after_answer}
 use Rattle.tool_program.specs.declared.tool.Tool.TheVariants.{Renaming, Done}
@@ -23,7 +23,7 @@ use Rattle.serial_laws.proofs.Images.{Imaged, imaged-images}
 use Rattle.serial_laws.proofs.Stages.{own, two, Stage, AtRenaming, Both, OpenedTo}
 
 -- one happening more at the end
-pub serial-more : (plan : PlanData) (first : Database) (past : List Happening) (happening : Happening) (last after : Database) → Serial plan first past last → Leads plan happening last after → Serial plan first (past ++ (happening ∷ [])) after
+pub serial-more : (plan : PlanData) (first : Database) (past : List HistoryItem) (happening : HistoryItem) (last after : Database) → Serial plan first past last → Leads plan happening last after → Serial plan first (past ++ (happening ∷ [])) after
 serial-more plan first [] happening last after so leads = (after, subst (λ db. Leads plan happening db after) so leads, refl)
 serial-more plan first (one ∷ past) happening last after so leads = (so.0, so.1, serial-more plan so.0 past happening last after so.2 leads)
 
@@ -61,7 +61,7 @@ unfolding altered_database altered_table
 altered_whole plan m names rows made imaged = rw names.own (rw m.alters (rw (imaged-images m.new.1 rows made imaged) (rw names.own refl)))
 
 -- the tables are renamed: the whole table is altered at once
-pub renames : (plan : PlanData) (m : IsMigratable plan) (names : NamesApart m.table.schema.name plan.table) (before state : State) (number turn : ℕ) (past : List Happening) (named : Option ℕ) → OpenedTo before state number → AtRenaming plan m before past
+pub renames : (plan : PlanData) (m : IsMigratable plan) (names : NamesApart m.table.schema.name plan.table) (before state : State) (number turn : ℕ) (past : List HistoryItem) (named : Option ℕ) → OpenedTo before state number → AtRenaming plan m before past
     → Stage plan m (after_answer plan turn Renaming (answered state number (requests.Rename (pairs plan.table))).answer) (answered state number (requests.Rename (pairs plan.table))).after
     (past ++ alters plan (Call (requests.Rename (pairs plan.table))) (answered state number (requests.Rename (pairs plan.table))).answer) named
 unfolding answered after_answer

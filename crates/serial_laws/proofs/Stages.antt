@@ -15,7 +15,7 @@ use Rattle.server_words.specs.States.{State, after_events, session_of}
 use Rattle.server_words.specs.Chunks.{keys_of}
 use Rattle.plan_words.specs.PlanData.{PlanData}
 use Rattle.plan_words.specs.Journals.{is_live}
-use Rattle.plan_words.specs.Histories.{Happening, Serial, tables_left}
+use Rattle.plan_words.specs.Histories.{HistoryItem, Serial, tables_left}
 use Rattle.tool_program.specs.ToolNames.{ghost_name}
 use Rattle.tool_program.specs.declared.tool.Tool.{Tool}
 use Rattle.tool_program.specs.declared.tool.Tool.TheVariants.{Creating, Reaching, Choosing, Spanning, Copying, Renaming, Done, Reverting, Reverted}
@@ -39,7 +39,7 @@ abbrev pub places : (plan : PlanData) → IsMigratable plan → List ℕ
 places plan m = key_places m.table.schema
 
 -- the clients are at work
-pub record AtCreating (plan : PlanData) (m : IsMigratable plan) (state : State) (past : List Happening) : Type 0 where
+pub record AtCreating (plan : PlanData) (m : IsMigratable plan) (state : State) (past : List HistoryItem) : Type 0 where
   pub rows : List Row
   pub is_table : IsTable m.table.schema rows
   pub tables : state.tables ≡ own plan m rows ∷ []
@@ -47,17 +47,17 @@ pub record AtCreating (plan : PlanData) (m : IsMigratable plan) (state : State) 
   pub calm : Calm state.sessions
 
 -- the clients are over, and the two tables stand
-pub record Both (plan : PlanData) (m : IsMigratable plan) (state : State) (past : List Happening) (rows made : List Row) : Type 0 where
+pub record Both (plan : PlanData) (m : IsMigratable plan) (state : State) (past : List HistoryItem) (rows made : List Row) : Type 0 where
   pub is_table : IsTable m.table.schema rows
   pub tables : state.tables ≡ two plan m rows made
   pub serial : Serial plan plan.tables past (own plan m rows ∷ [])
 
-pub record AtReaching (plan : PlanData) (m : IsMigratable plan) (state : State) (past : List Happening) : Type 0 where
+pub record AtReaching (plan : PlanData) (m : IsMigratable plan) (state : State) (past : List HistoryItem) : Type 0 where
   pub rows : List Row
   pub both : Both plan m state past rows []
   pub calm : Calm state.sessions
 
-pub record AtChoosing (plan : PlanData) (m : IsMigratable plan) (low : Bound) (top : List Value) (state : State) (past : List Happening) : Type 0 where
+pub record AtChoosing (plan : PlanData) (m : IsMigratable plan) (low : Bound) (top : List Value) (state : State) (past : List HistoryItem) : Type 0 where
   pub rows : List Row
   pub made : List Row
   pub done : List Row
@@ -71,7 +71,7 @@ pub record AtChoosing (plan : PlanData) (m : IsMigratable plan) (low : Bound) (t
   pub over : AllByRecursion (λ other. above low (key_of (places plan m) other) ≡ true) (front ++ (last ∷ []))
   pub imaged : Imaged m.new.1 done made
 
-pub record AtSpanning (plan : PlanData) (m : IsMigratable plan) (low : Bound) (top high : List Value) (state : State) (past : List Happening) : Type 0 where
+pub record AtSpanning (plan : PlanData) (m : IsMigratable plan) (low : Bound) (top high : List Value) (state : State) (past : List HistoryItem) : Type 0 where
   pub rows : List Row
   pub made : List Row
   pub done : List Row
@@ -90,7 +90,7 @@ pub record AtSpanning (plan : PlanData) (m : IsMigratable plan) (low : Bound) (t
   pub over : AllByRecursion (λ other. above low (key_of (places plan m) other) ≡ true) (chunk ++ (row ∷ []))
   pub imaged : Imaged m.new.1 done made
 
-pub record AtCopying (plan : PlanData) (m : IsMigratable plan) (keys : List (List Value)) (copied : ℕ) (end top : List Value) (state : State) (past : List Happening) (named : Option ℕ) : Type 0 where
+pub record AtCopying (plan : PlanData) (m : IsMigratable plan) (keys : List (List Value)) (copied : ℕ) (end top : List Value) (state : State) (past : List HistoryItem) (named : Option ℕ) : Type 0 where
   pub rows : List Row
   pub made : List Row
   pub done : List Row
@@ -117,21 +117,21 @@ pub record AtCopying (plan : PlanData) (m : IsMigratable plan) (keys : List (Lis
   pub but : CalmBut number writes state.sessions
   pub view : after_events (two plan m rows made) writes ≡ two plan m rows (made ++ images)
 
-pub record AtRenaming (plan : PlanData) (m : IsMigratable plan) (state : State) (past : List Happening) : Type 0 where
+pub record AtRenaming (plan : PlanData) (m : IsMigratable plan) (state : State) (past : List HistoryItem) : Type 0 where
   pub rows : List Row
   pub made : List Row
   pub both : Both plan m state past rows made
   pub imaged : Imaged m.new.1 rows made
 
-pub record AtReverting (plan : PlanData) (m : IsMigratable plan) (state : State) (past : List Happening) : Type 0 where
+pub record AtReverting (plan : PlanData) (m : IsMigratable plan) (state : State) (past : List HistoryItem) : Type 0 where
   pub rows : List Row
   pub made : List Row
   pub both : Both plan m state past rows made
 
-pub record AtDone (plan : PlanData) (m : IsMigratable plan) (state : State) (past : List Happening) : Type 0 where
+pub record AtDone (plan : PlanData) (m : IsMigratable plan) (state : State) (past : List HistoryItem) : Type 0 where
   pub serial : Serial plan plan.tables past (tables_left plan state.tables)
 
-abbrev pub Stage : (plan : PlanData) → IsMigratable plan → Tool → State → List Happening → Option ℕ → Type 0
+abbrev pub Stage : (plan : PlanData) → IsMigratable plan → Tool → State → List HistoryItem → Option ℕ → Type 0
 Stage plan m Creating state past named = AtCreating plan m state past
 Stage plan m Reaching state past named = AtReaching plan m state past
 Stage plan m (Choosing low top) state past named = AtChoosing plan m low top state past

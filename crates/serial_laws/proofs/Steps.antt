@@ -19,13 +19,13 @@ use Rattle.server_words.specs.declared.request.Request.{Request}
 use Rattle.server_words.specs.declared.request.Request.TheVariants as requests
 use Rattle.server_words.specs.Along.{Along, Along-both, Along-keeps}
 use Rattle.server_words.specs.Alone.{alone, lines_run, reply_of}
-use Rattle.server_words.specs.declared.said.Said.{Said}
+use Rattle.server_words.specs.declared.said.StatementResult.{StatementResult}
 use Rattle.server_words.specs.Statements.{says}
 use Rattle.server_words.specs.States.{State, view, session_of, after_events, is_in_transaction, writes_of, with_writes}
 use Rattle.server_words.specs.Serving.{answered, serves}
 use Rattle.plan_words.specs.PlanData.{PlanData, plan_altered}
 use Rattle.plan_words.specs.Journals.{IsAnswered, IsFaithful, same_actor, is_client, is_live, state_at, after_entry, with_session_open, serves_asked, client_asks, turns_of}
-use Rattle.plan_words.specs.Histories.{Happening, Txn, Leads, Serial, history, adds, entry_adds, alters, single, tables_left}
+use Rattle.plan_words.specs.Histories.{HistoryItem, Txn, Leads, Serial, history, adds, entry_adds, alters, single, tables_left}
 use Rattle.tool_program.specs.ToolNames.{ghost_name}
 use Rattle.tool_program.specs.declared.tool.Tool.{Tool}
 use Rattle.tool_program.specs.declared.tool.Tool.TheVariants.{Creating, Reaching, Choosing, Spanning, Copying, Renaming, Done, Reverting, Reverted}
@@ -82,7 +82,7 @@ nothing_written : (number : ℕ) (state : State) → writes_of (session_of numbe
 unfolding after_events
 nothing_written number state none = rw none refl
 
-pub client_steps : Known → (plan : PlanData) (m : IsMigratable plan) (before state : State) (number : ℕ) (statement : Statement) (past : List Happening) (client turns : ℕ) → OpenedTo before state number → AtCreating plan m before past
+pub client_steps : Known → (plan : PlanData) (m : IsMigratable plan) (before state : State) (number : ℕ) (statement : Statement) (past : List HistoryItem) (client turns : ℕ) → OpenedTo before state number → AtCreating plan m before past
     → AtCreating plan m (answered state number (requests.Do statement)).after
     (past ++ (Txn (record { client = client; number = turns; txn = single statement; replies = reply_of (answered state number (requests.Do statement)).answer ∷ [] }) ∷ []))
 unfolding answered
@@ -102,42 +102,42 @@ client_steps known plan m before state number statement past client turns opened
     }))
 
 -- where a step adds nothing to what ended
-as_before : (plan : PlanData) (m : IsMigratable plan) (tool : Tool) (state : State) (past : List Happening) (named : Option ℕ) → Stage plan m tool state past named → Stage plan m tool state (past ++ []) named
-as_before plan m tool state past named stage = subst (λ (all : List Happening). Stage plan m tool state all named) (sym (append-nil past)) stage
+as_before : (plan : PlanData) (m : IsMigratable plan) (tool : Tool) (state : State) (past : List HistoryItem) (named : Option ℕ) → Stage plan m tool state past named → Stage plan m tool state (past ++ []) named
+as_before plan m tool state past named stage = subst (λ (all : List HistoryItem). Stage plan m tool state all named) (sym (append-nil past)) stage
 
 -- what a step of the tool leaves
-abbrev pub After : (plan : PlanData) (m : IsMigratable plan) (tool : Tool) (state : State) (number turn : ℕ) (past : List Happening) (named : Option ℕ) (request : Request) → Type 0
+abbrev pub After : (plan : PlanData) (m : IsMigratable plan) (tool : Tool) (state : State) (number turn : ℕ) (past : List HistoryItem) (named : Option ℕ) (request : Request) → Type 0
 After plan m tool state number turn past named request =
     Stage plan m (after_answer plan turn tool (answered state number request).answer) (answered state number request).after (past ++ alters plan (Call request) (answered state number request).answer) named
 
 -- the chunk's session, in the state that the step finds
-moved : (plan : PlanData) (m : IsMigratable plan) (keys : List (List Value)) (copied : ℕ) (end top : List Value) (before state : State) (number : ℕ) (past : List Happening) (named : Option ℕ) → OpenedTo before state number
+moved : (plan : PlanData) (m : IsMigratable plan) (keys : List (List Value)) (copied : ℕ) (end top : List Value) (before state : State) (number : ℕ) (past : List HistoryItem) (named : Option ℕ) → OpenedTo before state number
     → (at : AtCopying plan m keys copied end top before past named) → number ≡ at.number → state ≡ before
 moved plan m keys copied end top before state number past named opened at is =
     let busy : Busy at.writes (session_of at.number before.sessions) = but-busy at.number at.writes before.sessions at.but in
     opened.stays (rw is busy.2)
 
-copying_steps : Known → (plan : PlanData) (m : IsMigratable plan) (names : NamesApart m.table.schema.name plan.table) (keys : List (List Value)) (copied : ℕ) (end top : List Value) (before state : State) (number turn : ℕ) (past : List Happening) (named named' : Option ℕ)
+copying_steps : Known → (plan : PlanData) (m : IsMigratable plan) (names : NamesApart m.table.schema.name plan.table) (keys : List (List Value)) (copied : ℕ) (end top : List Value) (before state : State) (number turn : ℕ) (past : List HistoryItem) (named named' : Option ℕ)
     → OpenedTo before state number → (at : AtCopying plan m keys copied end top before past named) → number ≡ at.number → named' ≡ Some number
     → Stage plan m (after_answer plan turn (Copying keys copied end top) (answered state number (chunk_call plan m.new.1 (slice_get keys copied))).answer) (answered state number (chunk_call plan m.new.1 (slice_get keys copied))).after past named'
 copying_steps known plan m names keys copied end top before state number turn past named named' opened at is session =
     rw (moved plan m keys copied end top before state number past named opened at is, is)
     (copying known plan m names keys copied end top before turn past named named' at (session ∙ ap (λ n. Some n) is))
 
-no_alter : (plan : PlanData) (m : IsMigratable plan) (tool : Tool) (state : State) (past : List Happening) (named : Option ℕ) (key : Option (List Value)) (answer : Answer) → Stage plan m tool state past named
+no_alter : (plan : PlanData) (m : IsMigratable plan) (tool : Tool) (state : State) (past : List HistoryItem) (named : Option ℕ) (key : Option (List Value)) (answer : Answer) → Stage plan m tool state past named
     → Stage plan m tool state (past ++ alters plan (Call (chunk_call plan m.new.1 key)) answer) named
 no_alter plan m tool state past named None answer stage = as_before plan m tool state past named stage
 no_alter plan m tool state past named (Some key) answer stage = as_before plan m tool state past named stage
 
 -- the chunk is rolled back
-rolls_back : (plan : PlanData) (m : IsMigratable plan) (before state : State) (number turn : ℕ) (past : List Happening) (named : Option ℕ) (cause : Cause) → OpenedTo before state number → AtReverting plan m before past
+rolls_back : (plan : PlanData) (m : IsMigratable plan) (before state : State) (number turn : ℕ) (past : List HistoryItem) (named : Option ℕ) (cause : Cause) → OpenedTo before state number → AtReverting plan m before past
     → AtReverting plan m (answered state number requests.Rollback).after past
 unfolding answered
 rolls_back plan m before state number turn past named cause opened at =
     record { rows = at.rows; made = at.made; both = record { is_table = at.both.is_table; tables = opened.tables ∙ at.both.tables; serial = at.both.serial } }
 
 -- one more turn of the tool
-pub tool_steps : Known → (plan : PlanData) (m : IsMigratable plan) (names : NamesApart m.table.schema.name plan.table) (before state : State) (number turn : ℕ) (past : List Happening) (named named' : Option ℕ) → OpenedTo before state number → (tool : Tool)
+pub tool_steps : Known → (plan : PlanData) (m : IsMigratable plan) (names : NamesApart m.table.schema.name plan.table) (before state : State) (number turn : ℕ) (past : List HistoryItem) (named named' : Option ℕ) → OpenedTo before state number → (tool : Tool)
     → Stage plan m tool before past named → (request : Request) → tool_call plan m.new tool ≡ Some request → (same_actor (tool_actor tool) Copy ≡ true → named' ≡ Some number) → (same_actor (tool_actor tool) Copy ≡ true → (k : ℕ) → named ≡ Some k → number ≡ k)
     → After plan m tool state number turn past named' request
 unfolding tool_call after_answer answered
@@ -335,10 +335,10 @@ holds_always known plan m journal faithful follows =
     (Along-both (IsAnswered plan) (IsGiven plan) [] journal faithful follows) (holds_first plan m)
 
 -- at each stage what ended so far is serial
-serial_both : (plan : PlanData) (m : IsMigratable plan) (names : NamesApart m.table.schema.name plan.table) (state : State) (past : List Happening) (rows made : List (List Value)) → Both plan m state past rows made → Serial plan plan.tables past (tables_left plan state.tables)
+serial_both : (plan : PlanData) (m : IsMigratable plan) (names : NamesApart m.table.schema.name plan.table) (state : State) (past : List HistoryItem) (rows made : List (List Value)) → Both plan m state past rows made → Serial plan plan.tables past (tables_left plan state.tables)
 serial_both plan m names state past rows made both = rw (own_left plan m names rows state.tables (ghost_table plan m made ∷ []) both.tables) both.serial
 
-serial_at : (plan : PlanData) (m : IsMigratable plan) (names : NamesApart m.table.schema.name plan.table) (tool : Tool) (state : State) (past : List Happening) (named : Option ℕ) → Stage plan m tool state past named → Serial plan plan.tables past (tables_left plan state.tables)
+serial_at : (plan : PlanData) (m : IsMigratable plan) (names : NamesApart m.table.schema.name plan.table) (tool : Tool) (state : State) (past : List HistoryItem) (named : Option ℕ) → Stage plan m tool state past named → Serial plan plan.tables past (tables_left plan state.tables)
 serial_at plan m names Creating state past named at = rw (own_left plan m names at.rows state.tables [] at.tables) at.serial
 serial_at plan m names Reaching state past named at = serial_both plan m names state past at.rows [] at.both
 serial_at plan m names (Choosing low top) state past named at = serial_both plan m names state past at.rows at.made at.both

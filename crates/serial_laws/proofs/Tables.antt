@@ -28,7 +28,7 @@ use Rattle.script_text.specs.declared.statement.Condition.{Condition}
 use Rattle.script_text.specs.declared.statement.Shown.TheVariants as shown
 use Rattle.server_words.specs.declared.answer.Answer.{Answer}
 use Rattle.server_words.specs.declared.answer.Answer.TheVariants as answers
-use Rattle.server_words.specs.declared.said.Said.{Said}
+use Rattle.server_words.specs.declared.said.StatementResult.{StatementResult}
 use Rattle.server_words.specs.declared.said.Sought.{Sought}
 use Rattle.server_words.specs.declared.said.Sought.TheVariants as found_key
 use Rattle.server_words.specs.Statements.{only, stored_from, stored_row, written_unless, written_or, inserts, deletes, deletes_row, selects, sought, at_key, of_table, says, refuses, refuses_value}
@@ -136,7 +136,7 @@ filter_keeps_table schema test rows table = record {
 }
 
 -- what a statement leaves of the one table
-pub record Leaves (schema : Schema) (rows : List Row) (said : Said) : Type 0 where
+pub record Leaves (schema : Schema) (rows : List Row) (said : StatementResult) : Type 0 where
   pub left : List Row
   pub tables : after_events (record { schema = schema; rows = rows } ∷ []) said.events ≡ record { schema = schema; rows = left } ∷ []
   pub is_table : IsTable schema left
@@ -214,7 +214,7 @@ unfolding selects
 leaves_selected schema rows condition table =
     leaves_read schema rows (sought schema condition) (λ key. answers.Rows (option_to_list (row_at_key (record { schema = schema; rows = rows }) key))) table
 
-leaves_of : (schema : Schema) (rows : List Row) (name : List ℕ) (b : Bool) → bytes_eq schema.name name ≡ b → IsTable schema rows → (said : TableRows → Said) → (bytes_eq schema.name name ≡ true → Leaves schema rows (said (record { schema = schema; rows = rows })))
+leaves_of : (schema : Schema) (rows : List Row) (name : List ℕ) (b : Bool) → bytes_eq schema.name name ≡ b → IsTable schema rows → (said : TableRows → StatementResult) → (bytes_eq schema.name name ≡ true → Leaves schema rows (said (record { schema = schema; rows = rows })))
     → Leaves schema rows (of_table (cond b (Some (record { schema = schema; rows = rows })) None) said)
 leaves_of schema rows name true is table said leaves = leaves is
 leaves_of schema rows name false is table said leaves = leaves_all schema rows (refuses 1146) table

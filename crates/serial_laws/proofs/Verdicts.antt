@@ -26,7 +26,7 @@ use Rattle.server_words.specs.declared.request.Request.{Request}
 use Rattle.server_words.specs.declared.request.Request.TheVariants as requests
 use Rattle.server_words.specs.Along.{Along, Along-keeps}
 use Rattle.plan_words.specs.Journals.{same_actor, is_client, client_asks}
-use Rattle.plan_words.specs.Histories.{Happening, Txn, Alter, history, adds, entry_adds, alters, ends_txn, takes_away, is_alter}
+use Rattle.plan_words.specs.Histories.{HistoryItem, Txn, Alter, history, adds, entry_adds, alters, ends_txn, takes_away, is_alter}
 use Rattle.tool_program.specs.declared.tool.Tool.{Tool}
 use Rattle.tool_program.specs.declared.tool.Tool.TheVariants.{Creating, Reaching, Choosing, Spanning, Copying, Renaming, Done, Reverting, Reverted}
 use Rattle.tool_program.specs.ToolNames.{ghost_name, old_name}
@@ -372,15 +372,15 @@ pub record Tells (plan : PlanData) (journal : List Entry) : Type 0 where
   pub count : alter_count (history plan journal) ≡ marks (progress plan journal).tool
   pub cause : Stands plan journal (progress plan journal).tool
 
-count_from : (n : ℕ) (happenings : List Happening) → fold (λ (m : ℕ) (h : Happening). m + cond (is_alter h) 1 0) n happenings ≡ n + alter_count happenings
+count_from : (n : ℕ) (happenings : List HistoryItem) → fold (λ (m : ℕ) (h : HistoryItem). m + cond (is_alter h) 1 0) n happenings ≡ n + alter_count happenings
 count_from n [] = omega arith
 count_from n (happening ∷ happenings) =
     let c = cond (is_alter happening) 1 0 in
     let split : n + c + alter_count happenings ≡ n + (0 + c + alter_count happenings) = omega arith in
     count_from (n + c) happenings ∙ split ∙ ap (λ k. n + k) (sym (count_from (0 + c) happenings))
 
-count_more : (happenings more : List Happening) → alter_count (happenings ++ more) ≡ alter_count happenings + alter_count more
-count_more happenings more = fold-append (λ (m : ℕ) (h : Happening). m + cond (is_alter h) 1 0) 0 happenings more ∙ count_from (alter_count happenings) more
+count_more : (happenings more : List HistoryItem) → alter_count (happenings ++ more) ≡ alter_count happenings + alter_count more
+count_more happenings more = fold-append (λ (m : ℕ) (h : HistoryItem). m + cond (is_alter h) 1 0) 0 happenings more ∙ count_from (alter_count happenings) more
 
 statement_adds : (journal : List Entry) (client : ℕ) (asked : Asked) (answer : Answer) → AsksStatement asked → count_by is_alter (ends_txn journal client asked answer) ≡ 0
 statement_adds journal client asked answer said = rw said.is refl

@@ -11,12 +11,12 @@ use Rattle.server_words.specs.declared.entry.Asked.TheVariants.{Call}
 use Rattle.server_words.specs.declared.entry.Entry.{Entry}
 use Rattle.server_words.specs.declared.request.Request.TheVariants as requests
 use Rattle.plan_words.specs.PlanData.{PlanData, plan_altered}
-use Rattle.plan_words.specs.Histories.{Happening, history, is_alter}
+use Rattle.plan_words.specs.Histories.{HistoryItem, history, is_alter}
 use Rattle.tool_program.specs.ToolNames.{ghost_name}
 use Rattle.tool_program.specs.Programs.{new_column, has_ended, verdict_of, Follows}
 
 -- how often a history has the ALTER
-abbrev pub alter_count : List Happening → ℕ
+abbrev pub alter_count : List HistoryItem → ℕ
 alter_count happenings = count_by is_alter happenings
 
 -- The verdict says whether the ALTER was done: a history has it once at most; at the verdict done it has it, at the

@@ -9,7 +9,7 @@ use crate::refusing::only;
 use crate::statement::says;
 use gho_values::Duplicate;
 use script_text::{ScriptWord, Side};
-use server_words::{Answer, Mark, Reply, Said, TxnLine};
+use server_words::{Answer, Mark, Reply, StatementResult, TxnLine};
 use std::alloc::{AllocError, Global};
 
 /// What a client is told of an answer.
@@ -27,7 +27,11 @@ fn reply_of(answer: Answer) -> Reply
 }
 
 /// What a line says: BEGIN, COMMIT and ROLLBACK are answered ok 0.
-fn line_says(alloc: Global, tables: &PlainTables, word: &ScriptWord) -> Result<Said, AllocError>
+fn line_says(
+    alloc: Global,
+    tables: &PlainTables,
+    word: &ScriptWord,
+) -> Result<StatementResult, AllocError>
     ensures { IfOk result (λ said. said ≡ line_says tables.now word.now) }
 {
     match word {

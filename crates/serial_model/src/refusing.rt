@@ -5,7 +5,7 @@ ghost use Rattle.server_words.specs.Statements.{refuses, refuses_value, only};
 
 use alter_image::UnfitAt;
 use gho_values::Sequence;
-use server_words::{Answer, Said};
+use server_words::{Answer, StatementResult};
 use std::alloc::Global;
 
 /// A refusal of no column.
@@ -29,10 +29,10 @@ pub fn refuses_value(at: UnfitAt) -> Answer
 }
 
 /// An answer that writes nothing.
-pub fn only(alloc: Global, answer: Answer) -> Said
+pub fn only(alloc: Global, answer: Answer) -> StatementResult
     ensures { result ≡ only answer }
 {
-    Said {
+    StatementResult {
         answer,
         events: Sequence::new(alloc),
     }

@@ -11,11 +11,11 @@ use alter_image::ImageFault;
 use event_codec::{Change, RowEvent};
 use gho_values::{Duplicate, Name, Row, Sequence, Value};
 use script_text::{Condition, Shown, Statement};
-use server_words::{Answer, Said, Sought};
+use server_words::{Answer, Sought, StatementResult};
 use std::alloc::{AllocError, Global};
 
 /// One row that is written or removed.
-fn changes(alloc: Global, table: &Name, change: Change) -> Result<Said, AllocError>
+fn changes(alloc: Global, table: &Name, change: Change) -> Result<StatementResult, AllocError>
     ensures { IfOk result (λ said. said ≡ record { answer = Answer.Ok 1; events = record { table = table.now; change = change } ∷ [] }) }
 {
     let mut events = Sequence::new(alloc);
@@ -23,7 +23,7 @@ fn changes(alloc: Global, table: &Name, change: Change) -> Result<Said, AllocErr
         table: table.copy()?,
         change,
     })?;
-    Ok(Said {
+    Ok(StatementResult {
         answer: Answer::Ok(1),
         events,
     })
@@ -34,7 +34,7 @@ fn written_unless(
     name: &Name,
     row: Row,
     clashing: Option<&Row>,
-) -> Result<Said, AllocError>
+) -> Result<StatementResult, AllocError>
     ensures { IfOk result (λ said. said ≡ written_unless name.now row (option_copied clashing.entry)) }
 {
     match clashing {
@@ -50,7 +50,7 @@ fn inserts(
     name: &Name,
     values: &[Value],
     table: &PlainTable,
-) -> Result<Said, AllocError>
+) -> Result<StatementResult, AllocError>
     ensures { IfOk result (λ said. said ≡ inserts name.now values.now table.now) }
 {
     let columns = table.schema.columns.as_slice();
@@ -71,7 +71,7 @@ fn inserts(
     }
 }
 
-fn deletes_row(alloc: Global, name: &Name, row: Option<&Row>) -> Result<Said, AllocError>
+fn deletes_row(alloc: Global, name: &Name, row: Option<&Row>) -> Result<StatementResult, AllocError>
     ensures { IfOk result (λ said. said ≡ deletes_row name.now (option_copied row.entry)) }
 {
     match row {
@@ -87,7 +87,7 @@ fn deletes(
     name: &Name,
     condition: &Condition,
     table: &PlainTable,
-) -> Result<Said, AllocError>
+) -> Result<StatementResult, AllocError>
     ensures { IfOk result (λ said. said ≡ deletes name.now condition.now table.now) }
 {
     match sought(alloc, &table.schema, condition)? {
@@ -116,7 +116,11 @@ fn shown(alloc: Global, row: Option<&Row>) -> Result<Answer, AllocError>
 
 /// SELECT * FROM name WHERE condition
 #[tactic(auto, unfolding(server_words::specs::Statements::selects))]
-fn selects(alloc: Global, condition: &Condition, table: &PlainTable) -> Result<Said, AllocError>
+fn selects(
+    alloc: Global,
+    condition: &Condition,
+    table: &PlainTable,
+) -> Result<StatementResult, AllocError>
     ensures { IfOk result (λ said. said ≡ selects condition.now table.now) }
 {
     match sought(alloc, &table.schema, condition)? {
@@ -135,7 +139,11 @@ fn selects(alloc: Global, condition: &Condition, table: &PlainTable) -> Result<S
 
 /// What a statement says of the tables.
 #[tactic(auto, unfolding(server_words::specs::Statements::says))]
-pub fn says(alloc: Global, tables: &PlainTables, statement: &Statement) -> Result<Said, AllocError>
+pub fn says(
+    alloc: Global,
+    tables: &PlainTables,
+    statement: &Statement,
+) -> Result<StatementResult, AllocError>
     ensures { IfOk result (λ said. said ≡ says tables.now statement.now) }
 {
     match statement {

@@ -10,7 +10,7 @@ use alter_image::{ImageFault, MapColumn, image};
 use event_codec::Change;
 use gho_values::{Key, Name, Row};
 use row_store::{Table, Tables};
-use server_words::{Answer, Said};
+use server_words::{Answer, StatementResult};
 use std::alloc::{AllocError, Global};
 
 fn copies_row(
@@ -19,7 +19,7 @@ fn copies_row(
     map: &[MapColumn],
     table: &Table,
     row: &Row,
-) -> Result<Said, AllocError>
+) -> Result<StatementResult, AllocError>
     ensures { IfOk result (λ said. said ≡ copies_row into.now map.now table.now.table (Some row.now)) }
 {
     // There is no memory for a table of so many columns.
@@ -45,7 +45,7 @@ pub fn copies(
     map: &[MapColumn],
     key: &Key,
     tables: &Tables,
-) -> Result<Said, AllocError>
+) -> Result<StatementResult, AllocError>
     ensures { IfOk result (λ said. said ≡ copies from.now into.now map.now key.now (database tables.now)) }
 {
     let Some(source) = tables.find(from) else {

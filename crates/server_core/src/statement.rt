@@ -14,11 +14,11 @@ use gho_schema::{Column, Schema, same_name};
 use gho_values::{Duplicate, Key, Name, Row, Sequence, StoreFault, Value, seek, store};
 use row_store::{Table, Tables};
 use script_text::{Condition, Set, Shown, Statement};
-use server_words::{Answer, Said, Sought};
+use server_words::{Answer, Sought, StatementResult};
 use std::alloc::{AllocError, Global};
 
 /// One event, as what is written.
-pub fn written(alloc: Global, table: &Name, change: Change) -> Result<Said, AllocError>
+pub fn written(alloc: Global, table: &Name, change: Change) -> Result<StatementResult, AllocError>
     ensures { IfOk result (λ said. said ≡ record { answer = Answer.Ok 1; events = record { table = table.now; change = change } ∷ [] }) }
 {
     let mut events = Sequence::new(alloc);
@@ -26,7 +26,7 @@ pub fn written(alloc: Global, table: &Name, change: Change) -> Result<Said, Allo
         table: table.copy()?,
         change,
     })?;
-    Ok(Said {
+    Ok(StatementResult {
         answer: Answer::Ok(1),
         events,
     })
@@ -71,7 +71,7 @@ fn written_unless(
     name: &Name,
     row: Row,
     clashing: Option<&Row>,
-) -> Result<Said, AllocError>
+) -> Result<StatementResult, AllocError>
     ensures { IfOk result (λ said. said ≡ written_unless name.now row (option_copied clashing.entry)) }
 {
     match clashing {
@@ -81,7 +81,12 @@ fn written_unless(
 }
 
 #[tactic(auto, unfolding(server_words::specs::Statements::inserts))]
-fn inserts(alloc: Global, name: &Name, values: &[Value], table: &Table) -> Result<Said, AllocError>
+fn inserts(
+    alloc: Global,
+    name: &Name,
+    values: &[Value],
+    table: &Table,
+) -> Result<StatementResult, AllocError>
     ensures { IfOk result (λ said. said ≡ inserts name.now values.now table.now.table) }
 {
     let columns = table.schema().columns.as_slice();
@@ -186,7 +191,7 @@ fn sought(alloc: Global, schema: &Schema, condition: &Condition) -> Result<Sough
     }
 }
 
-fn deletes_row(alloc: Global, name: &Name, row: Option<&Row>) -> Result<Said, AllocError>
+fn deletes_row(alloc: Global, name: &Name, row: Option<&Row>) -> Result<StatementResult, AllocError>
     ensures { IfOk result (λ said. said ≡ deletes_row name.now (option_copied row.entry)) }
 {
     match row {
@@ -201,7 +206,7 @@ fn deletes(
     name: &Name,
     condition: &Condition,
     table: &Table,
-) -> Result<Said, AllocError>
+) -> Result<StatementResult, AllocError>
     ensures { IfOk result (λ said. said ≡ deletes name.now condition.now table.now.table) }
 {
     match sought(alloc, table.schema(), condition)? {
@@ -221,7 +226,11 @@ fn shown(alloc: Global, row: Option<&Row>) -> Result<Answer, AllocError>
 }
 
 #[tactic(auto, unfolding(server_words::specs::Statements::selects))]
-fn selects(alloc: Global, condition: &Condition, table: &Table) -> Result<Said, AllocError>
+fn selects(
+    alloc: Global,
+    condition: &Condition,
+    table: &Table,
+) -> Result<StatementResult, AllocError>
     ensures { IfOk result (λ said. said ≡ selects condition.now table.now.table) }
 {
     match sought(alloc, table.schema(), condition)? {
@@ -232,7 +241,11 @@ fn selects(alloc: Global, condition: &Condition, table: &Table) -> Result<Said, 
 
 /// What a statement says of the tables.
 #[tactic(auto, unfolding(server_words::specs::Statements::says))]
-pub fn says(alloc: Global, tables: &Tables, statement: &Statement) -> Result<Said, AllocError>
+pub fn says(
+    alloc: Global,
+    tables: &Tables,
+    statement: &Statement,
+) -> Result<StatementResult, AllocError>
     ensures { IfOk result (λ said. said ≡ says (database tables.now) statement.now) }
 {
     match statement {

@@ -16,7 +16,7 @@ use Rattle.server_words.specs.declared.ended.TxnLine.{TxnLine}
 use Rattle.server_words.specs.declared.ended.EndedTxn.{EndedTxn}
 use Rattle.server_words.specs.declared.ended.Reply.{Reply}
 use Rattle.server_words.specs.declared.ended.Reply.TheVariants as replies
-use Rattle.server_words.specs.declared.said.Said.{Said}
+use Rattle.server_words.specs.declared.said.StatementResult.{StatementResult}
 use Rattle.server_words.specs.Statements.{only, says}
 use Rattle.server_words.specs.States.{after_events}
 
@@ -33,7 +33,7 @@ reply_of (answers.Refused number column) = replies.Error number
 reply_of answer = replies.Ok 0
 
 -- what a line says: BEGIN, COMMIT and ROLLBACK are answered ok 0
-abbrev pub line_says : Database → ScriptWord → Said
+abbrev pub line_says : Database → ScriptWord → StatementResult
 line_says tables (words.Do statement) = says tables statement
 line_says tables word = only (answers.Ok 0)
 

@@ -8,7 +8,7 @@ use Rattle.server_words.specs.declared.answer.Answer.{Answer}
 use Rattle.server_words.specs.declared.answer.Answer.TheVariants as answers
 use Rattle.server_words.specs.declared.request.Request.{Request}
 use Rattle.server_words.specs.declared.request.Request.TheVariants as requests
-use Rattle.server_words.specs.declared.said.Said.{Said}
+use Rattle.server_words.specs.declared.said.StatementResult.{StatementResult}
 use Rattle.server_words.specs.Statements.{says, refuses}
 use Rattle.server_words.specs.Chunks.{keys_of, ends_of, chunk_end, span_keys}
 use Rattle.server_words.specs.Copying.{copies}
@@ -25,7 +25,7 @@ abbrev pub unchanged : Answer → State → Served
 unchanged answer state = record { answer = answer; after = state }
 
 -- what was said, with its events written by the session
-abbrev pub with_said : ℕ → Said → State → Served
+abbrev pub with_said : ℕ → StatementResult → State → Served
 with_said session said state = record { answer = said.answer; after = with_writes session said.events state }
 
 -- of a committed table, where it stands: 1146 where none does

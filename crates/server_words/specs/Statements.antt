@@ -25,12 +25,12 @@ use Rattle.script_text.specs.declared.statement.Shown.TheVariants as shown
 use Rattle.script_text.specs.declared.statement.Set.{Set}
 use Rattle.server_words.specs.declared.answer.Answer.{Answer}
 use Rattle.server_words.specs.declared.answer.Answer.TheVariants as answers
-use Rattle.server_words.specs.declared.said.Said.{Said}
+use Rattle.server_words.specs.declared.said.StatementResult.{StatementResult}
 use Rattle.server_words.specs.declared.said.Sought.{Sought}
 use Rattle.server_words.specs.declared.said.Sought.TheVariants as found
 
 -- an answer that writes nothing
-abbrev pub only : Answer → Said
+abbrev pub only : Answer → StatementResult
 only answer = record { answer = answer; events = [] }
 
 -- a refusal: 1054 no such column, 1062 a key that is there, 1136 another number of values than of columns, 1146 no such
@@ -52,16 +52,16 @@ abbrev pub stored_row : List Column → List Value → Result (List Value) Unfit
 stored_row columns values = stored_from 0 columns values
 
 -- the row is written, unless it clashes with one that is there
-abbrev pub written_unless : List ℕ → List Value → Option (List Value) → Said
+abbrev pub written_unless : List ℕ → List Value → Option (List Value) → StatementResult
 written_unless name row None = record { answer = answers.Ok 1; events = record { table = name; change = Write row } ∷ [] }
 written_unless name row (Some other) = only (refuses 1062)
 
-abbrev pub written_or : List ℕ → TableRows → Result (List Value) UnfitAt → Said
+abbrev pub written_or : List ℕ → TableRows → Result (List Value) UnfitAt → StatementResult
 written_or name table (Err at) = only (refuses_value at)
 written_or name table (Ok row) = written_unless name row (clashing table row None)
 
 -- INSERT INTO name VALUES (values)
-unfoldable pub inserts : List ℕ → List Value → TableRows → Said
+unfoldable pub inserts : List ℕ → List Value → TableRows → StatementResult
 inserts name values table = if length values == length table.schema.columns then written_or name table (stored_row table.schema.columns values) else only (refuses 1136)
 
 -- the place is the one that the key has
@@ -90,30 +90,30 @@ sought schema (Equal (set ∷ [])) = sought_at schema set.value (position (λ co
 sought schema condition = found.Refused (refuses 1235)
 
 -- what is said at the key, or the refusal
-abbrev pub at_key : Sought → (List Value → Said) → Said
+abbrev pub at_key : Sought → (List Value → StatementResult) → StatementResult
 at_key (found.Refused refusal) said = only refusal
 at_key (found.Key key) said = said key
 
 -- the row is removed, where there is one
-abbrev pub deletes_row : List ℕ → Option (List Value) → Said
+abbrev pub deletes_row : List ℕ → Option (List Value) → StatementResult
 deletes_row name None = only (answers.Ok 0)
 deletes_row name (Some row) = record { answer = answers.Ok 1; events = record { table = name; change = Delete row } ∷ [] }
 
 -- DELETE FROM name WHERE condition
-unfoldable pub deletes : List ℕ → Condition → TableRows → Said
+unfoldable pub deletes : List ℕ → Condition → TableRows → StatementResult
 deletes name condition table = at_key (sought table.schema condition) (λ key. deletes_row name (row_at_key table key))
 
 -- SELECT * FROM name WHERE condition
-unfoldable pub selects : Condition → TableRows → Said
+unfoldable pub selects : Condition → TableRows → StatementResult
 selects condition table = at_key (sought table.schema condition) (λ key. only (answers.Rows (option_to_list (row_at_key table key))))
 
 -- what is said of the table of this name, where it stands
-abbrev pub of_table : Option TableRows → (TableRows → Said) → Said
+abbrev pub of_table : Option TableRows → (TableRows → StatementResult) → StatementResult
 of_table None said = only (refuses 1146)
 of_table (Some table) said = said table
 
 -- *What a statement says*. Statements that aren't built yet aren't supported.
-unfoldable pub says : Database → Statement → Said
+unfoldable pub says : Database → Statement → StatementResult
 says tables (statements.Insert name None values) = of_table (find_table name tables) (inserts name values)
 says tables (statements.Delete name condition) = of_table (find_table name tables) (deletes name condition)
 says tables (statements.Select name shown.All condition) = of_table (find_table name tables) (selects condition)

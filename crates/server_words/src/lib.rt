@@ -16,6 +16,6 @@ pub use cause::{Cause, Verdict};
 pub use ended::{EndedTxn, Mark, Replies, Reply, TxnEnd, TxnLine, TxnLines};
 pub use entry::{Asked, Entry, Journal};
 pub use request::Request;
-pub use said::{Said, Sought};
+pub use said::{Sought, StatementResult};
 pub use serve::Serve;
 pub use session::{HeldName, HeldNames, Limits, Session, Sessions, Waiting, Waits};

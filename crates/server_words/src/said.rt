@@ -6,7 +6,7 @@ use gho_values::Key;
 
 /// An answer, and the events that are written with it.
 #[derive(Debug, Drop)]
-pub struct Said {
+pub struct StatementResult {
     /// The answer.
     pub answer: Answer,
     /// What it writes, in order.

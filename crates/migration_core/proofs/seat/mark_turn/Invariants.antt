@@ -1,11 +1,11 @@
 use Rattle.std.proofs.Common.{◌≡◌, ℕ, ◌<◌, ◌^◌, ◌++◌, List, map, take, drop}
 use Rattle.std.specs.List.{AllByRecursion}
 use Rattle.script_text.specs.declared.actor.Actor.{Actor}
-use Rattle.migration_core.specs.declared.seat.Seat.{Seat}
+use Rattle.migration_core.specs.declared.seat.ActorState.{ActorState}
 use Rattle.migration_core.specs.Books.{marked}
 use Rattle.migration_core.proofs.seat.mark_turn.Given as goal
 
-pub record Marking (actor : Actor) (session index : ℕ) (seats all : List Seat) : Type 0 where
+pub record Marking (actor : Actor) (session index : ℕ) (seats all : List ActorState) : Type 0 where
   pub done : take index seats ++ map (marked actor session) (drop index seats) ≡ map (marked actor session) all
   pub below : AllByRecursion (λ seat. seat.turns < 2 ^ 32) (drop index seats)
 

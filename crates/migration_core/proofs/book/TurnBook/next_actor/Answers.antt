@@ -2,7 +2,7 @@ use Rattle.std.proofs.Common.{◌≡◌, sym, ◌∙◌}
 use Rattle.std.specs.List.{find}
 use Rattle.tool_program.specs.Orders.{actors, behind_last, last_actor, is_ready, next_actor}
 use Rattle.migration_core.proofs.Ends.{next_is_ready, next_behind, next_of_all, some_ready, none_ended}
-use Rattle.migration_core.proofs.book.Book.next_actor.Goals as goal
+use Rattle.migration_core.proofs.book.TurnBook.next_actor.Goals as goal
 
 pub returns-in-Some-clause-next : goal.returns-in-Some-clause-next
 returns-in-Some-clause-next c =

@@ -2,7 +2,7 @@ use Rattle.std.proofs.Common.{rules, ◌≡◌, ◌<◌, [], ◌∷◌, ◌++◌
 use Rattle.tool_program.specs.Programs.{progress, after_turn}
 use Rattle.tool_program.specs.Orders.{actors}
 use Rattle.migration_core.proofs.Books.{few_turns, IsBook-more}
-use Rattle.migration_core.proofs.book.Book.add.Goals as goal
+use Rattle.migration_core.proofs.book.TurnBook.add.Goals as goal
 
 pub mark_turn-requires : goal.mark_turn-requires
 mark_turn-requires c =
