@@ -5,7 +5,7 @@ import sys
 
 from judge import Count, Judge
 from program import Ran
-from rules import OWN, REPHRASINGS
+from rules import OWN, OWN_LATER, REPHRASINGS
 from server import Server
 from serving import Bench
 
@@ -19,7 +19,7 @@ class Comparison:
         """The differences of a plan, each with its rule."""
         differences = Judge(plan, check, replay, self.bench.serve(plan), self.count).judge()
         for difference in differences:
-            difference.rule = next((rule.name for rule in OWN if rule.explains(plan, difference)), None)
+            difference.rule = next((rule.name for rule in [*OWN, *OWN_LATER] if rule.explains(plan, difference)), None)
         if any(it.rule is None for it in differences):
             self.rephrase(plan, check, replay, differences)
         for difference in differences:
@@ -57,7 +57,7 @@ class Comparison:
         for rule in rules:
             other = rule.rephrased(other) or other
         again = Judge(plan, check, replay, self.bench.serve(other), Count()).judge()
-        left = {it.key() for it in again if not any(rule.explains(plan, it) for rule in OWN)}
+        left = {it.key() for it in again if not any(rule.explains(plan, it) for rule in [*OWN, *OWN_LATER])}
         unexplained = {it.key() for it in differences if it.rule is None}
         return unexplained - left if left <= unexplained else set()
 

@@ -101,7 +101,7 @@ class Own:
     test: object
 
     def explains(self, plan, difference):
-        ours = int(re.match(r"\d*", difference.ours).group() or 0)
+        ours = int(re.match(r"(?:error )?(\d*)", difference.ours).group(1) or 0)
         return difference.kind in self.kinds and ours in self.codes and bool(self.test(plan, difference))
 
 
@@ -210,6 +210,30 @@ OWN = [
     Own("a key may name one column twice", ("create", "alter"), (0,), repeats_in_key),
     Own("of several faults the first by a fixed order is named", ("create",), (12,), repeats_a_name),
     Own("the PRIMARY KEY has no name", ("alter",), (21,), drops_primary_by_name),
+]
+
+
+# Of statements that the program doesn't run yet (`FEATURES` in making.py).
+
+UNSTORED = ("error 1048", "error 1264", "error 1366", "error 1406", "error 1364", "error 1265")
+
+
+def begins(difference, *wanted):
+    """Whether the statement of an answer begins with one of these words."""
+    return difference.place.partition(": ")[2].upper().startswith(wanted)
+
+
+def displaces_an_equal_row(_, difference):
+    counts = difference.ours.split(" "), difference.theirs.split(" ")
+    return begins(difference, "REPLACE") and [it[0] for it in counts] == ["ok", "ok"] and int(counts[0][1]) == int(counts[1][1]) + 1
+
+
+OWN_LATER = [
+    Own("what a key's column can't hold is refused in a condition", ("answer",), (1366,), lambda _, it: " WHERE " in it.place.upper()),
+    Own("a condition is on a key", ("answer",), (1235,), lambda _, it: " WHERE " in it.place.upper()),
+    Own("an UPDATE sets a column once", ("answer",), (1110,), lambda _, it: begins(it, "UPDATE")),
+    Own("a REPLACE counts each row that it displaces, also an equal one", ("answer",), (0,), displaces_an_equal_row),
+    Own("of several columns that don't store the first of the table is named", ("answer",), (1048, 1264, 1366, 1406, 1364), lambda _, it: it.theirs in UNSTORED),
 ]
 
 

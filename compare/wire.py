@@ -2,6 +2,7 @@
 
 Only what the comparison needs of the protocol is here: no password, no compression, no prepared statement.
 """
+import select
 import socket
 import struct
 
@@ -42,7 +43,7 @@ class Session:
         self.socket.settimeout(seconds)
         self.socket.connect(path)
         self.stream = self.socket.makefile("rb")
-        self.place = 0
+        self.place, self.number = 0, None
         self.greet()
 
     def packet(self):
@@ -61,6 +62,7 @@ class Session:
         greeting = self.packet()
         if greeting[0] == ERROR:
             raise ConnectionError(greeting[3:].decode(errors="replace"))
+        self.number = struct.unpack_from("<I", greeting, greeting.index(b"\0", 1) + 1)[0]
         head = struct.pack("<IIB23x", CAPABILITIES, 1 << 24, UTF8MB4)
         self.send(head + b"root\0" + b"\0" + b"mysql_native_password\0")
         said = self.packet()
@@ -102,6 +104,10 @@ class Session:
             rows.append(row_of(packet, columns))
             packet = self.packet()
         return Rows([name for name, _, _ in columns], rows)
+
+    def is_answered(self, seconds):
+        """Whether the answer of what was begun comes within so many seconds."""
+        return bool(select.select([self.socket], [], [], seconds)[0])
 
     def close(self):
         self.stream.close()
