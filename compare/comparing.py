@@ -5,7 +5,7 @@ import sys
 
 from judge import Count, Judge
 from program import Ran
-from rules import OWN, OWN_LATER, REPHRASINGS
+from rules import OWN, OWN_LATER, REPHRASINGS, in_other_words
 from server import Server
 from serving import Bench
 
@@ -19,7 +19,7 @@ class Comparison:
         """The differences of a plan, each with its rule."""
         differences = Judge(plan, check, replay, self.bench.serve(plan), self.count).judge()
         for difference in differences:
-            difference.rule = next((rule.name for rule in [*OWN, *OWN_LATER] if rule.explains(plan, difference)), None)
+            difference.rule = rule_of(plan, difference)
         if any(it.rule is None for it in differences):
             self.rephrase(plan, check, replay, differences)
         for difference in differences:
@@ -31,7 +31,7 @@ class Comparison:
 
     def rephrase(self, plan, check, replay, differences):
         """Says the plan to the server in the words that a rule takes it for: what then is the same, the rule explains."""
-        chosen = [rule for rule in REPHRASINGS if rule.rephrased(plan) is not None]
+        chosen = [rule for rule in REPHRASINGS if rule.speaks_of(plan, differences)]
         for rules in [[rule] for rule in chosen]:
             self.explain(plan, check, replay, differences, rules)
         if len(chosen) > 1 and self.explained(plan, check, replay, differences, chosen):
@@ -53,13 +53,17 @@ class Comparison:
 
     def explained(self, plan, check, replay, differences, rules):
         """The keys of the differences that these rules together leave none of; nothing where they bring a new one."""
-        other = plan
-        for rule in rules:
-            other = rule.rephrased(other) or other
-        again = Judge(plan, check, replay, self.bench.serve(other), Count()).judge()
-        left = {it.key() for it in again if not any(rule.explains(plan, it) for rule in [*OWN, *OWN_LATER])}
         unexplained = {it.key() for it in differences if it.rule is None}
-        return unexplained - left if left <= unexplained else set()
+        for other in in_other_words(plan, rules):
+            again = Judge(plan, check, replay, self.bench.serve(other), Count()).judge()
+            left = {it.key() for it in again if rule_of(plan, it) is None}
+            if left < unexplained:
+                return unexplained - left
+        return set()
+
+
+def rule_of(plan, difference):
+    return next((rule.name for rule in [*OWN, *OWN_LATER] if rule.explains(plan, difference)), None)
 
 
 def run_both(comparison, program, plans):

@@ -4,6 +4,7 @@ import random
 import scripts
 from alters import alter_of
 from plan import Plan
+from words import words
 
 # What the program doesn't run yet is `False`, and no plan has it; docs/LIMITS.md says what that is.
 FEATURES = {
@@ -25,6 +26,7 @@ WORDS_OF_MYSQL = ["rank", "groups", "order", "select", "interval", "range"]
 LETTERS = ["a", "b", "ab", "B", "x", "yz", "abc", "é", "ß", "", " ", "0", "7", "12", "日本", "A-7", "long text"]
 LETTERS += ["it's", "a\nb", "\\", "%_", "\t", '"', "a\0b", "\r", "😀", "-5", "+5", "1e3"]
 ESCAPES = {"\\": "\\\\", "'": "''", "\n": "\\n", "\t": "\\t", "\r": "\\r", "\0": "\\0"}
+MISTAKES = "NOT NULL DEFAULT PRIMARY KEY UNIQUE INDEX ( ) , FIRST AFTER COLUMN ADD DROP INT VARCHAR(3) 5 'x' `a` id TO COMMENT = ;".split()
 WIDTHS = {"TINYINT": 8, "SMALLINT": 16, "MEDIUMINT": 24, "INT": 32, "BIGINT": 64}
 
 
@@ -56,6 +58,15 @@ def with_remark(r, text):
     if chance(r, 5):
         return text.replace(", ", r.choice([", -- a remark\n", ",\t", ", # it's\n", ",\r\n"]), 1)
     return text
+
+
+def with_mistake(r, text, behind=0):
+    """The text with a word left out, written twice, put in place of another or between two, behind the first words."""
+    listed = [it.text for it in words(text)]
+    at, form = r.randrange(behind, len(listed)), r.choice(["out", "twice", "other", "more"])
+    put = listed[at] if form == "twice" else r.choice(MISTAKES)
+    listed[at : at + (form in ("out", "other"))] = [] if form == "out" else [put]
+    return " ".join(listed)
 
 
 def chance(r, percent):
@@ -254,4 +265,9 @@ def make_plan(seed, number, features=None):
     table = Table(r)
     rows = make_rows(r, table)
     clients = scripts.make_clients(r, table, features)
-    return Plan(f"{number}", table.text, rows, alter_of(r, table), clients, chance(r, 96))
+    alter = alter_of(r, table)
+    if chance(r, 2):
+        table.text = with_mistake(r, table.text, 3)
+    if chance(r, 4):
+        alter = with_mistake(r, alter)
+    return Plan(f"{number}", table.text, rows, alter, clients, chance(r, 96))

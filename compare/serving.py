@@ -120,7 +120,9 @@ class Bench:
 
     def copy(self, plan):
         """The ALTER of an empty copy of the table, and an INSERT of its rows there: all of it, or nothing."""
-        self.session.need("RENAME TABLE t TO old")
+        moved = self.session.ask("RENAME TABLE t TO old")
+        if isinstance(moved, Refused):
+            return refusal_of(moved)
         self.session.need("CREATE TABLE t LIKE old")
         refused = self.alter(plan)
         if not refused[0]:
