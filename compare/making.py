@@ -239,6 +239,8 @@ class Table:
         extra += ["z VARCHAR(0)", "z VARCHAR(2000)", "z TINYINT DEFAULT 300", "z INT NOT NULL DEFAULT NULL", "z VARCHAR(2) DEFAULT 'abc'"]
         extra += ["z INT DEFAULT 'x'", "z INT,", "FOREIGN KEY (id) REFERENCES u (id)", "CHECK (1 = 1)", "z INT ZEROFILL", "PRIMARY KEY (id)"]
         extra += [f"KEY k6 ({self.key.name}, {self.key.name})", "z VARCHAR(1000)", "z INT(0)", "z INT COMMENT 'a' COMMENT 'b'", "KEY `` (id)"]
+        extra += [", ".join(f"UNIQUE u{at} ({self.key.name})" for at in range(9)), ", ".join(f"y{at} INT" for at in range(64)), f"{'n' * 65} INT"]
+        extra += ["z VARCHAR(1000) NOT NULL, UNIQUE kz (z)", ", ".join(f"y{at} VARCHAR(1000)" for at in range(17))]
         extra += [f"KEY k7 ({self.key.name} DESC)", "z INT DEFAULT x'05'", "z VARCHAR(3) DEFAULT x'41'"]
         return [*lines, r.choice(extra)]
 

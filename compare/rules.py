@@ -34,6 +34,7 @@ from facts import (
     rows_are_taken,
 )
 from rephrasing import as_copied, clause_by_clause, keys_as_texts, with_backquotes, with_two_keys, without_collation
+from words import clauses, items
 
 
 @dataclasses.dataclass
@@ -71,6 +72,9 @@ OWN = [
     Own("the table keeps its name", ("alter",), (29,), lambda plan, _: re.search(r"(?i)RENAME (TO|AS)", plan.alter)),
     Own("an integer may become a text, a text bytes, and nothing back", ("alter",), (31,), converts_between_families),
     Own("other clauses are left out", ("alter",), (31,), begins_otherwise),
+    Own("the limits are smaller", ("create",), (15, 16), lambda plan, _: len(items(plan.create)[0]) > 9),
+    Own("the limits are smaller", ("alter",), (31,), lambda plan, _: len(clauses(plan.alter)) + len(items(plan.create)[0]) > 9),
+    Own("the bytes of a key and of a row have no limit", ("create", "alter"), (0,), lambda plan, it: it.theirs in ("1071", "1118")),
     Own("each table has a clustered key", ("create",), (14,), lambda plan, _: not Known(plan.create).clustered),
     Own("a key may name one column twice", ("create", "alter"), (0,), repeats_in_key),
     Own("a column of the clustered key has no DEFAULT NULL", ("create", "alter"), (19, 27), has_null_in_key),
