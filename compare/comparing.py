@@ -66,9 +66,16 @@ def rule_of(plan, difference):
     return next((rule.name for rule in [*OWN, *OWN_LATER] if rule.explains(plan, difference)), None)
 
 
+def printed_by(program, plans):
+    """Each plan with what `check` and `replay` print; a plan that is refused has no altered schema to be printed."""
+    replays = program.run("replay", plans)
+    accepted = [plan for plan, replay in zip(plans, replays) if replay.status != 2 or replay.text.startswith("refused 60")]
+    checks = dict(zip((plan.name for plan in accepted), program.run("check", accepted)))
+    return [(plan, checks.get(plan.name, replay), replay) for plan, replay in zip(plans, replays)]
+
+
 def run_both(comparison, program, plans):
-    checks, replays = program.run("check", plans), program.run("replay", plans)
-    for number, (plan, check, replay) in enumerate(zip(plans, checks, replays)):
+    for number, (plan, check, replay) in enumerate(printed_by(program, plans)):
         comparison.plan(plan, check, replay)
         if sys.stderr.isatty() and number % 50 == 0:
             print(f"\r{number} of {len(plans)} plans", end="", file=sys.stderr)
@@ -114,8 +121,7 @@ def show_rules(program, plans):
     """Each example begins with the rule that it shows, and differs by that rule alone; and each rule has an example."""
     wrong, shown = [], set()
     with Server() as server:
-        checks, replays = program.run("check", plans), program.run("replay", plans)
-        for plan, check, replay in zip(plans, checks, replays):
+        for plan, check, replay in printed_by(program, plans):
             with open(plan.name, encoding="utf-8") as file:
                 wanted = file.readline().removeprefix("# ").strip()
             found = {difference.rule for difference in Comparison(server).plan(plan, check, replay)}
@@ -137,8 +143,7 @@ def plant(program, plans):
     """Changes one count in a copy of an output, and wants exactly that to be told as unexplained."""
     with Server() as server:
         plans = [plan for plan in plans if plan.clients]
-        checks, replays = program.run("check", plans), program.run("replay", plans)
-        for plan, check, replay in zip(plans, checks, replays):
+        for plan, check, replay in printed_by(program, plans):
             before = Comparison(server)
             wrong = planted(replay)
             if wrong is None or before.plan(plan, check, replay):

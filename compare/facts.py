@@ -103,7 +103,7 @@ def is_left_out_of_create(plan, _):
 def is_left_out_of_alter(plan, _):
     if has_key_attribute(clauses(plan.alter), 3) or has_odd_default(plan.alter):
         return True
-    return length_is_out(plan.alter) or has_word(plan.alter, *OTHER_KINDS, *LEFT_OUT, *PASSED_OVER) or re.search(r"\d\.\d|COLUMN \(", plan.alter)
+    return length_is_out(plan.alter) or has_word(plan.alter, *OTHER_KINDS, *LEFT_OUT, *PASSED_OVER) or re.search(r"\d\.\d|COLUMN \(|;\s*\Z", plan.alter)
 
 
 def drops_unique_column(plan, _):
