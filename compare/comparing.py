@@ -5,6 +5,7 @@ import sys
 
 from judge import Count, Judge
 from program import Ran
+from reports import Report
 from rules import OWN, OWN_LATER, REPHRASINGS, in_other_words
 from server import Server
 from serving import Bench
@@ -17,7 +18,7 @@ class Comparison:
 
     def plan(self, plan, check, replay):
         """The differences of a plan, each with its rule."""
-        differences = Judge(plan, check, replay, self.bench.serve(plan), self.count).judge()
+        differences = Judge(plan, check, replay, self.bench.serve(plan, Report(replay).order), self.count).judge()
         for difference in differences:
             difference.rule = rule_of(plan, difference)
         if any(it.rule is None for it in differences):
@@ -55,7 +56,7 @@ class Comparison:
         """The keys of the differences that these rules together leave none of; nothing where they bring a new one."""
         unexplained = {it.key() for it in differences if it.rule is None}
         for other in in_other_words(plan, rules):
-            again = Judge(plan, check, replay, self.bench.serve(other), Count()).judge()
+            again = Judge(plan, check, replay, self.bench.serve(other, Report(replay).order), Count()).judge()
             left = {it.key() for it in again if rule_of(plan, it) is None}
             if left < unexplained:
                 return unexplained - left
@@ -95,6 +96,8 @@ def tell_counts(comparison, plans, version):
     for kind, title in titles.items():
         print(f"{title}: {count.same[kind]} of {count.compared[kind]} the same")
     print(f"rows in those tables: {count.rows_left}")
+    if count.left:
+        print(f"plans followed up to where the locks differ by rule: {count.left}")
     differing = sum(len(found) for found in comparison.by_rule.values())
     print(f"differences: {differing} by a rule of this project's own, {len(comparison.unexplained)} unexplained")
     for rule, found in sorted(comparison.by_rule.items(), key=lambda it: -len(it[1])):

@@ -44,6 +44,7 @@ class Count:
         self.same = dict.fromkeys(self.KINDS, 0)
         self.rows_left = 0
         self.done = 0
+        self.left = 0  # plans that were followed up to where the locks differ
 
     def add(self, kind, is_same):
         self.compared[kind] += 1
@@ -65,8 +66,9 @@ class Judge:
             return self.differences
         self.shape()
         if self.are_rows_taken(code):
-            self.answers()
-            self.end()
+            self.answers() if self.served.replies is None else self.replies()
+            if self.served.left is None:
+                self.end()
         return self.differences
 
     def differ(self, kind, place, ours, theirs):
@@ -110,6 +112,16 @@ class Judge:
             theirs = self.served.answers[client, place]
             if not self.count.add("answer", ours == theirs):
                 self.differ("answer", f"client {client + 1} line {place + 1}: {line}", told(ours), told(theirs))
+
+    def replies(self):
+        """Of transactions beside each other: each client's replies, up to where the locks differ."""
+        self.count.left += self.served.left is not None
+        for client, (ours, theirs) in enumerate(zip(self.report.replies, self.served.replies)):
+            for place in range(len(theirs) if self.served.left else max(len(ours), len(theirs))):
+                (answer, line) = theirs[place] if place < len(theirs) else (("none", 0), "")
+                told_by_us = ours[place] if place < len(ours) else ("none", 0)
+                if not self.count.add("answer", told_by_us == answer):
+                    self.differ("answer", f"client {client + 1} reply {place + 1}: {line}", told(told_by_us), told(answer))
 
     def end(self):
         """The ALTER of the table with its rows, and the rows that are left."""

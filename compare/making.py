@@ -17,6 +17,7 @@ FEATURES = {
     "select_columns": False,  # SELECT of columns and of COUNT(*)
     "quoted_names": False,  # names in backquotes in scripts
     "several_clients": True,  # which take turns; no line waits, since each is a transaction of its own
+    "transactions_beside": False,  # transactions of several clients, which wait for each other
 }
 # Of a hundred choices, how many are made so that they don't fit or are refused.
 ODD = 4
@@ -272,4 +273,5 @@ def make_plan(seed, number, features=None):
         table.text = with_mistake(r, table.text, 3)
     if chance(r, 4):
         alter = with_mistake(r, alter)
-    return Plan(f"{number}", table.text, rows, alter, clients, chance(r, 96))
+    waits = r.choice([1, 3, 20]) if features["transactions_beside"] and len(clients) > 1 else 0
+    return Plan(f"{number}", table.text, rows, alter, clients, chance(r, 96), waits)

@@ -11,6 +11,8 @@ class Plan:
     alter: str
     clients: list
     approve: bool = True
+    # How often a client's wait is polled, where its clients' transactions go beside each other; the report then has the turns.
+    client_wait: int = 0
     # What a rule says to a server in place of the ALTER: texts, pairs of a new and an old column, and the columns of the clustered
     # key. The texts are run on an empty copy of the table, and its rows are then inserted there in order of the key. Where there
     # are no pairs, the server alters the table itself.
@@ -26,9 +28,9 @@ class Plan:
         text += f"[[tables]]\ncreate = {quoted(self.create)}\n"
         if self.rows:
             text += f"rows = [{', '.join(quoted(row) for row in self.rows)}]\n"
-        if self.approve:
-            text += "[options]\napprove_renamed_columns = true\n"
-        return text
+        options = ["approve_renamed_columns = true"] if self.approve else []
+        options += [f"client_wait = {self.client_wait}", "show_turns = true"] if self.client_wait else []
+        return text + "".join(f"{it}\n" for it in (["[options]"] if options else []) + options)
 
     def alters(self):
         return [with_front(it) for it in (self.steps if self.steps is not None else [self.alter])]

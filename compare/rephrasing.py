@@ -43,10 +43,13 @@ def keys_as_texts(plan):
     texts = {name for name, kind in known.families.items() if kind in ("VARCHAR", "VARBINARY")}
 
     def line_of(line):
-        found = re.search(r"(?i)(?<= WHERE )(\S+) = (-?\d+)\s*\Z", line)
-        if found and found.group(1).strip("`").lower() in texts:
-            return f"{line[: found.start()]}{found.group(1)} = '{int(found.group(2))}'"
-        return line
+        listed, column, quoted_one, inside = words(line), None, False, False
+        for word in listed:
+            inside = inside or word.is_word("WHERE")
+            column = word.name() if word.name() and not word.is_word("AND", "BETWEEN") else column
+            if inside and word.kind == "number" and column in texts:
+                word.text, quoted_one = f"'{int(word.text)}'", True
+        return joined(listed) if quoted_one else line
 
     clients = [[line_of(line) for line in script] for script in plan.clients]
     return dataclasses.replace(plan, clients=clients) if clients != plan.clients else None

@@ -16,6 +16,7 @@ class Report:
         self.refused, self.unfit = None, None  # a code; a number and a column
         self.replies = []  # a list for each client
         self.columns, self.rows = None, None
+        self.order = []  # the clients by their turns, from 0, where the report has the order
         refused = REFUSED.match(ran.text)
         if refused:
             self.refused = int(refused.group(1))
@@ -35,6 +36,7 @@ class Report:
         table = TABLE.match(lines[at])
         self.columns = table.group(1) if table else None
         self.rows = sorted(rows_from(lines, at + 1))
+        self.order = [client for line in lines if line.startswith("order ") for client in clients_of(line)]
 
     def read_client(self, lines, at):
         replies = []
@@ -45,6 +47,11 @@ class Report:
             at += 1 + len(rows)
         self.replies.append(replies)
         return at
+
+
+def clients_of(line):
+    for actor, number, _, times in re.findall(r"\b(c)(\d+)(\*(\d+))?", line):
+        yield from [int(number) - 1] * int(times or 1)
 
 
 def rows_from(lines, at):

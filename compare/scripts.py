@@ -97,5 +97,6 @@ def script(r, table, features):
 
 
 def make_clients(r, table, features):
-    count = r.choice([1, 1, 1, 2, 3]) if features["several_clients"] and not features["transactions"] else 1
+    takes_turns = features["several_clients"] and not features["transactions"]
+    count = r.choice([1, 1, 1, 2, 3]) if takes_turns or features["transactions_beside"] else 1
     return [script(r, table, features) for _ in range(count)]

@@ -18,8 +18,8 @@ The system's own server needn't run: the comparison starts one of its own, witho
 # Nothing of the comparison outlives it, so nothing needs to reach the disk.
 COMMON = ["--skip-networking", "--skip-grant-tables", "--innodb-flush-log-at-trx-commit=0", "--skip-log-bin"]
 COMMON += ["--innodb-buffer-pool-size=64M", "--skip-name-resolve", "--lower-case-table-names=0"]
-# A time-out ends the whole transaction, as in the model.
-COMMON += ["--innodb-rollback-on-timeout=ON"]
+# As in the model a time-out ends the whole transaction, and nobody looks for deadlocks.
+COMMON += ["--innodb-rollback-on-timeout=ON", "--innodb-deadlock-detect=OFF"]
 # Refuses what doesn't fit, as the model does.
 STRICT = "STRICT_ALL_TABLES,NO_ENGINE_SUBSTITUTION,NO_ZERO_DATE,NO_ZERO_IN_DATE,ERROR_FOR_DIVISION_BY_ZERO"
 SECONDS_TO_START = 120

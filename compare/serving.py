@@ -1,11 +1,7 @@
 """What a server says to a plan: the table's shape before and after the ALTER, each answer, and the rows that are left."""
-import re
-
-from wire import Ok, Refused
-
-COLUMN_OF_REFUSAL = re.compile(r"olumn [`']?(?:[^`'.]*[`']?\.[`']?)*([^`']*)[`'] at row")
-
-NULL_COLUMN = re.compile(r"Column '([^']*)' cannot be null")
+from beside import Beside
+from printing import answer_of, number_of, printed, printed_row, refusal_of
+from wire import Refused
 
 
 class Served:
@@ -15,6 +11,7 @@ class Served:
         self.created = None  # the number of CREATE's refusal, 0 where it was done
         self.rows_refused = []  # (place of the row, number)
         self.answers = {}  # (client, place of the line): ("ok", N), ("error", number) or ("rows", [texts])
+        self.replies, self.left = None, None  # where an order of turns was followed: each client's, and why not to its end
         self.altered = None  # the number of the refusal of the ALTER on the table without rows, or 0
         self.shape = None  # the shape that the ALTER leaves
         self.copied = None  # the number of the refusal of the ALTER on the table with its rows, or 0
@@ -31,42 +28,6 @@ class Shape:
     def told(self):
         listed = [f"{name} {kind}{'' if nullable else ' NOT NULL'}{f' DEFAULT {default}' if has else ''}" for name, kind, nullable, has, default in self.columns]
         return "; ".join([*listed, *self.keys, f"COMMENT {self.comment}"])
-
-
-def printed(value):
-    """A value by the printing rules of docs/FORMATS.md."""
-    if value is None:
-        return "NULL"
-    if isinstance(value, int):
-        return str(value)
-    if isinstance(value, bytes):
-        return f"x'{value.hex()}'"
-    text = value.replace("\\", "\\\\").replace("'", "''").replace("\n", "\\n").replace("\r", "\\r")
-    return "'" + text.replace("\t", "\\t").replace("\0", "\\0") + "'"
-
-
-def printed_row(row):
-    return f"({', '.join(printed(value) for value in row)})"
-
-
-def answer_of(answer):
-    if isinstance(answer, Ok):
-        return "ok", answer.changed
-    if isinstance(answer, Refused):
-        return "error", answer.number
-    return "rows", sorted(printed_row(row) for row in answer.rows)
-
-
-def refusal_of(answer):
-    """The number of a refusal, and the column that it names."""
-    if not isinstance(answer, Refused):
-        return 0, None
-    column = COLUMN_OF_REFUSAL.search(answer.text)
-    return answer.number, column.group(1) if column else (NULL_COLUMN.search(answer.text) or [None, None])[1]
-
-
-def number_of(answer):
-    return answer.number if isinstance(answer, Refused) else 0
 
 
 def kind_of(column_type):
@@ -86,7 +47,8 @@ class Bench:
         for name in ("plan", "shape"):
             server.database(self.session, name)
 
-    def serve(self, plan):
+    def serve(self, plan, order=None):
+        """By an order of turns where one is given, else line by line."""
         served = Served()
         served.created = self.create("shape", plan)
         if served.created:
@@ -97,13 +59,22 @@ class Bench:
         for place, row in enumerate(plan.rows):
             number = number_of(self.session.ask(f"INSERT INTO t VALUES {row}"))
             served.rows_refused += [(place, number)] if number else []
-        for client, place, line in plan.turns():
+        if order:
+            served.replies, served.left = self.beside(plan, order)
+        for client, place, line in plan.turns() if not order else ():
             served.answers[client, place] = answer_of(self.session.ask(line))
         served.copied, served.column = self.alter(plan) if plan.carried is None else self.copy(plan)
         left = self.session.ask("SELECT * FROM t")
         if not isinstance(left, Refused):
             served.columns, served.rows = left.names, sorted(printed_row(row) for row in left.rows)
         return served
+
+    def beside(self, plan, order):
+        clients = Beside(self.server, plan)
+        try:
+            return clients.follow(order)
+        finally:
+            clients.close()
 
     def create(self, database, plan):
         self.session.need(f"USE {database}")

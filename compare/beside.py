@@ -1,0 +1,108 @@
+"""Clients of transactions beside each other: a server follows the turns of a report, as far as its locks are the model's."""
+import time
+
+from printing import answer_of
+from wire import Refused
+
+# Statements by which a server tells that a session waits, and for a lock of which mode and on which row.
+WAITS = "SELECT 1 FROM information_schema.PROCESSLIST WHERE ID = {0} AND STATE LIKE 'Waiting for%' UNION SELECT 1 FROM information_schema.INNODB_TRX WHERE trx_mysql_thread_id = {0} AND trx_state = 'LOCK WAIT'"
+LOCK = "SELECT l.lock_mode, l.lock_data FROM information_schema.INNODB_TRX t JOIN information_schema.INNODB_LOCKS l ON l.lock_id = t.trx_requested_lock_id WHERE t.trx_mysql_thread_id = {0}"
+
+# The server tells anew who waits ten times a second at most: so it is asked three times.
+APART = 0.12
+
+
+class LocksDiffer(Exception):
+    """The server waits, or goes on, by a rule that the model doesn't have: behind this turn the two have other orders."""
+
+
+class Client:
+    def __init__(self, server, script):
+        self.session = server.session()
+        self.session.need("USE plan")
+        self.session.need("SET innodb_lock_wait_timeout = 1000, lock_wait_timeout = 1000")
+        self.script, self.place, self.replies = script, 0, []  # replies with their lines
+        self.waiting, self.polls, self.inside = False, 0, False
+
+    def line(self):
+        return self.script[self.place]
+
+    def said(self):
+        """A SELECT outside a transaction takes its locks as one inside does."""
+        line = self.line().rstrip("; ")
+        is_single = not self.inside and line.upper().startswith("SELECT")
+        return f"{line} LOCK IN SHARE MODE" if is_single else line
+
+    def take_answer(self):
+        reply = answer_of(self.session.answer())
+        word = self.line().split()[0].upper().rstrip(";")
+        self.inside = word in ("BEGIN", "START") or self.inside and word not in ("COMMIT", "ROLLBACK")
+        self.replies.append((reply, self.line()))
+        self.place, self.waiting = self.place + 1, False
+
+    def time_out(self, monitor):
+        """The whole transaction is rolled back, and the next one follows."""
+        monitor.need(f"KILL QUERY {self.session.number}")
+        self.session.answer()
+        self.session.need("ROLLBACK")
+        self.replies.append((("error", 1205), self.line()))
+        self.place, self.waiting = self.place + 1, False
+        while self.inside:
+            word = self.line().split()[0].upper().rstrip(";")
+            self.inside, self.place = word not in ("COMMIT", "ROLLBACK"), self.place + 1
+
+
+class Beside:
+    def __init__(self, server, plan):
+        self.monitor, self.limit = server.session(), plan.client_wait
+        self.clients = [Client(server, script) for script in plan.clients]
+
+    def waits(self, client):
+        """Whether its statement waits for a lock; else it is answered."""
+        seen = 0
+        while not client.session.is_answered(0.01 if seen == 0 else APART):
+            seen = seen + 1 if self.monitor.need(WAITS.format(client.session.number)).rows else 0
+            if seen == 3:
+                self.look_at_lock(client)
+                return True
+        return False
+
+    def look_at_lock(self, client):
+        locks = self.monitor.ask(LOCK.format(client.session.number))
+        for mode, row in [] if isinstance(locks, Refused) else locks.rows:
+            if "GAP" in mode or "supremum" in (row or ""):
+                raise LocksDiffer("a lock of a gap")
+
+    def turn(self, client):
+        if client.place >= len(client.script):
+            raise LocksDiffer("the model waited more")
+        is_poll = client.waiting
+        if not is_poll:
+            client.session.begin(client.said())
+            client.polls = 0
+        if not self.waits(client):
+            client.take_answer()
+            return
+        client.waiting, client.polls = True, client.polls + is_poll
+        if client.polls == self.limit:
+            client.time_out(self.monitor)
+
+    def follow(self, order):
+        """The replies of each client, up to the turn behind which the locks differ, and why they do."""
+        try:
+            for at, number in enumerate(order):
+                self.turn(self.clients[number])
+                for waiter in [it for it in self.clients if it.waiting]:
+                    is_next = order[at + 1 : at + 2] == [self.clients.index(waiter)]
+                    if not is_next and not self.waits(waiter):
+                        raise LocksDiffer("a lock is taken ahead of its poll")
+        except LocksDiffer as differ:
+            return [client.replies for client in self.clients], str(differ)
+        return [client.replies for client in self.clients], None
+
+    def close(self):
+        for client in self.clients:
+            self.monitor.ask(f"KILL {client.session.number}")
+            client.session.close()
+        time.sleep(0.05)
+        self.monitor.close()
