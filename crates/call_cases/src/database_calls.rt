@@ -102,7 +102,14 @@ fn take_named(
         "add" => add(alloc, tables, name, told)?,
         "put" => put(alloc, tables, &table, row_of(alloc, rest)?, told)?,
         "remove" => remove(tables, &table, &row_of(alloc, rest)?, told)?,
-        "take" => say(told, if tables.take(&table).is_some() { "taken" } else { "missing" })?,
+        "take" => say(
+            told,
+            if tables.take(&table).is_some() {
+                "taken"
+            } else {
+                "missing"
+            },
+        )?,
         "stands" => say(told, if tables.stands(&table) { "yes" } else { "no" })?,
         _ => return Err(CallFault::Unread),
     }

@@ -109,12 +109,7 @@ fn say_answer(alloc: Global, told: &mut Text, answer: Asked2) -> Result<(), Allo
     }
 }
 
-fn take(
-    alloc: Global,
-    locks: &mut RowLocks,
-    call: &str,
-    told: &mut Text,
-) -> Result<(), CallFault>
+fn take(alloc: Global, locks: &mut RowLocks, call: &str, told: &mut Text) -> Result<(), CallFault>
     requires { HoldNumbers locks.old.held }
     ensures { OnOk result (HoldNumbers locks.new.held) }
 {

@@ -38,7 +38,11 @@ fn low_of(alloc: Global, text: &str) -> Result<Bound, CallFault>
 {
     match text.strip_prefix('(') {
         Some(number) => bound_of(alloc, true, number),
-        None => bound_of(alloc, false, text.strip_prefix('[').ok_or(CallFault::Unread)?),
+        None => bound_of(
+            alloc,
+            false,
+            text.strip_prefix('[').ok_or(CallFault::Unread)?,
+        ),
     }
 }
 
@@ -47,7 +51,11 @@ fn high_of(alloc: Global, text: &str) -> Result<Bound, CallFault>
 {
     match text.strip_suffix(')') {
         Some(number) => bound_of(alloc, true, number),
-        None => bound_of(alloc, false, text.strip_suffix(']').ok_or(CallFault::Unread)?),
+        None => bound_of(
+            alloc,
+            false,
+            text.strip_suffix(']').ok_or(CallFault::Unread)?,
+        ),
     }
 }
 
