@@ -99,7 +99,7 @@ impl Migration<'_> {
         ensures { result ≡ is_some (tool_asks self.now (plan_altered self.now) tool.now) }
     {
         // A plan's ALTER can be done, so a tool that isn't over has a call.
-        let _ = self.plan.altered();
+        let _ = self.altered();
         match tool {
             Tool::Done | Tool::Reverted(_) => false,
             Tool::Creating
@@ -120,12 +120,12 @@ impl Migration<'_> {
         let table = self.plan.table();
         let new_table = &self.new_table;
         let request = match tool {
-            Tool::Creating => Request::Create(named(&self.plan.altered().schema, new_table)?),
+            Tool::Creating => Request::Create(named(&self.altered().schema, new_table)?),
             Tool::Reaching => Request::Ends(table.copy()?),
             Tool::Choosing { low, top } => choosing(table, low, top)?,
             Tool::Spanning { low, high, .. } => spanning(table, low, high)?,
             Tool::Copying { keys, copied, .. } => match keys.as_slice().get(*copied) {
-                Some(key) => copying(table, new_table, &self.plan.altered().map, key)?,
+                Some(key) => copying(table, new_table, &self.altered().map, key)?,
                 None => Request::Commit,
             },
             Tool::Renaming => Request::Rename(renaming(alloc, table, new_table, &self.old_table)?),

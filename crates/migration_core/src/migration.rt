@@ -1,10 +1,11 @@
 //! What is to be done: a plan, with the names of the tool's tables.
 
-ghost use Rattle.std.specs.Prelude.{◌≡◌, IfOk};
+ghost use Rattle.std.specs.Prelude.{◌≡◌, Some, IfOk};
+ghost use Rattle.plan_words.specs.PlanData.{plan_altered};
 ghost use Rattle.tool_program.specs.ToolNames.{ghost_name, old_name};
 
 use gho_values::Name;
-use plan_words::Plan;
+use plan_words::{AlteredSchema, Plan};
 use std::alloc::{AllocError, Global};
 use std::marker::Model;
 
@@ -61,5 +62,12 @@ impl<'a> Migration<'a> {
             new_table,
             old_table,
         })
+    }
+
+    /// What the ALTER makes of the plan's table.
+    pub fn altered(&self) -> &AlteredSchema
+        ensures { plan_altered self.now ≡ Some (result.now.schema, result.now.map) }
+    {
+        self.plan.altered()
     }
 }

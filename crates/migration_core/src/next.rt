@@ -79,14 +79,7 @@ impl Migration<'_> {
     fn new_column(&self, alloc: Global, place: u32) -> Result<Name, AllocError>
         ensures { IfOk result (λ name. name ≡ new_column place (plan_altered self.now)) }
     {
-        match self
-            .plan
-            .altered()
-            .schema
-            .columns
-            .as_slice()
-            .get(place as usize)
-        {
+        match self.altered().schema.columns.as_slice().get(place as usize) {
             Some(column) => column.name.copy(),
             None => Name::new(alloc, ""),
         }

@@ -138,7 +138,7 @@ impl TurnBook<'_> {
         ensures ended { IfNone result (has_ended self.now.plan self.now.journal ≡ true) }
     {
         // A plan's ALTER can be done, so a tool that isn't over has a call.
-        let _ = self.migration().plan.altered();
+        let _ = self.migration().altered();
         match self.first_ready(self.behind_last()) {
             Some(actor) => Some(actor),
             None => self.first_ready(self.seats()),

@@ -1,6 +1,6 @@
 //! What stands at the keys of a plan's document.
 
-ghost use Rattle.std.specs.Prelude.{◌≡◌, ◌≤◌, nat_lt, codes, length, is_some, option_map, IfSome};
+ghost use Rattle.std.specs.Prelude.{◌≡◌, ◌≤◌, nat_lt, codes, false, length, is_some, option_map, IfSome};
 ghost use Rattle.toml.specs.Data.{get_member, as_str};
 ghost use Rattle.toml.specs.View.{view, table_view, items_view};
 ghost use Rattle.plan_text.specs.Documents.{member_count, item_count, text_at};
@@ -75,7 +75,7 @@ fn are_texts(items: &[Value]) -> bool
 /// Whether there are more items than so many.
 fn are_more(limit: usize, items: &[Value]) -> bool
     ensures more { result ≡ nat_lt limit (item_count (items_view items.now)) }
-    ensures count { result ≡ nat_lt limit (length items.now) }
+    ensures few { result ≡ false → length items.now ≤ limit }
 {
     items.len() > limit
 }

@@ -1,7 +1,8 @@
-//! The top call between a source and a sink that fail.
+//! The top call between a source and a sink that fail, and of a source that no file of cases holds.
 
 use crate::{Ended, Line, ghost_};
 use gho_edges::{BytesSink, BytesSource, OpenGate, Source};
+use plan_text::PLAN_LIMIT;
 use std::alloc::{AllocError, Global};
 use std::sync::Wait;
 use std::test::Fail;
@@ -67,6 +68,21 @@ fn a_sink_that_fails_at_any_byte_holds_those_before(rt: HostRuntime) -> Result<(
         assert_eq!(rt; printed.ended.status, 5, "at {fail_at}");
         assert_eq!(rt; printed.sink.held(), &text[..fail_at], "at {fail_at}");
         assert_eq!(rt; printed.sink.faults(), 1, "at {fail_at}");
+    }
+    Ok(())
+}
+
+#[test]
+fn bytes_past_the_limit_are_refused(rt: HostRuntime) -> Result<(), Fail> {
+    let cases = [
+        (PLAN_LIMIT, b"refused 60 not_built\n".as_slice()),
+        (PLAN_LIMIT + 1, b"refused 59 too_long\n".as_slice()),
+    ];
+    for (length, text) in cases {
+        let mut source = BytesSource::new(vec![in rt.alloc(); b'\n'; length]?, None);
+        let printed = call(&rt, &["replay"], &mut source, None)?;
+        assert_eq!(rt; printed.ended.status, 2);
+        assert_eq!(rt; printed.sink.held(), text);
     }
     Ok(())
 }

@@ -1,5 +1,6 @@
-use Rattle.std.proofs.Common.{◌≡◌, sym, ◌∙◌}
+use Rattle.std.proofs.Common.{◌≡◌, Some, sym, ◌∙◌, subst}
 use Rattle.std.specs.List.{find}
+use Rattle.plan_words.specs.PlanData.{PlanData, Altered, plan_altered}
 use Rattle.tool_program.specs.Orders.{actors, behind_last, last_actor, is_ready, next_actor}
 use Rattle.migration_core.proofs.Ends.{next_is_ready, next_behind, next_of_all, some_ready, none_ended}
 use Rattle.migration_core.proofs.book.TurnBook.next_actor.Goals as goal
@@ -28,4 +29,5 @@ returns-in-None-clause-ready c = some_ready c.args.self.now.plan c.args.self.now
 
 pub returns-in-None-clause-ended : goal.returns-in-None-clause-ended
 returns-in-None-clause-ended c =
-    none_ended c.args.self.now.plan c.args.self.now.journal (c.altered.result.now.schema, c.altered.result.now.map) c.first_ready-in-None.result (rw c.migration.ensures at c.altered.ensures) (next_none c)
+    let new : Altered = (c.altered.result.now.schema, c.altered.result.now.map) in
+    none_ended c.args.self.now.plan c.args.self.now.journal new c.first_ready-in-None.result (subst (λ (plan : PlanData). plan_altered plan ≡ Some new) c.migration.ensures c.altered.ensures) (next_none c)
