@@ -16,6 +16,3 @@ pub use renaming::{NotRenamed, Pair, Pairs, RenameFault};
 pub use span_rows::SpanRows;
 pub use table::Table;
 pub use tables::{AddFault, Tables};
-
-#[cfg(test)]
-mod tests;
