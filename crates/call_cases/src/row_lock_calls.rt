@@ -51,7 +51,7 @@ fn ask(locks: &mut RowLocks, session: u32, set: &LockSet) -> Result<Asked2, Allo
     requires asked { AreNumbers set.now }
     ensures ok { OnOk result (HoldNumbers locks.new.held) }
 {
-    locks.ask(session, set)
+    Ok(locks.ask(session, set)?)
 }
 
 fn test(locks: &RowLocks, session: u32, set: &LockSet) -> Asked2
