@@ -57,7 +57,7 @@ pub log_grows_on : LogsGrow
 log_grows_on m rows log more done half progress ghost planned fits now = log_goes_on m rows log more done half progress ghost planned.old_key planned.keeps planned.table fits now
 
 -- the same of more keys that are done
-with_done : (m : Migration) (rows : List Row) (log : List RowEvent) (done next half : Row → Bool) (progress : Progress Row) (ghost : GhostRows) → GhostFollows (timeline_of m rows log) next half progress (views_of (key_places m.new) ghost) → IsUnderWay m rows log done half progress ghost
+pub with_done : (m : Migration) (rows : List Row) (log : List RowEvent) (done next half : Row → Bool) (progress : Progress Row) (ghost : GhostRows) → GhostFollows (timeline_of m rows log) next half progress (views_of (key_places m.new) ghost) → IsUnderWay m rows log done half progress ghost
     → IsUnderWay m rows log next half progress ghost
 with_done m rows log done next half progress ghost are now =
     record { log_fits = now.log_fits; end = now.end; are = are; table = now.table; batch = now.batch; chunk = now.chunk; batch_covered = now.batch_covered; chunk_covered = now.chunk_covered; disjoint = now.disjoint }
@@ -123,7 +123,7 @@ chunk_rolls_back_on m rows log left behind keys half progress ghost now = chunk_
 -- ---- events are applied
 
 -- the applier's view is a table
-view_table : (m : Migration) (rows : List Row) (log : List RowEvent) (done half : Row → Bool) (progress : Progress Row) (ghost : GhostRows) → IsPlanned m rows → IsUnderWay m rows log done half progress ghost → IsTable m.new (view_of m ghost)
+pub view_table : (m : Migration) (rows : List Row) (log : List RowEvent) (done half : Row → Bool) (progress : Progress Row) (ghost : GhostRows) → IsPlanned m rows → IsUnderWay m rows log done half progress ghost → IsTable m.new (view_of m ghost)
 view_table m rows log done half progress ghost planned now = all_table m.new planned.new_key ghost.batch ghost.committed now.table now.batch
 
 left_row : (change : Change) (row : Row) (schema : Schema) (rows : List Row) → Fits schema rows change → row_left change ≡ Some row → IsRow schema.columns row
@@ -131,7 +131,7 @@ left_row (Write new) row schema rows fits is = subst (IsRow schema.columns) (let
 left_row (Update before after) row schema rows fits is = subst (IsRow schema.columns) (let one : after ≡ row = cc in one) fits.1
 left_row (Delete old) row schema rows fits is = absurd cc
 
-left_key : (places : List ℕ) (change : Change) (row : Row) → row_left change ≡ Some row → new_key places change ≡ key_of places row
+pub left_key : (places : List ℕ) (change : Change) (row : Row) → row_left change ≡ Some row → new_key places change ≡ key_of places row
 left_key places (Write new) row is = ap (key_of places) (let one : new ≡ row = cc in one)
 left_key places (Update before after) row is = ap (key_of places) (let one : after ≡ row = cc in one)
 left_key places (Delete old) row is = absurd cc

@@ -22,7 +22,7 @@ pub safe_others : (names : List (List ℕ)) (locks : List Lock) (writes : List R
 safe_others names locks writes before after kept safe = record { each = λ other is agree. safe.each other is (agree_then names locks before after other kept agree) }
 
 -- work on tables of one schema is sound on both
-sound_alike : (task : Job) (locks : List Lock) (one two : Option TableRows) → TablesAgree locks one two → WhereFound (λ table. IsSound table.schema.columns (task.work table.schema)) one → WhereFound (λ table. IsSound table.schema.columns (task.work table.schema)) two
+pub sound_alike : (task : Job) (locks : List Lock) (one two : Option TableRows) → TablesAgree locks one two → WhereFound (λ table. IsSound table.schema.columns (task.work table.schema)) one → WhereFound (λ table. IsSound table.schema.columns (task.work table.schema)) two
 sound_alike task locks None None agree sound = tt
 sound_alike task locks None (Some y) agree sound = absurd agree
 sound_alike task locks (Some x) None agree sound = absurd agree

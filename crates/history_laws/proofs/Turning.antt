@@ -24,7 +24,7 @@ use Rattle.history_laws.proofs.Kept.{kept_goes, kept_ends, kept_same, kept_write
 use Rattle.statement_laws.proofs.Tests.{are_one}
 
 -- new_holds of faces
-holds_besides : (number : ℕ) (old new : ℕ → Face) (own : Face) → Besides number old new own → Besides number (λ n. (old n).hold) (λ n. (new n).hold) own.hold
+pub holds_besides : (number : ℕ) (old new : ℕ → Face) (own : Face) → Besides number old new own → Besides number (λ n. (old n).hold) (λ n. (new n).hold) own.hold
 holds_besides number old new own besides = record { there = λ n differ. ap (λ (f : Face). f.hold) (besides.there n differ); here = ap (λ (f : Face). f.hold) besides.here }
 
 pub besides_then : {A : Type 0} (number : ℕ) (one two three : ℕ → A) (a b : A) → Besides number one two a → Besides number two three b → Besides number one three b

@@ -212,7 +212,7 @@ rows_stay names locks a b name one two exclusive reach agree orderly_a orderly_b
 
 -- THROUGH ANY NUMBER OF TURNS
 
-along_front : {E : Type 0} (keeps : List E → E → Type 0) (before front behind : List E) → Along keeps before (front ++ behind) → Along keeps before front
+pub along_front : {E : Type 0} (keeps : List E → E → Type 0) (before front behind : List E) → Along keeps before (front ++ behind) → Along keeps before front
 along_front keeps before [] behind all = tt
 along_front keeps before (entry ∷ front) behind all = (all.0, along_front keeps (before ++ entry ∷ []) front behind all.1)
 

@@ -1,8 +1,8 @@
-mod Others
+pub mod Others
 mod Alone
 mod Locking
-mod Agreements
-mod Spans
+pub mod Agreements
+pub mod Spans
 mod Beginning
 mod Defining
 mod Holding

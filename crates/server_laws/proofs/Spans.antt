@@ -41,7 +41,7 @@ more_no_null (Num n) vs here others = others
 more_no_null (Text text) vs here others = others
 more_no_null (Blob blob) vs here others = others
 
-key_no_null : StoresNullWhereNullable → (columns : List Column) (row : List Value) (places : List ℕ) → IsRow columns row → AllByRecursion (λ place. is_not_null (slice_get columns place) ≡ true) places → no_null (key_of places row) ≡ true
+pub key_no_null : StoresNullWhereNullable → (columns : List Column) (row : List Value) (places : List ℕ) → IsRow columns row → AllByRecursion (λ place. is_not_null (slice_get columns place) ≡ true) places → no_null (key_of places row) ≡ true
 unfolding key_of
 key_no_null where_nullable columns row [] fits not_null = refl
 key_no_null where_nullable columns row (place ∷ places) fits not_null =

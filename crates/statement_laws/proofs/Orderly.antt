@@ -62,7 +62,7 @@ pub orderly_put : (schema : Schema) → HasClusteredKey schema → (new : Row) (
 orderly_put schema key new rows fits none are = (put_keeps nulls (record { schema = schema; rows = rows }) new key are fits (none_clashing schema new rows none)).1
 
 -- a row with columns set
-with_sets_row : (columns : List Column) (sets : List (Option Value)) (row : Row) → SetsFit columns sets → IsRow columns row → IsRow columns (with_sets sets row)
+pub with_sets_row : (columns : List Column) (sets : List (Option Value)) (row : Row) → SetsFit columns sets → IsRow columns row → IsRow columns (with_sets sets row)
 unfolding with_sets
 with_sets_row columns [] row fit is = is
 with_sets_row [] (set ∷ sets) [] fit is = tt
@@ -126,7 +126,7 @@ updates_here schema rows true c still later one two = one
 updates_here schema rows false true still later one two = tt
 updates_here schema rows false false still later one two = two refl
 
-none_besides : (schema : Schema) (new old : Row) (rows : List Row) → clashes_besides schema new old rows ≡ false → list_any (clash schema.uniques new) (without_row old rows) ≡ false
+pub none_besides : (schema : Schema) (new old : Row) (rows : List Row) → clashes_besides schema new old rows ≡ false → list_any (clash schema.uniques new) (without_row old rows) ≡ false
 none_besides schema new old rows none =
     false_unless (list_any (clash schema.uniques new) (without_row old rows)) (λ some.
     let one = some_row (clash schema.uniques new) (without_row old rows) some in

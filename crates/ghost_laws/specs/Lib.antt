@@ -1,0 +1,12 @@
+pub mod Holding
+pub mod Fitting
+pub mod Joined
+pub mod Invariant
+pub mod Given
+pub mod Doings
+pub mod Reading
+pub mod Statements
+pub mod Tool
+pub mod Running
+pub mod Leaving
+pub mod Laws
