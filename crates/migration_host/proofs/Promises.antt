@@ -59,8 +59,11 @@ ended_by (Reverting cause) clients full verdict over is = unended full verdict o
 ended_by (Reverted cause) true full verdict over is = tool_ended verdict full (λ other. cc)
 ended_by (Reverted cause) false full verdict over is = unended full verdict over is
 
+at_most : (a b : ℕ) → nat_le a b ≡ true → a ≤ b
+at_most a b is = grind (arith, nat_tests)
+
 at_limit : (count : ℕ) → nat_le turn_limit count ≡ true → count ≤ turn_limit → count ≡ turn_limit
-at_limit count full bound = grind (arith, nat_tests)
+at_limit count full bound = let least : turn_limit ≤ count = at_most turn_limit count full in omega (arith, least, bound)
 
 by_verdict : (plan : PlanData) (journal : List Entry) (verdict : Verdict) → length journal ≤ turn_limit → By (has_ended plan journal) (nat_le turn_limit (length journal)) verdict → EndsBy plan journal verdict
 by_verdict plan journal verdicts.Unfinished bound by = (by.0, at_limit (length journal) by.1 bound)

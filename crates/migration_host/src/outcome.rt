@@ -3,6 +3,7 @@
 ghost use Rattle.std.specs.Prelude.{◌≡◌, [], ◌++◌, IfSome, IfOk, OnOk, Ok};
 ghost use Rattle.plan_text.specs.Plans.{reads};
 ghost use Rattle.plan_words.specs.Migratable.{IsMigratable};
+ghost use Rattle.migration_host.specs.Checks.{Alters};
 ghost use Rattle.migration_host.specs.Replays.{IsEnd};
 ghost use Rattle.migration_host.specs.Outcomes.{Comes, IsSchemaText, PlanChecks, PlanComes, Refuses, Reports};
 ghost use Rattle.migration_host.specs.Texts.{place_text, refused_text};
@@ -12,6 +13,7 @@ use crate::command::Command;
 use crate::replay::replay_plan;
 use crate::status::{Status, status_of};
 use crate::turns::{Turns, turns_in};
+use gho_schema::Schema;
 use gho_values::{Sequence, Text};
 use migration_core::{End, TURN_LIMIT};
 use plan_text::{PlanFault, Refusal};
@@ -125,18 +127,26 @@ fn reported(
     }
 }
 
+/// What comes of a plan where no turn is taken for want of memory.
+fn unreplayed(alloc: Global, plan: &Plan) -> Outcome
+    requires { IsMigratable plan.now }
+    ensures { PlanComes plan.now result.printed result.turns result.journal }
+{
+    journals_are_serial();
+    untaken(alloc, None)
+}
+
 /// What comes of a plan.
 fn plan_replayed(alloc: Global, plan: &Plan) -> Outcome
     requires { IsMigratable plan.now }
     ensures { PlanComes plan.now result.printed result.turns result.journal }
 {
-    journals_are_serial();
     // The room for the turns is made before the first, so that none that was taken is thrown away.
     let Ok(room) = Vec::with_capacity(alloc, TURN_LIMIT) else {
-        return untaken(alloc, None);
+        return unreplayed(alloc, plan);
     };
     let Ok(left) = replay_plan(alloc, plan) else {
-        return untaken(alloc, None);
+        return unreplayed(alloc, plan);
     };
     Outcome {
         printed: reported(alloc, plan, &left.journal, &left.end),
@@ -145,12 +155,19 @@ fn plan_replayed(alloc: Global, plan: &Plan) -> Outcome
     }
 }
 
+/// The schema that a plan's ALTER leaves.
+fn altered_schema(plan: &Plan) -> &Schema
+    ensures { Alters plan.now result.now }
+{
+    &plan.altered().schema
+}
+
 /// The text of the schema that a plan's ALTER leaves.
 fn schema_text(alloc: Global, plan: &Plan) -> Result<Text, AllocError>
     ensures { IfOk result (λ text. IsSchemaText plan.now text) }
 {
     let mut text = Text::new(alloc);
-    print_schema(&plan.altered().schema, &mut text)?;
+    print_schema(altered_schema(plan), &mut text)?;
     Ok(text)
 }
 

@@ -1,7 +1,8 @@
 //! The replay of a plan.
 
-ghost use Rattle.std.specs.Prelude.{IfSome, IfOk};
+ghost use Rattle.std.specs.Prelude.{◌≤◌, length, IfSome, IfOk};
 ghost use Rattle.plan_words.specs.Migratable.{IsMigratable};
+ghost use Rattle.migration_core.specs.Runs.{turn_limit};
 ghost use Rattle.migration_host.specs.Replays.{IsReplay, IsEnd};
 
 use migration_core::{Left, replay};
@@ -22,6 +23,7 @@ const LIMITS: Limits = Limits {
 pub(crate) fn replay_plan(alloc: Global, plan: &Plan) -> Result<Left<Server>, AllocError>
     requires { IsMigratable plan.now }
     ensures journal { IfOk result (λ left. IsReplay plan.now left.journal) }
+    ensures bound { IfOk result (λ left. length left.journal ≤ turn_limit) }
     ensures end { IfOk result (λ left. IfSome left.end (λ end. IsEnd plan.now left.journal end.verdict end.server)) }
 {
     journals_are_serial();

@@ -1,7 +1,8 @@
 //! Whose turns a run took.
 
 ghost use Rattle.std.specs.Prelude.{◌≡◌, ◌≤◌, [], length};
-ghost use Rattle.std.specs.Vec.{vec_capacity};
+ghost use Rattle.std.specs.Vec.{vec_len, vec_capacity};
+ghost use Rattle.migration_core.specs.Runs.{turn_limit};
 ghost use Rattle.migration_host.specs.Outcomes.{turns_of};
 
 use gho_values::Sequence;
@@ -23,7 +24,9 @@ pub type Turns = Sequence<Turn>;
 /// Whose turns a replay's journal has, in the room that was made for them. It takes no memory.
 pub(crate) fn turns_in(room: Vec<Turn>, journal: &[Entry]) -> Turns
     requires empty { room.items ≡ [] }
-    requires room { length journal.now ≤ vec_capacity room }
+    requires none { vec_len room ≡ 0 }
+    requires capacity { turn_limit ≤ vec_capacity room }
+    requires bound { length journal.now ≤ turn_limit }
     ensures { result ≡ turns_of journal.now }
 {
     let mut turns = room;

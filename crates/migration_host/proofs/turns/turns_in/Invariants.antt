@@ -1,4 +1,5 @@
-use Rattle.std.proofs.Common.{◌≡◌, ◌≤◌, ◌++◌, drop, length, vec_len, vec_capacity}
+use Rattle.std.proofs.Common.{◌≡◌, ◌≤◌, ◌++◌, drop, vec_len, vec_capacity}
+use Rattle.migration_core.specs.Runs.{turn_limit}
 use Rattle.migration_host.specs.Outcomes.{turns_of}
 use Rattle.migration_host.proofs.turns.turns_in.Given as goal
 
@@ -7,5 +8,5 @@ abbrev pub invariant-loop-entry : goal.invariant-loop-entry
 invariant-loop-entry l = record {
   turns_are : l.turns.items ++ turns_of (drop l.entry-index l.journal) ≡ turns_of l.journal;
   count : vec_len l.turns ≡ l.entry-index;
-  room : length l.journal ≤ vec_capacity l.turns;
+  room : turn_limit ≤ vec_capacity l.turns;
 }
