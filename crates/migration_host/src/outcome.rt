@@ -127,7 +127,7 @@ fn reported(
     }
 }
 
-/// What comes of a plan where no turn is taken for want of memory.
+/// What comes of a plan where memory ran out before the first turn.
 fn unreplayed(alloc: Global, plan: &Plan) -> Outcome
     requires { IsMigratable plan.now }
     ensures { PlanComes plan.now result.printed result.turns result.journal }
