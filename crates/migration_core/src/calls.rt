@@ -118,14 +118,15 @@ impl Migration<'_> {
         ensures { IfOk result (λ request. asks_request request ≡ tool_asks self.now (plan_altered self.now) tool.now) }
     {
         let table = self.plan.table();
+        let altered = self.altered();
         let new_table = &self.new_table;
         let request = match tool {
-            Tool::Creating => Request::Create(named(&self.altered().schema, new_table)?),
+            Tool::Creating => Request::Create(named(&altered.schema, new_table)?),
             Tool::Reaching => Request::Ends(table.copy()?),
             Tool::Choosing { low, top } => choosing(table, low, top)?,
             Tool::Spanning { low, high, .. } => spanning(table, low, high)?,
             Tool::Copying { keys, copied, .. } => match keys.as_slice().get(*copied) {
-                Some(key) => copying(table, new_table, &self.altered().map, key)?,
+                Some(key) => copying(table, new_table, &altered.map, key)?,
                 None => Request::Commit,
             },
             Tool::Renaming => Request::Rename(renaming(alloc, table, new_table, &self.old_table)?),
