@@ -1,1 +1,2 @@
 pub mod Appliers
+pub mod Planning

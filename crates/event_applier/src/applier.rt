@@ -23,7 +23,7 @@ pub struct Batch {
     /// The position behind them.
     pub next: u64,
     /// The attempt of the last hint row up to there, or 0.
-    pub hint: u64,
+    pub hint: u128,
     /// How many statements are planned for them.
     pub statements: usize,
 }
@@ -62,7 +62,7 @@ pub struct Applier {
     /// The number of logged events that are applied or passed over.
     pub position: u64,
     /// The attempt of the last hint row before the position, or 0.
-    pub hint: u64,
+    pub hint: u128,
     /// Which call comes next.
     pub step: ApplyStep,
 }

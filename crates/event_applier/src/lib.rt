@@ -2,5 +2,12 @@
 #![tactic(auto)]
 
 mod applier;
+mod calling;
+mod keys;
+mod planning;
+mod sources;
+mod stating;
+mod taking;
 
 pub use applier::{Applier, ApplyStep, Batch, Part};
+pub use stating::name_at;

@@ -1,0 +1,3 @@
+pub mod RowKeys
+pub mod Walks
+pub mod Sets
