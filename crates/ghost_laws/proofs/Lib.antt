@@ -24,3 +24,4 @@ pub mod Placed
 pub mod Returning
 pub mod Leaving
 pub mod Running
+pub mod Copies

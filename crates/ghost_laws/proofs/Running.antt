@@ -134,7 +134,7 @@ still_at m at rows copier applier before after copy apply position stored same p
 copy_at : (m : Migration) (at : Clustered m.schema) (rows : List Row) (copier applier : ℕ) (now : ToolMoment) (copy : CopyState) (apply : ApplyState) → now.copy ≡ copy → KeptAt m at rows copier applier now apply → KeptTool m at rows copy apply now.position copier applier now.stored now.hold
 copy_at m at rows copier applier now copy apply is kept = subst (λ (c : CopyState). KeptTool m at rows c apply now.position copier applier now.stored now.hold) is kept
 
-any_kept : (P : Type 0) (m : Migration) (at : Clustered m.schema) (rows : List Row) (copier applier : ℕ) (now : ToolMoment) → ((apply : ApplyState) → KeptAt m at rows copier applier now apply → P) → ToolStands m at rows copier applier now → P
+pub any_kept : (P : Type 0) (m : Migration) (at : Clustered m.schema) (rows : List Row) (copier applier : ℕ) (now : ToolMoment) → ((apply : ApplyState) → KeptAt m at rows copier applier now apply → P) → ToolStands m at rows copier applier now → P
 any_kept P m at rows copier applier now keeps (at_rest is kept) = keeps Idle kept
 any_kept P m at rows copier applier now keeps (at_work next todo is kept) = keeps (Whole next todo) kept
 any_kept P m at rows copier applier now keeps (halfway next old row rest is kept) = keeps (Half next old row rest) kept

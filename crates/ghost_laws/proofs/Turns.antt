@@ -245,7 +245,7 @@ along_next : {E : Type 0} (keeps : List E → E → Type 0) (before front : List
 along_next keeps before [] entry behind all = subst (λ (b : List _). keeps b entry) (sym (append-nil before)) all.0
 along_next keeps before (first ∷ front) entry behind all = subst (λ (b : List _). keeps b entry) (append_assoc before (first ∷ []) front) (along_next keeps (before ++ first ∷ []) front entry behind all.1)
 
-run_front : (limits : Limits) (scene : Scene) (journal more : List Entry) → IsSceneRun limits scene (journal ++ more) → IsSceneRun limits scene journal
+pub run_front : (limits : Limits) (scene : Scene) (journal more : List Entry) → IsSceneRun limits scene (journal ++ more) → IsSceneRun limits scene journal
 run_front limits scene journal more run =
     record { orderly = run.orderly; migrated = run.migrated; told = along_front (IsTold limits scene) [] journal more run.told; allowed = along_front (IsAllowed limits scene) [] journal more run.allowed }
 

@@ -54,6 +54,7 @@ use Rattle.ghost_laws.specs.Given.{IsGiven}
 use Rattle.ghost_laws.specs.Doings.{planned}
 use Rattle.ghost_laws.specs.Reading.{EventsTold, own_changes, IsTold}
 use Rattle.ghost_laws.specs.Running.{ToolMoment, ToolRun, ToolStands, last_moment}
+use Rattle.ghost_laws.specs.Copies.{IsAltered, IsCopyEnd, IsCopyStart, SceneTurns}
 use Rattle.ghost_laws.specs.Statements.{DoesWork, delete_at, update_at, unfit_at}
 use Rattle.ghost_laws.specs.Tool.{CopyState, ApplyState, HoldsSpan, InChunk, ToolInvariant, AfterStatement, AfterRemoval, SomeRow, start_places, no_ghost}
 use Rattle.ghost_laws.specs.Tool.CopyState.{Waiting, Taking}
@@ -306,3 +307,18 @@ abbrev pub RunsKeep : Type 0
 RunsKeep =
     (m : Migration) (at : Clustered m.schema) (rows : List Row) (place copier applier : ℕ) → IsPlanned m rows → clustered_place m.new ≡ Some place → (first : ToolMoment) (moments : List ToolMoment) → ToolStands m at rows copier applier first → ToolRun m at rows place copier applier first moments
     → ToolStands m at rows copier applier (last_moment first moments)
+
+-- A WHOLE COPY
+
+-- *Copies make the altered table*: from where the copy starts, over turns in any order, to where nothing is left to copy and all
+-- events are committed, the new table becomes the altered one.
+abbrev pub CopiesAlter : Type 0
+CopiesAlter =
+    (m : Migration) (at : Clustered m.schema) (rows : List Row) (place copier applier : ℕ) → IsPlanned m rows → clustered_place m.new ≡ Some place → (first : ToolMoment) (moments : List ToolMoment) → IsCopyStart m rows copier applier first → ToolRun m at rows place copier applier first moments
+    → IsCopyEnd (last_moment first moments) → IsAltered m (last_moment first moments).stored.tables
+
+-- *In a scene*, where the server itself keeps what it keeps: the turns alone make it so.
+abbrev pub SceneCopiesAlter : Type 0
+SceneCopiesAlter =
+    (m : Migration) (at : Clustered m.schema) (rows : List Row) (place copier applier : ℕ) → IsPlanned m rows → clustered_place m.new ≡ Some place → (limits : Limits) (scene : Scene) (journal : List Entry) → IsSceneRun limits scene journal → (first : ToolMoment) (moments : List ToolMoment)
+    → IsCopyStart m rows copier applier first → SceneTurns m at rows place copier applier limits scene journal first moments → IsCopyEnd (last_moment first moments) → IsAltered m (last_moment first moments).stored.tables

@@ -8,5 +8,6 @@ pub mod Reading
 pub mod Statements
 pub mod Tool
 pub mod Running
+pub mod Copies
 pub mod Leaving
 pub mod Laws

@@ -1,6 +1,6 @@
 //! Every turn keeps the ghost relation: each function's contract is a law.
 
-ghost use Rattle.ghost_laws.specs.Laws.{WritesFit, DeedsAreDone, ChangesAgree, CommitsFit, RowsAreHeld, HeldByOne, HeldRowsAreDisjoint, CopyStarts, EmptyCopyStarts, CopyEnds, OthersCommit, OthersGoOn, TablesMove, CopierReturns, ApplierReturns, ChunksAreTold, ChunkBegins, ToldKeysStand, RowCopies, ChunkCommits, RangeIsCopied, ChunkIsLost, ChunkRepeats, BatchIsRead, BatchIsPassed, RowIsPut, RowIsPutAgain, RowIsRemoved, RowIsChanged, UnfitRowIsMissed, StatementIsRefused, RefusedRowIsRemoved, BatchCommits, BatchRepeats, BatchIsLost, RunsKeep};
+ghost use Rattle.ghost_laws.specs.Laws.{WritesFit, DeedsAreDone, ChangesAgree, CommitsFit, RowsAreHeld, HeldByOne, HeldRowsAreDisjoint, CopyStarts, EmptyCopyStarts, CopyEnds, OthersCommit, OthersGoOn, TablesMove, CopierReturns, ApplierReturns, ChunksAreTold, ChunkBegins, ToldKeysStand, RowCopies, ChunkCommits, RangeIsCopied, ChunkIsLost, ChunkRepeats, BatchIsRead, BatchIsPassed, RowIsPut, RowIsPutAgain, RowIsRemoved, RowIsChanged, UnfitRowIsMissed, StatementIsRefused, RefusedRowIsRemoved, BatchCommits, BatchRepeats, BatchIsLost, RunsKeep, CopiesAlter, SceneCopiesAlter};
 
 /// Behind every run, what each session wrote fits the committed tables, under its locks.
 pub fn writes_fit()
@@ -92,4 +92,10 @@ pub fn batches_end()
 /// Turns in any order keep it.
 pub fn runs_keep()
     ensures { RunsKeep }
+{}
+
+/// From its start to its end, a copy makes the new table the altered one.
+pub fn copies_alter()
+    ensures served { CopiesAlter }
+    ensures scene { SceneCopiesAlter }
 {}
