@@ -210,7 +210,7 @@ serial words source sink turns journal number (reverted n is prints) some = prin
 serial words source sink turns journal number (read_fault n is prints) some = none_taken turns journal prints.untaken some
 serial words source sink turns journal number (write_fault n prints) some = came source (Some prints.printed) turns journal (command words) prints.comes some
 serial words source sink turns journal number (no_memory n prints) some = came source None turns journal (command words) prints.comes some
-serial words source sink turns journal number (turns_spent n is prints) some = prints.0.serial
+serial words source sink turns journal number (turns_spent n is prints) some = prints.serial
 
 -- status 0
 pub under_0 : (words : List (List ℕ)) (source : Taking) (sink : Giving) (turns : List Turn) (journal : List Entry) (number : ℕ) → Ends words source sink turns journal number → number ≡ 0 → command words ≡ Some Replay → PrintsReport source sink turns journal verdicts.Done

@@ -16,6 +16,7 @@ use crate::turns::{Turns, turns_in};
 use gho_schema::Schema;
 use gho_values::{Sequence, Text};
 use migration_core::{End, TURN_LIMIT};
+use plan_laws::laws::accepted_plans_are_migratable;
 use plan_text::{PlanFault, Refusal};
 use plan_words::Plan;
 use report_text::report;
@@ -195,6 +196,15 @@ fn plan_outcome(alloc: Global, command: Command, plan: &Plan) -> Outcome
     }
 }
 
+/// What comes of a plan's bytes under a command, where memory ran out before they were read.
+fn unread(alloc: Global, command: Command, bytes: &[u8]) -> Outcome
+    ensures { Comes command (reads bytes.now) result.printed result.turns result.journal }
+{
+    accepted_plans_are_migratable();
+    journals_are_serial();
+    untaken(alloc, None)
+}
+
 /// What comes of a plan's bytes under a command.
 pub fn outcome_of(alloc: Global, command: Command, bytes: &[u8]) -> Outcome
     ensures { Comes command (reads bytes.now) result.printed result.turns result.journal }
@@ -202,6 +212,6 @@ pub fn outcome_of(alloc: Global, command: Command, bytes: &[u8]) -> Outcome
     match read_plan(alloc, bytes) {
         Ok(plan) => plan_outcome(alloc, command, &plan),
         Err(PlanFault::Refused(refusal)) => untaken(alloc, refused(alloc, refusal)),
-        Err(PlanFault::Memory) => untaken(alloc, None),
+        Err(PlanFault::Memory) => unread(alloc, command, bytes),
     }
 }
