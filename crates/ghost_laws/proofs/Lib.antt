@@ -23,5 +23,6 @@ pub mod Turns
 pub mod Placed
 pub mod Returning
 pub mod Leaving
+pub mod Granting
 pub mod Running
 pub mod Copies

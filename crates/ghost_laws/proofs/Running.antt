@@ -26,12 +26,13 @@ use Rattle.ghost_laws.specs.Reading.{own_changes}
 use Rattle.ghost_laws.specs.Running.{KeptTool, KeptAt, ToolMoment, ToolStands, ToolTurn, ApplierStays, CopierStays}
 use Rattle.ghost_laws.specs.Running.ApplyPlan.{Resting, Planned, Returning}
 use Rattle.ghost_laws.specs.Running.ToolStands.{at_rest, at_work, halfway, returns}
-use Rattle.ghost_laws.specs.Running.ToolTurn.{other_commits, other_goes_on, tables_move, chunk_begins, row_copies, chunk_commits, range_ends, chunk_is_lost, chunk_repeats, batch_is_read, batch_is_passed, row_is_put, row_is_removed, row_is_changed, unfit_row_is_missed, change_is_refused, refused_row_is_removed, row_returns, batch_commits, batch_repeats, batch_is_lost}
+use Rattle.ghost_laws.specs.Running.ToolTurn.{other_commits, other_does_single, other_goes_on, tables_move, chunk_begins, row_copies, chunk_commits, range_ends, chunk_is_lost, chunk_repeats, batch_is_read, batch_is_passed, row_is_put, row_is_removed, row_is_changed, unfit_row_is_missed, change_is_refused, refused_row_is_removed, row_returns, batch_commits, batch_repeats, batch_is_lost}
 use Rattle.ghost_laws.specs.Statements.{by_key, update_at}
 use Rattle.ghost_laws.specs.Tool.{ApplyState, CopyState, AfterStatement, AfterRemoval}
 use Rattle.ghost_laws.specs.Tool.AfterRemoval.{gone_whole, gone_half}
 use Rattle.ghost_laws.specs.Tool.CopyState.{Waiting}
 use Rattle.ghost_laws.specs.Tool.ApplyState.{Idle, Whole, Half}
+use Rattle.ghost_laws.proofs.Granting.{job_served}
 use Rattle.ghost_laws.proofs.Keeping.{view_found}
 use Rattle.ghost_laws.proofs.Placed as placed
 use Rattle.ghost_laws.proofs.Saying.{applier_says}
@@ -151,13 +152,22 @@ after_removal m at rows copier applier before after next row rest apply changes 
 
 pub turn_keeps : (m : Migration) (at : Clustered m.schema) (rows : List Row) (place copier applier : ℕ) → IsPlanned m rows → clustered_place m.new ≡ Some place → (before after : ToolMoment) → IsServed before.stored before.hold → ToolStands m at rows copier applier before → ToolTurn m at rows place copier applier before after
     → ToolStands m at rows copier applier after
-turn_keeps m at rows place copier applier plan is before after served stands (other_commits number middle own not_copier not_applier besides middle_served none commits copy stays) =
+turn_keeps m at rows place copier applier plan is before after served stands (other_commits number not_copier not_applier none commits copy stays) =
     stands_over m at rows copier applier before after stays (λ apply kept.
     kept_at m at rows copier applier after before.copy apply before.position copy stays.1 (record {
       progress = record (kept.progress) { end = length after.stored.log };
       ghost = kept.ghost;
       here = kept.here;
-      tool = client_commits m at rows before.copy apply kept.progress kept.ghost copier applier number before.stored after.stored middle after.hold plan middle_served
+      tool = client_commits m at rows before.copy apply kept.progress kept.ghost copier applier number before.stored after.stored before.hold after.hold plan served
+          kept.tool not_copier not_applier none commits.besides commits.tables commits.log;
+    })) stands
+turn_keeps m at rows place copier applier plan is before after served stands (other_does_single number middle own job not_copier not_applier sound given named mine besides none commits copy stays) =
+    stands_over m at rows copier applier before after stays (λ apply kept.
+    kept_at m at rows copier applier after before.copy apply before.position copy stays.1 (record {
+      progress = record (kept.progress) { end = length after.stored.log };
+      ghost = kept.ghost;
+      here = kept.here;
+      tool = client_commits m at rows before.copy apply kept.progress kept.ghost copier applier number before.stored after.stored middle after.hold plan (job_served before.stored before.hold middle number job own served sound given named mine besides)
           (tool_rests m at rows before.copy apply kept.progress kept.ghost copier applier number before.stored before.hold middle own kept.tool not_copier not_applier besides) not_copier not_applier none commits.besides commits.tables commits.log;
     })) stands
 turn_keeps m at rows place copier applier plan is before after served stands (other_goes_on number own not_copier not_applier besides stored copy stays) =

@@ -17,6 +17,7 @@ use Rattle.event_applier.specs.Appliers.{Doing}
 use Rattle.event_applier.specs.Appliers.Doing.{Putting, Removing, Changing}
 use Rattle.statement_laws.specs.Agreeing.{Within}
 use Rattle.statement_laws.specs.Covering.{Apart}
+use Rattle.statement_laws.specs.Databases.{TaskSound}
 use Rattle.history_laws.specs.Scenes.{Stored, SessionHold, no_hold, Besides}
 use Rattle.ghost_relation.specs.Views.{Progress}
 use Rattle.ghost_rows.specs.Moments.{Row, rows_at}
@@ -92,12 +93,17 @@ answer_of now applier job = (job_says (after_events now.stored.tables (now.hold 
 abbrev pub NoRowSeen : Migration → ToolMoment → ℕ → Row → Type 0
 NoRowSeen m now applier key = (seen : List Row) → find_table m.new.name (after_events now.stored.tables (now.hold applier).writes) ≡ Some (record { schema = m.new; rows = seen }) → find (is_at (key_places m.new) key) seen ≡ None
 
+-- the session keeps the names that it holds
+abbrev pub KeepsNames : SessionHold → SessionHold → Type 0
+KeepsNames before after = (name : List ℕ) → list_any (bytes_eq name) before.names ≡ true → list_any (bytes_eq name) after.names ≡ true
+
 -- *A turn* leads from one moment to the next, where the new table's clustered key stands at this place.
 pub data ToolTurn (m : Migration) (at : Clustered m.schema) (rows : List Row) (place copier applier : ℕ) (before after : ToolMoment) : Type 0 where
-  -- another session commits what it wrote, in a transaction that it had or by a single statement; goes on, or is lost; and other
-  -- tables are made, dropped or renamed
-  other_commits : (number : ℕ) (middle : ℕ → SessionHold) (own : SessionHold) → (copier == number) ≡ false → (applier == number) ≡ false → Besides number before.hold middle own → IsServed before.stored middle → NotOf m.new.name (middle number).writes → Commits number middle before after → CopierStays before after
-      → ApplierStays before after → ToolTurn m at rows place copier applier before after
+  -- another session commits what it wrote in its transaction; is granted a single statement, and commits at once; goes on, or is
+  -- lost; and other tables are made, dropped or renamed
+  other_commits : (number : ℕ) → (copier == number) ≡ false → (applier == number) ≡ false → NotOf m.new.name (before.hold number).writes → Commits number before.hold before after → CopierStays before after → ApplierStays before after → ToolTurn m at rows place copier applier before after
+  other_does_single : (number : ℕ) (middle : ℕ → SessionHold) (own : SessionHold) (job : Job) → (copier == number) ≡ false → (applier == number) ≡ false → TaskSound job (after_events before.stored.tables (before.hold number).writes) → IsGiven before.stored before.hold number job own → KeepsNames (before.hold number) own
+      → list_any (bytes_eq job.table) own.names ≡ true → Besides number before.hold middle own → NotOf m.new.name (middle number).writes → Commits number middle before after → CopierStays before after → ApplierStays before after → ToolTurn m at rows place copier applier before after
   other_goes_on : (number : ℕ) (own : SessionHold) → (copier == number) ≡ false → (applier == number) ≡ false → Besides number before.hold after.hold own → after.stored ≡ before.stored → CopierStays before after → ApplierStays before after → ToolTurn m at rows place copier applier before after
   tables_move : after.stored.log ≡ before.stored.log → find_table m.name after.stored.tables ≡ find_table m.name before.stored.tables → find_table m.new.name after.stored.tables ≡ find_table m.new.name before.stored.tables → after.hold ≡ before.hold → CopierStays before after → ApplierStays before after
       → ToolTurn m at rows place copier applier before after
@@ -105,7 +111,7 @@ pub data ToolTurn (m : Migration) (at : Clustered m.schema) (rows : List Row) (p
   chunk_begins : (own : SessionHold) (low : Bound) (high top : Row) (keys : List Row) → before.copy ≡ Waiting (Some (record { low = low; high = Closed top })) → Besides copier before.hold after.hold own → Within (before.hold copier).locks own.locks → Apart own.locks (before.hold applier).locks
       → own.writes ≡ (before.hold copier).writes → InChunk m at rows before.stored own low high keys → after.stored ≡ before.stored → after.copy ≡ Taking low high top keys 0 → ApplierStays before after → ToolTurn m at rows place copier applier before after
   row_copies : (own : SessionHold) (job : Job) (low : Bound) (high top : Row) (keys : List Row) (n : ℕ) (key row made : Row) → before.copy ≡ Taking low high top keys n → slice_get keys n ≡ Some key → DoesWork m job (works.Copy made) → DoesJob m copier job own before after
-      → ((name : List ℕ) → list_any (bytes_eq name) (before.hold copier).names ≡ true → list_any (bytes_eq name) own.names ≡ true)
+      → KeepsNames (before.hold copier) own
       → find (is_at (key_places m.schema) key) (rows_at m.name (key_places m.schema) rows before.stored.log (length before.stored.log)) ≡ Some row → image m.columns row ≡ Ok made → after.copy ≡ Taking low high top keys (suc n) → ApplierStays before after → ToolTurn m at rows place copier applier before after
   chunk_commits : (low : Bound) (high top : Row) (keys : List Row) → before.copy ≡ Taking low high top keys (length keys) → Commits copier before.hold before after → after.copy ≡ Waiting (Some (record { low = Open high; high = Closed top })) → ApplierStays before after → ToolTurn m at rows place copier applier before after
   range_ends : (top : Row) → before.copy ≡ Waiting (Some (record { low = Open top; high = Closed top })) → after.stored ≡ before.stored → after.hold ≡ before.hold → after.copy ≡ Waiting None → ApplierStays before after → ToolTurn m at rows place copier applier before after
