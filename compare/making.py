@@ -1,4 +1,4 @@
-"""Random plans: a table, its rows, the clients' lines and an ALTER. A seed and a number give the same plan always."""
+"""Random plans: a table, its rows, the clients' lines and an ALTER. A series and a number give the same plan always."""
 import random
 
 import scripts
@@ -261,9 +261,9 @@ def make_rows(r, table):
     return rows
 
 
-def make_plan(seed, number, features=None):
+def make_plan(series, number, features=None):
     """The plan of a number."""
-    r = random.Random(f"{seed} {number}")
+    r = random.Random(f"{series} {number}")
     features = FEATURES if features is None else features
     table = Table(r)
     rows = make_rows(r, table)

@@ -9,7 +9,9 @@ use crate::map::{MapColumn, Origin};
 use gho_values::{Row, Sequence, StoreFault, Value, store};
 use std::alloc::Global;
 
-fn source<'a>(origin: &'a Origin, row: &'a [Value], null: &'a Value) -> &'a Value
+/// What a new column gets from a row before it stores it: the old value, or the added default. The caller lends a null for a row
+/// without the old place.
+pub fn source<'a>(origin: &'a Origin, row: &'a [Value], null: &'a Value) -> &'a Value
     requires { null.now ≡ Value.Null }
     ensures { result.now ≡ source origin.now row.now }
 {

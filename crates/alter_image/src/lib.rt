@@ -8,5 +8,5 @@ mod map;
 
 pub use clause::{Clause, Clauses, NewColumn, Spot};
 pub use image_fault::{ImageFault, UnfitAt};
-pub use imaging::image;
+pub use imaging::{image, source};
 pub use map::{ColumnMap, MapColumn, Origin};

@@ -7,20 +7,20 @@ use std::alloc::{AllocError, Global};
 
 /// An event that was read, how many bytes it took, what it costs, and its bytes again behind a byte that was there.
 #[derive(Drop)]
-struct Respelled {
+struct Reencoded {
     event: RowEvent,
     taken: usize,
     cost: u64,
     bytes: Bytes,
 }
 
-fn respell(alloc: Global, bytes: &[u8]) -> Result<Respelled, DecodeFault> {
+fn reencode(alloc: Global, bytes: &[u8]) -> Result<Reencoded, DecodeFault> {
     let (event, taken) = decode(alloc, bytes)?;
     let cost = cost(&event);
     let mut into = Sequence::new(alloc);
     into.push(7)?;
     encode(alloc, &event, &mut into)?;
-    Ok(Respelled {
+    Ok(Reencoded {
         event,
         taken,
         cost,
@@ -28,12 +28,12 @@ fn respell(alloc: Global, bytes: &[u8]) -> Result<Respelled, DecodeFault> {
     })
 }
 
-/// Whether the event took all the bytes, and is spelled in just these.
-fn is_same(reread: &Respelled, bytes: &[u8]) -> bool {
-    let [7, spelled @ ..] = reread.bytes.as_slice() else {
+/// Whether the event took all the bytes, and is encoded in just these.
+fn is_same(reread: &Reencoded, bytes: &[u8]) -> bool {
+    let [7, encoded @ ..] = reread.bytes.as_slice() else {
         return false;
     };
-    reread.taken == bytes.len() && reread.cost == bytes.len() as u64 && spelled == bytes
+    reread.taken == bytes.len() && reread.cost == bytes.len() as u64 && encoded == bytes
 }
 
 fn told_event(alloc: Global, event: &RowEvent) -> Result<Text, AllocError> {
@@ -58,14 +58,14 @@ fn told_event(alloc: Global, event: &RowEvent) -> Result<Text, AllocError> {
     Ok(told)
 }
 
-/// The event of bytes that are its spelling, or the fault of others.
+/// The event of bytes that are its encoding, or the fault of others.
 pub fn decoded(alloc: Global, input: &str) -> Result<Text, CallFault> {
     let bytes = bytes_of(alloc, input)?;
-    let word = match respell(alloc, bytes.as_slice()) {
+    let word = match reencode(alloc, bytes.as_slice()) {
         Ok(event) if is_same(&event, bytes.as_slice()) => {
             return Ok(told_event(alloc, &event.event)?);
         }
-        Ok(_) => "is spelled otherwise",
+        Ok(_) => "is encoded otherwise",
         Err(DecodeFault::Cut) => "cut",
         Err(DecodeFault::BadTag) => "bad tag",
         Err(DecodeFault::BadLength) => "bad length",

@@ -42,7 +42,7 @@ pub fn old_name(alloc: Global, table: &Name) -> Result<Name, AllocError>
 }
 
 /// Whether a name is the migrated table's between a low line and an ending.
-#[tactic(auto, using(crate::proofs::Fronts::front))]
+#[tactic(auto, using(crate::proofs::Prefixes::prefix))]
 fn is_name_with(table: &Name, ending: &str, name: &Name) -> bool
     ensures { result ≡ bytes_eq name.now (codes "_" ++ table.now ++ ending.now) }
 {

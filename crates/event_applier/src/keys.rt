@@ -7,8 +7,7 @@ ghost use Rattle.gho_values.specs.Comparing.{compare_keys};
 ghost use Rattle.gho_schema.specs.Rows.{key_of};
 ghost use Rattle.event_applier.specs.Appliers.{given_values, changes_key};
 
-use crate::sources::source;
-use alter_image::MapColumn;
+use alter_image::{MapColumn, source};
 use gho_schema::Schema;
 use gho_values::Value;
 

@@ -5,7 +5,6 @@ mod applier;
 mod calling;
 mod keys;
 mod planning;
-mod sources;
 mod stating;
 mod taking;
 

@@ -7,8 +7,7 @@ ghost use Rattle.event_applier.specs.Planning.{meant};
 
 use crate::applier::Applier;
 use crate::planning::Planned;
-use crate::sources::source;
-use alter_image::MapColumn;
+use alter_image::{MapColumn, source};
 use gho_schema::{Column, Schema};
 use gho_values::{Duplicate, Name, Row, Sequence, Value};
 use script_text::{Condition, Set, Sets, Statement};

@@ -1,6 +1,6 @@
-pub mod OneSpelling
+pub mod OneEncoding
 pub mod ReadBack
 pub mod ReadValues
 pub mod Sizes
-pub mod Spellings
+pub mod Encodings
 pub mod Texts

@@ -1,4 +1,4 @@
--- How many bytes the parts of an event are spelled in.
+-- How many bytes the parts of an event are encoded in.
 use Rattle.std.proofs.Common.{◌≡◌, ℕ, ℤ, ◌+◌, ◌/◌, ◌%◌, ◌^◌, ◌<◌, ◌≤◌, List, [], ◌∷◌, ◌++◌, length, take, get_or, refl, ap, sym, ◌∙◌, arith, length-append}
 use Rattle.std.specs.Int.{w128, cast_unsigned}
 use Rattle.std.proofs.lemmas.Grind.{flat_map-append}
@@ -6,7 +6,7 @@ use Rattle.std.proofs.lemmas.List.{append-nil, drop_more, drop_all}
 use Rattle.gho_values.specs.declared.value.Value.{Value}
 use Rattle.gho_values.specs.declared.value.Value.TheVariants.{Null, Num, Text, Blob}
 use Rattle.event_codec.specs.declared.event.RowEvent.{RowEvent}
-use Rattle.event_codec.specs.Spelling.{length_bytes, half_bytes, number_bytes, sized, value_bytes, values_bytes, columns_of, values_of, body_of, spelled}
+use Rattle.event_codec.specs.Encoding.{length_bytes, half_bytes, number_bytes, sized, value_bytes, values_bytes, columns_of, values_of, body_of, encoded}
 
 pub length-length_bytes : (n : ℕ) → length (length_bytes n) ≡ 4
 unfolding length_bytes
@@ -60,9 +60,9 @@ pub length-body : (event : RowEvent) → length (body_of event) ≡ length (valu
 unfolding body_of
 length-body event = omega (arith, length-append event.table (columns_of event.change ∷ values_bytes (values_of event.change)))
 
-pub length-spelled : (event : RowEvent) → length (spelled event) ≡ length (values_bytes (values_of event.change)) + length event.table + 7
-unfolding spelled
-length-spelled event = omega (arith, length-sized (body_of event), length-body event)
+pub length-encoded : (event : RowEvent) → length (encoded event) ≡ length (values_bytes (values_of event.change)) + length event.table + 7
+unfolding encoded
+length-encoded event = omega (arith, length-sized (body_of event), length-body event)
 
 pub length-both : (before after : List Value) → length (values_bytes (before ++ after)) ≡ length (values_bytes before) + length (values_bytes after)
 length-both before after = ap length (values_bytes-append before after) ∙ length-append (values_bytes before) (values_bytes after)
@@ -73,4 +73,4 @@ pub ruleset of_values = (length-none, values_bytes-none, values_bytes-cons, leng
 
 pub ruleset of_changes = (length-both)
 
-pub ruleset of_events = (length-spelled, length-body)
+pub ruleset of_events = (length-encoded, length-body)

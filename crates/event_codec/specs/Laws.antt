@@ -1,11 +1,11 @@
--- What holds of all events and their spellings. The functions of the module `laws` prove each.
+-- What holds of all events and their encodings. The functions of the module `laws` prove each.
 use Rattle.std.specs.Prelude.{◌≡◌, ℕ, ◌<◌, List, ◌++◌, length, take, Ok}
 use Rattle.std.specs.List.{AllByRecursion}
 use Rattle.std.specs.Str.{IsUtf8}
 use Rattle.gho_values.specs.declared.value.Value.{Value}
 use Rattle.gho_values.specs.declared.value.Value.TheVariants.{Text}
 use Rattle.event_codec.specs.declared.event.RowEvent.{RowEvent}
-use Rattle.event_codec.specs.Spelling.{spelled, values_of, IsSpelled}
+use Rattle.event_codec.specs.Encoding.{encoded, values_of, IsEncodable}
 use Rattle.event_codec.specs.Reading.{decoded}
 
 -- A value that the program can hold: texts are UTF-8.
@@ -13,20 +13,20 @@ abbrev pub IsHeld : Value → Type 0
 IsHeld (Text text) = IsUtf8 text
 IsHeld value = Unit {0}
 
--- An event that the program can hold and that is spelled.
+-- An event that the program can hold and that is encoded.
 pub record IsWritten (event : RowEvent) : Type 0 where
-  pub spelled : IsSpelled event
+  pub encoded : IsEncodable event
   pub name : IsUtf8 event.table
   pub values : AllByRecursion IsHeld (values_of event.change)
 
 -- What is written is read, whatever stands behind it.
 abbrev pub ReadsWhatIsWritten : Type 0
-ReadsWhatIsWritten = (event : RowEvent) (behind : List ℕ) → IsWritten event → decoded (spelled event ++ behind) ≡ Ok (event, length (spelled event))
+ReadsWhatIsWritten = (event : RowEvent) (behind : List ℕ) → IsWritten event → decoded (encoded event ++ behind) ≡ Ok (event, length (encoded event))
 
--- No spelling is the front of another: where two begin the same bytes, they are of one event.
-abbrev pub NoSpellingIsAFront : Type 0
-NoSpellingIsAFront = (event other : RowEvent) (behind behind_other : List ℕ) → IsWritten event → IsWritten other → spelled event ++ behind ≡ spelled other ++ behind_other → event ≡ other
+-- No encoding is a prefix of another: where two begin the same bytes, they are of one event.
+abbrev pub NoEncodingIsAPrefix : Type 0
+NoEncodingIsAPrefix = (event other : RowEvent) (behind behind_other : List ℕ) → IsWritten event → IsWritten other → encoded event ++ behind ≡ encoded other ++ behind_other → event ≡ other
 
--- What is read is spelled so, in just the bytes that were read.
-abbrev pub ReadsWhatIsSpelled : Type 0
-ReadsWhatIsSpelled = (bytes : List ℕ) (event : RowEvent) (n : ℕ) → AllByRecursion (λ byte. byte < 256) bytes → decoded bytes ≡ Ok (event, n) → (spelled event ≡ take n bytes) × IsWritten event
+-- What is read is encoded so, in just the bytes that were read.
+abbrev pub ReadsWhatIsEncodable : Type 0
+ReadsWhatIsEncodable = (bytes : List ℕ) (event : RowEvent) (n : ℕ) → AllByRecursion (λ byte. byte < 256) bytes → decoded bytes ≡ Ok (event, n) → (encoded event ≡ take n bytes) × IsWritten event

@@ -1,4 +1,4 @@
--- What bytes spell at their front: an event and the number of its bytes, or why none. The order of the refusals is this project's rule: the front that is too short; the tag; parts that don't end just at the body's end, with counts out of range; and last the values. A kind of value that there isn't ends the reading, since what stands behind it has no meaning.
+-- What bytes begin with: an event and the number of its bytes, or why none. The order of the refusals is this project's rule: bytes that are too few; the tag; parts that don't end just at the body's end, with counts out of range; and last the values. A kind of value that there isn't ends the reading, since what stands behind it has no meaning.
 use Rattle.std.specs.Prelude.{◌≡◌, ℕ, zero, suc, ◌+◌, ◌*◌, ◌^◌, ◌&&◌, nat_le, ◌==◌, if◌then◌else◌, List, [], ◌∷◌, ◌++◌, length, take, drop, Option, Some, None, Result, Ok, Err}
 use Rattle.std.specs.Int.{w32, w64, w128, from_be_bytes, cast_signed}
 use Rattle.std.specs.Str.{is_utf8}
@@ -10,7 +10,7 @@ use Rattle.event_codec.specs.declared.event.Change.{Change}
 use Rattle.event_codec.specs.declared.event.Change.TheVariants.{Write, Update, Delete}
 use Rattle.event_codec.specs.declared.fault.DecodeFault.{DecodeFault}
 use Rattle.event_codec.specs.declared.fault.DecodeFault.TheVariants.{Cut, BadTag, BadLength, BadValue, Memory}
-use Rattle.event_codec.specs.Spelling.{is_number}
+use Rattle.event_codec.specs.Encoding.{is_number}
 
 infixl 10 ◌>>=◌
 -- goes on with what was read
@@ -55,7 +55,7 @@ number_at bytes = do
 abbrev pub text_of : List ℕ → Option Value
 text_of bytes = if is_utf8 bytes then Some (Text bytes) else None
 
--- A value at the front and what stands behind it; there may be none that a column can hold.
+-- The first value and what stands behind it; there may be none that a column can hold.
 unfoldable pub text_at : List ℕ → Result (Option Value × List ℕ) DecodeFault
 text_at bytes = do
   text ← sized_at BadLength bytes
@@ -130,7 +130,7 @@ event_at tag body = do
   change ← change_at tag count.0 count.1
   event_of name.0 change.0 change.1
 
--- The event at the front of bytes, and how many of them it takes.
+-- The event that bytes begin with, and how many of them it takes.
 unfoldable pub decoded : List ℕ → Result (RowEvent × ℕ) DecodeFault
 decoded [] = Err Cut
 decoded (tag ∷ bytes) = do

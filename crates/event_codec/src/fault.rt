@@ -1,4 +1,4 @@
-//! Why bytes spell no event.
+//! Why bytes encode no event.
 
 ghost use Rattle.std.specs.Prelude.{◌≡◌};
 ghost use Rattle.event_codec.specs.declared.fault.DecodeFault.TheVariants.{Memory};
@@ -6,7 +6,7 @@ ghost use Rattle.event_codec.specs.declared.fault.DecodeFault.TheVariants.{Memor
 use std::alloc::{AllocError, AllocFailed};
 use thiserror::Error;
 
-/// Why the front of some bytes is no event.
+/// Why some bytes begin with no event.
 #[derive(Clone, Copy, Debug, PartialEq, Eq, Error)]
 pub enum DecodeFault {
     /// The bytes end before the tag, the length or the body does.

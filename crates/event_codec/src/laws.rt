@@ -1,18 +1,18 @@
-//! What holds of all events and their spellings: each function's contract is a law, and its body is empty.
+//! What holds of all events and their encodings: each function's contract is a law, and its body is empty.
 
-ghost use Rattle.event_codec.specs.Laws.{ReadsWhatIsWritten, NoSpellingIsAFront, ReadsWhatIsSpelled};
+ghost use Rattle.event_codec.specs.Laws.{ReadsWhatIsWritten, NoEncodingIsAPrefix, ReadsWhatIsEncodable};
 
 /// What is written is read, whatever stands behind it.
 pub fn what_is_written_is_read()
     ensures { ReadsWhatIsWritten }
 {}
 
-/// No spelling is the front of another.
-pub fn no_spelling_is_a_front()
-    ensures { NoSpellingIsAFront }
+/// No encoding is a prefix of another.
+pub fn no_encoding_is_a_prefix()
+    ensures { NoEncodingIsAPrefix }
 {}
 
-/// What is read is spelled so: an event has one spelling.
-pub fn what_is_read_is_spelled_so()
-    ensures { ReadsWhatIsSpelled }
+/// What is read is encoded so: an event has one encoding.
+pub fn what_is_read_is_encoded_so()
+    ensures { ReadsWhatIsEncodable }
 {}

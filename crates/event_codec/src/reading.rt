@@ -249,7 +249,7 @@ fn event_at(alloc: Global, tag: u8, body: &[u8]) -> Result<RowEvent, DecodeFault
     event_of(name, change, rest)
 }
 
-/// The event at the front of bytes, and how many of them it takes. It is refused as `Cut` where the bytes end within
+/// The event that bytes begin with, and how many of them it takes. It is refused as `Cut` where the bytes end within
 /// it, else as `BadTag`, else as `BadLength`, else as `BadValue`.
 #[tactic(auto, unfolding(crate::specs::Reading::decoded))]
 pub fn decode(alloc: Global, bytes: &[u8]) -> Result<(RowEvent, usize), DecodeFault>

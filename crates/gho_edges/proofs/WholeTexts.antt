@@ -16,7 +16,7 @@ pub record HasGiven (old new : Option (List ℕ)) (text : List ℕ) (given fault
   pub within : given ≤ length text
   pub never_falls : faults_old ≤ faults_new
 
--- a front of the text and then a front of the rest are one front of the text
+-- a prefix of the text and then a prefix of the rest are one prefix of the text
 pub front_grows : (first old new : Option (List ℕ)) (text : List ℕ) (given n : ℕ)
     → Appends first old (take given text) → Appends old new (take n (take (length text - given) (drop given text)))
     → Appends first new (take (given + n) text)

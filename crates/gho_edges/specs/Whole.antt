@@ -17,6 +17,6 @@ pub record Moves (old new : Option (List ℕ)) (before after : List ℕ) : Type 
   pub grown : after ≡ before ++ piece
   pub taken : Consumes old new piece
 
--- The sink took a front of the text. This project's rule.
+-- The sink took a prefix of the text. This project's rule.
 abbrev pub GivesPart : Option (List ℕ) → Option (List ℕ) → List ℕ → Type 0
 GivesPart old new text = (n : ℕ) × (n ≤ length text) × Appends old new (take n text)

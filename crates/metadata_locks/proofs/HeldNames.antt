@@ -13,7 +13,7 @@ use Rattle.metadata_locks.specs.Holding.{NameTable, LastAsk, held_by, added, ask
 use Rattle.metadata_locks.specs.Laws.{Call, called, no_names, Bear, HeldNamesBear}
 use Rattle.metadata_locks.specs.Laws.Call.{Ask, Poll, Free, Undo, End}
 
--- each lock bears with all later ones
+-- each lock is compatible with all later ones
 abbrev Apart : List HeldName → Type 0
 Apart [] = Unit {0}
 Apart (a ∷ held) = AllByRecursion (Bear a) held × Apart held
@@ -26,7 +26,7 @@ both : {X : Type 0} (P : X → Type 0) (xs ys : List X) → AllByRecursion P xs 
 both P [] ys p q = q
 both P (x ∷ xs) ys p q = (p.0, both P xs ys p.1 q)
 
--- each lock of the first list bears with all of the second
+-- each lock of the first list is compatible with all of the second
 abbrev Across : List HeldName → List HeldName → Type 0
 Across [] more = Unit {0}
 Across (a ∷ held) more = AllByRecursion (Bear a) more × Across held more
@@ -73,7 +73,7 @@ rest : (a : HeldName) (held : List HeldName) (session : ℕ) (name : List ℕ) (
 unfolding least_holder
 rest a held session name exclusive free = (none_of (holding_session session name exclusive a) (least_holder held session name exclusive) free).1
 
--- each lock bears with the session's on this name
+-- each lock is compatible with the session's on this name
 abbrev Bears : List HeldName → HeldName → Type 0
 Bears held lock = AllByRecursion (λ a. Bear a lock) held
 
@@ -113,7 +113,7 @@ own_of a session name e =
     let on = and_parts (pointwise nat_eq a.name name) (a.exclusive || false) parts.1 in
     (alike a.session session parts.0, on.0, only a.exclusive on.1)
 
--- a lock of another session that bears with the session's own is on another name
+-- a lock of another session that is compatible with the session's own is on another name
 after_own : (a b : HeldName) (session : ℕ) (name : List ℕ) → IsOwn a session name → Bear a b → b.session ≢ session → pointwise nat_eq b.name name ≡ false
 after_own a b session name is bear other =
     nat_list_eq_equiv.symm b.name name

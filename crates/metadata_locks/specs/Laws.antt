@@ -31,7 +31,7 @@ no_names = record { held = []; waiting = []; last = None }
 abbrev pub conflict : HeldName → HeldName → Bool
 conflict a b = pointwise nat_eq a.name b.name && (a.exclusive || b.exclusive)
 
--- Two locks that are held bear with one another: one session holds both, or they don't conflict.
+-- Two locks that are held are compatible: one session holds both, or they don't conflict.
 abbrev pub Bear : HeldName → HeldName → Type 0
 Bear a b = a.session ≢ b.session → conflict a b ≡ false
 

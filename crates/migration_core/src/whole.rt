@@ -25,7 +25,7 @@ pub struct End<V: Serve> {
 pub struct Left<V: Serve> {
     /// The turns that were taken.
     pub journal: Journal,
-    /// How it ended; none where memory was wanting before all turns were taken.
+    /// How it ended; none where memory ran out before all turns were taken.
     pub end: Option<End<V>>,
 }
 

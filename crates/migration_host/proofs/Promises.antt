@@ -26,7 +26,7 @@ use Rattle.migration_host.specs.declared.status.Status.{Status}
 use Rattle.migration_host.specs.declared.turns.Turn.{Turn}
 use Rattle.migration_host.specs.Outcomes.{IsUntaken, IsRun, IsReport, IsSchema, IsRefusal, Refuses, PlanChecks, Comes, PlanComes, status_of}
 use Rattle.migration_host.specs.Endings.{Taking, Giving, ReadsAndComes, TellsUsage, TellsReadFault, TellsFaulty, TellsCommand, ComesTo, GivesAll, GivesFront, GivesNone, Gives, status_number, command}
-use Rattle.migration_host.specs.Promises.{EndsBy, IsSerial, PrintsReport, PrintsSchema, PrintsRevert, PrintsUnfinished, PrintsRefusal, PrintsUsage, PrintsReadFault, PrintsFront, PrintsNone, IsUsageOrLost, Ends, done, checked, usage, refused, reverted, read_fault, write_fault, no_memory, turns_spent}
+use Rattle.migration_host.specs.Promises.{EndsBy, IsSerial, PrintsReport, PrintsSchema, PrintsRevert, PrintsUnfinished, PrintsRefusal, PrintsUsage, PrintsReadFault, PrintsPrefix, PrintsNone, IsUsageOrLost, Ends, done, checked, usage, refused, reverted, read_fault, write_fault, no_memory, turns_spent}
 
 -- ---- journals of runs that are over
 
@@ -285,7 +285,7 @@ under_4 words source sink turns journal number (no_memory n prints) is_number = 
 under_4 words source sink turns journal number (turns_spent n is prints) is_number = absurd (omega arith)
 
 -- status 5
-pub under_5 : (words : List (List ℕ)) (source : Taking) (sink : Giving) (turns : List Turn) (journal : List Entry) (number : ℕ) → Ends words source sink turns journal number → number ≡ 5 → PrintsFront words source sink turns journal
+pub under_5 : (words : List (List ℕ)) (source : Taking) (sink : Giving) (turns : List Turn) (journal : List Entry) (number : ℕ) → Ends words source sink turns journal number → number ≡ 5 → PrintsPrefix words source sink turns journal
 under_5 words source sink turns journal number (done n is prints) is_number = absurd (omega arith)
 under_5 words source sink turns journal number (checked n is prints) is_number = absurd (omega arith)
 under_5 words source sink turns journal number (usage n is prints) is_number = absurd (omega arith)

@@ -71,12 +71,12 @@ pub record TellsReadFault (source : Taking) (printed : Printed) (turns : List Tu
   pub text_is : printed.text ≡ read_fault_text
   pub rose : Rose source.faults_before source.faults_after
 
--- what faulty words come to, where memory is wanting and where it isn't
+-- what faulty words come to, out of memory and not
 abbrev pub TellsFaulty : Taking → Option Printed → List Turn → List Entry → Type 0
 TellsFaulty source None turns journal = IsUntaken turns journal
 TellsFaulty source (Some printed) turns journal = TellsUsage source printed turns journal
 
--- what a source comes to under a command: where memory is wanting nothing is printed, and the turns that were taken are
+-- what a source comes to under a command: out of memory nothing is printed, and the turns that were taken are
 -- those of the plan that was read
 abbrev pub TellsCommand : Command → Taking → Option Printed → List Turn → List Entry → Type 0
 TellsCommand told source None turns journal = IsUntaken turns journal ⊎ ReadsAndComes told source None turns journal
@@ -87,8 +87,8 @@ abbrev pub ComesTo : Option Command → Taking → Option Printed → List Turn 
 ComesTo None source printed turns journal = TellsFaulty source printed turns journal
 ComesTo (Some told) source printed turns journal = TellsCommand told source printed turns journal
 
--- What was given of what is printed, and how the call ended: the whole text, or a front of it where the sink failed; nothing
--- where memory was wanting.
+-- What was given of what is printed, and how the call ended: the whole text, or a prefix of it where the sink failed; nothing
+-- where memory ran out.
 pub record GivesAll (printed : Printed) (sink : Giving) (status : Status) : Type 0 where
   pub status_is : status ≡ printed.status
   pub given : Appends sink.before sink.after printed.text

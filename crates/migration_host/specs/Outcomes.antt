@@ -48,12 +48,12 @@ pub record IsReport (plan : PlanData) (journal : List Entry) (printed : Printed)
   pub status_is : printed.status ≡ status_of (verdict_of plan journal)
   pub text_is : printed.text ≡ report plan journal (verdict_of plan journal) (state_at plan journal).tables
 
--- what is printed of a replay: its report, or nothing where memory is wanting
+-- what is printed of a replay: its report, or nothing where memory ran out
 abbrev pub Reports : PlanData → List Entry → Option Printed → Type 0
 Reports plan journal None = Unit {0}
 Reports plan journal (Some printed) = IsReport plan journal printed
 
--- What comes of a plan: its replay with the report; where memory is wanting nothing is printed, and the turns are those
+-- What comes of a plan: its replay with the report; out of memory nothing is printed, and the turns are those
 -- that were taken until then.
 abbrev pub PlanComes : PlanData → Option Printed → List Turn → List Entry → Type 0
 PlanComes plan None turns journal = IsRun plan turns journal
@@ -70,7 +70,7 @@ pub record IsSchema (plan : PlanData) (printed : Printed) : Type 0 where
   pub status_is : printed.status ≡ statuses.Done
   pub shows : IsSchemaText plan printed.text
 
--- what comes of the check of a plan: its altered schema, or nothing where memory is wanting; no turn is taken
+-- what comes of the check of a plan: its altered schema, or nothing where memory ran out; no turn is taken
 abbrev pub PlanChecks : PlanData → Option Printed → Type 0
 PlanChecks plan None = Unit {0}
 PlanChecks plan (Some printed) = IsSchema plan printed
@@ -80,13 +80,13 @@ pub record IsRefusal (refusal : Refusal) (printed : Printed) : Type 0 where
   pub status_is : printed.status ≡ statuses.Refused
   pub text_is : printed.text ≡ refused_text refusal
 
--- what is printed of a refusal, or nothing where memory is wanting
+-- what is printed of a refusal, or nothing where memory ran out
 abbrev pub Refuses : Refusal → Option Printed → Type 0
 Refuses refusal None = Unit {0}
 Refuses refusal (Some printed) = IsRefusal refusal printed
 
 -- What comes of bytes that say this under a command: what comes of the plan, or the refusal without a turn; or nothing is
--- printed, for want of memory.
+-- printed, being out of memory.
 abbrev pub Comes : Command → Result PlanData Refusal → Option Printed → List Turn → List Entry → Type 0
 Comes Check (Ok plan) printed turns journal = IsUntaken turns journal × PlanChecks plan printed
 Comes Replay (Ok plan) printed turns journal = PlanComes plan printed turns journal

@@ -93,20 +93,20 @@ pub record PrintsUsage (source : Taking) (sink : Giving) (turns : List Turn) (jo
   pub given : Appends sink.before sink.after usage_text
   pub untaken : IsUntaken turns journal
 
--- Status 4: the source's count of faults rose, and that is said.
+-- Status 4: the source's fault count increased, and that is said.
 pub record PrintsReadFault (source : Taking) (sink : Giving) (turns : List Turn) (journal : List Entry) : Type 0 where
   pub rose : Rose source.faults_before source.faults_after
   pub given : Appends sink.before sink.after read_fault_text
   pub untaken : IsUntaken turns journal
 
--- Status 5: the sink's count of faults rose, and what is given is a front of what the words and the source come to.
-pub record PrintsFront (words : List (List ℕ)) (source : Taking) (sink : Giving) (turns : List Turn) (journal : List Entry) : Type 0 where
+-- Status 5: the sink's fault count increased, and what is given is a prefix of what the words and the source come to.
+pub record PrintsPrefix (words : List (List ℕ)) (source : Taking) (sink : Giving) (turns : List Turn) (journal : List Entry) : Type 0 where
   pub printed : Printed
   pub comes : ComesTo (command words) source (Some printed) turns journal
   pub given : GivesPart sink.before sink.after printed.text
   pub rose : Rose sink.faults_before sink.faults_after
 
--- Status 6: memory was wanting, and nothing is given. Where a plan was read, the journal is that of the turns that were
+-- Status 6: memory ran out, and nothing is given. Where a plan was read, the journal is that of the turns that were
 -- taken until then.
 pub record PrintsNone (words : List (List ℕ)) (source : Taking) (sink : Giving) (turns : List Turn) (journal : List Entry) : Type 0 where
   pub comes : ComesTo (command words) source None turns journal
@@ -120,7 +120,7 @@ pub data Ends (words : List (List ℕ)) (source : Taking) (sink : Giving) (turns
   refused : number ≡ 2 → IsSome (command words) → PrintsRefusal source sink turns journal → Ends words source sink turns journal number
   reverted : number ≡ 3 → command words ≡ Some Replay → PrintsRevert source sink turns journal → Ends words source sink turns journal number
   read_fault : number ≡ 4 → IsSome (command words) → PrintsReadFault source sink turns journal → Ends words source sink turns journal number
-  write_fault : number ≡ 5 → PrintsFront words source sink turns journal → Ends words source sink turns journal number
+  write_fault : number ≡ 5 → PrintsPrefix words source sink turns journal → Ends words source sink turns journal number
   no_memory : number ≡ 6 → PrintsNone words source sink turns journal → Ends words source sink turns journal number
   turns_spent : number ≡ 7 → command words ≡ Some Replay → PrintsUnfinished source sink turns journal → Ends words source sink turns journal number
 

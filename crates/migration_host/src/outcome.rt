@@ -38,7 +38,7 @@ pub struct Printed {
 /// What the words and the source come to.
 #[derive(Drop)]
 pub struct Outcome {
-    /// What is printed; none where memory is wanting.
+    /// What is printed; none where memory ran out.
     pub printed: Option<Printed>,
     /// Whose turns were taken.
     pub turns: Turns,

@@ -4,7 +4,7 @@ ghost use Rattle.std.specs.Prelude.{◌≡◌, ◌≤◌, ◌==◌, false, lengt
 ghost use Rattle.migration_host.specs.declared.command.Command.TheVariants.{Check, Replay};
 ghost use Rattle.server_words.specs.declared.cause.Verdict.TheVariants as verdicts;
 ghost use Rattle.migration_host.specs.Endings.{ComesTo, Gives, command};
-ghost use Rattle.migration_host.specs.Promises.{Ends, IsSerial, PrintsReport, PrintsSchema, PrintsRevert, PrintsUnfinished, PrintsRefusal, PrintsUsage, PrintsReadFault, PrintsFront, PrintsNone, IsUsageOrLost};
+ghost use Rattle.migration_host.specs.Promises.{Ends, IsSerial, PrintsReport, PrintsSchema, PrintsRevert, PrintsUnfinished, PrintsRefusal, PrintsUsage, PrintsReadFault, PrintsPrefix, PrintsNone, IsUsageOrLost};
 
 use crate::line::Line;
 use crate::outcome::{Outcome, outcome_of, shown, untaken};
@@ -145,7 +145,7 @@ pub fn ghost_<R: Threads + Wait + Sync, S: Source, K: Sink, G: Gate + Sync>(
         record { before = K.held sink.old; after = K.held sink.new; faults_before = K.faults sink.old; faults_after = K.faults sink.new }
         result.turns result.journal }
 
-    ensures write_fault { result.status ≡ 5 → PrintsFront line.now
+    ensures write_fault { result.status ≡ 5 → PrintsPrefix line.now
         record { before = S.left source.old; after = S.left source.new; faults_before = S.faults source.old; faults_after = S.faults source.new }
         record { before = K.held sink.old; after = K.held sink.new; faults_before = K.faults sink.old; faults_after = K.faults sink.new }
         result.turns result.journal }

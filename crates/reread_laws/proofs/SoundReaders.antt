@@ -15,13 +15,13 @@ use Rattle.table_words.specs.declared.kinds.KindWord.{KindWord}
 use Rattle.table_words.specs.declared.kinds.KindWord.TheVariants as kinds
 use Rattle.table_words.specs.declared.token.Token.{Token}
 use Rattle.table_words.specs.Attributes.{not_null_at, default_at, comment_at, character_set_at, collation_at, attribute_at}
-use Rattle.table_words.specs.Keys.{key_misfit, closed, names_at, key_columns_at, key_name, key_name_at, key_at}
+use Rattle.table_words.specs.Keys.{key_mismatch, closed, names_at, key_columns_at, key_name, key_name_at, key_at}
 use Rattle.table_words.specs.Kinds.{kind_word, width_behind, width_at, signed_kind, length_of, length_within, length_at, kind_behind, kind_of, kind_at}
 use Rattle.table_words.specs.Listed.{with_others, listed, with_more, gathered}
 use Rattle.table_words.specs.Pieces.{behind_keyword, behind_sign, found_at, keyword_at, sign_at, with_rest, behind_name, name_at, number_of, number_at, text_of, text_at, literal_of, literal_at, any_word_at}
 use Rattle.schema_rules.specs.Results.{◌>>=◌}
 use Rattle.table_words.specs.Reads.{Read}
-use Rattle.table_words.specs.Scope.{misfit}
+use Rattle.table_words.specs.Scope.{mismatch}
 use Rattle.table_words.specs.Tokens.{is_keyword, same_sign, is_sign}
 use Rattle.schema_rules.proofs.Lists.{All-append}
 use Rattle.schema_rules.proofs.Steps.{bind_ok, ok_is, there, some_is, some_if}
@@ -129,26 +129,26 @@ sign-sound sign words sound = found-words words (behind_sign sign words) (behind
 -- a word that stands for something
 with-sound : {A : Type 0} (P : A → Type 0) (words rest : List Token) (o : Option A) → ((x : A) → o ≡ Some x → P x) → AreSound rest → Leaves P (found_at words (with_rest rest o))
 with-sound P words rest (Some x) is sound = leaves-ok {C = SchemaCode} P x rest (is x refl) sound
-with-sound P words rest None is sound = leaves-err P (misfit words)
+with-sound P words rest None is sound = leaves-err P (mismatch words)
 
 pub name_at-sound : (words : List Token) → AreSound words → Leaves CanQuote (name_at words)
 unfolding name_at behind_name
-name_at-sound [] sound = leaves-err CanQuote (misfit [])
+name_at-sound [] sound = leaves-err CanQuote (mismatch [])
 name_at-sound (word ∷ rest) sound = with-sound CanQuote (word ∷ rest) rest (name_of word.class word.text) (λ name e. name-sound word.class word.text name sound.0 e) sound.1
 
 number_at-sound : (words : List Token) → AreSound words → Leaves {A = ℤ} Anything (number_at words)
 unfolding number_at
-number_at-sound [] sound = leaves-err {A = ℤ} Anything (misfit [])
+number_at-sound [] sound = leaves-err {A = ℤ} Anything (mismatch [])
 number_at-sound (word ∷ rest) sound = with-sound {A = ℤ} Anything (word ∷ rest) rest (number_of word.class word.text) (λ n e. tt) sound.1
 
 text_at-sound : (words : List Token) → AreSound words → Leaves {A = List ℕ} Anything (text_at words)
 unfolding text_at
-text_at-sound [] sound = leaves-err {A = List ℕ} Anything (misfit [])
+text_at-sound [] sound = leaves-err {A = List ℕ} Anything (mismatch [])
 text_at-sound (word ∷ rest) sound = with-sound {A = List ℕ} Anything (word ∷ rest) rest (text_of word.class word.text) (λ n e. tt) sound.1
 
 literal_at-sound : (words : List Token) → AreSound words → Leaves SoundValue (literal_at words)
 unfolding literal_at
-literal_at-sound [] sound = leaves-err SoundValue (misfit [])
+literal_at-sound [] sound = leaves-err SoundValue (mismatch [])
 literal_at-sound (word ∷ rest) sound = with-sound SoundValue (word ∷ rest) rest (literal_of word) (literal-sound word sound.0) sound.1
 
 any_word-by : (b : Bool) (code : SchemaCode) (rest : List Token) → AreSound rest → LeavesWords (cond b (Err code) (Ok rest))
@@ -158,7 +158,7 @@ any_word-by false code rest sound = λ other e. subst AreSound (ok_is {C = Schem
 any_word-sound : (words : List Token) → AreSound words → LeavesWords (any_word_at words)
 unfolding any_word_at
 any_word-sound [] sound = λ other e. absurd cc
-any_word-sound (word ∷ rest) sound = any_word-by (is_sign word.class) (misfit (word ∷ rest)) rest sound.1
+any_word-sound (word ∷ rest) sound = any_word-by (is_sign word.class) (mismatch (word ∷ rest)) rest sound.1
 
 -- ---- lists
 
@@ -231,11 +231,11 @@ kind_behind-sound kinds.VarBinary words sound =
 
 kind_of-sound : (words rest : List Token) (o : Option KindWord) → AreSound rest → Leaves {A = Kind} Anything (kind_of words rest o)
 kind_of-sound words rest (Some kind) sound = kind_behind-sound kind rest sound
-kind_of-sound words rest None sound = leaves-err {A = Kind} Anything (misfit words)
+kind_of-sound words rest None sound = leaves-err {A = Kind} Anything (mismatch words)
 
 pub kind_at-sound : (words : List Token) → AreSound words → Leaves {A = Kind} Anything (kind_at words)
 unfolding kind_at
-kind_at-sound [] sound = leaves-err {A = Kind} Anything (misfit [])
+kind_at-sound [] sound = leaves-err {A = Kind} Anything (mismatch [])
 kind_at-sound (word ∷ rest) sound = kind_of-sound (word ∷ rest) rest (kind_word word) sound.1
 
 -- ---- attributes
@@ -290,7 +290,7 @@ unfolding names_at
 names_at-sound words sound = listed-sound CanQuote name_at Syntax name_at-sound (length words) words sound
 
 closed-sound : (names : List (List ℕ)) (words : List Token) (o : Option (List Token)) → AreNames names → SomeSound o → Leaves AreNames (closed names words o)
-closed-sound names words None are behind = leaves-err AreNames (key_misfit words)
+closed-sound names words None are behind = leaves-err AreNames (key_mismatch words)
 closed-sound names words (Some rest) are behind = leaves-ok {C = SchemaCode} AreNames names rest are (behind rest refl)
 
 pub key_columns-sound : (words : List Token) → AreSound words → Leaves AreNames (key_columns_at words)

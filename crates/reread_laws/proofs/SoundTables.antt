@@ -15,7 +15,7 @@ use Rattle.table_words.specs.Kinds.{kind_at}
 use Rattle.table_words.specs.Pieces.{behind_keyword, behind_sign, keyword_at, sign_at, name_at}
 use Rattle.schema_rules.specs.Results.{◌>>=◌}
 use Rattle.table_words.specs.Reads.{Read}
-use Rattle.table_words.specs.Scope.{is_no_item, misfit}
+use Rattle.table_words.specs.Scope.{is_no_item, mismatch}
 use Rattle.table_words.specs.Tokens.{is_keyword}
 use Rattle.schema_text.specs.declared.written.ColumnAttribute.{ColumnAttribute}
 use Rattle.schema_text.specs.declared.written.ColumnAttribute.TheVariants.{Primary, Unique, Plain}
@@ -124,7 +124,7 @@ column_item-sound words sound = leaves-bind SoundColumn SoundItem (column_at wor
 
 item-sound : (words : List Token) → AreSound words → Leaves SoundItem (item_at words)
 unfolding item_at
-item-sound [] sound = leaves-err SoundItem (misfit [])
+item-sound [] sound = leaves-err SoundItem (mismatch [])
 item-sound (word ∷ rest) sound =
     leaves-cond SoundItem (is_keyword word (codes "PRIMARY")) _ _ (primary_item-sound rest sound.1)
     (leaves-cond SoundItem (is_keyword word (codes "UNIQUE")) _ _ (key_item-sound true (behind_key_word rest) (behind_key-sound rest sound.1))

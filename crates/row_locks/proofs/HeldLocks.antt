@@ -17,7 +17,7 @@ use Rattle.row_locks.specs.Holding.{LockTable, LastAsk, held_by, granted_unless,
 use Rattle.row_locks.specs.Laws.{Call, called, no_locks, Bear, HeldLocksBear, ConflictBothWays, GrantsWhole}
 use Rattle.row_locks.specs.Laws.Call.{Ask, Free, Undo}
 
--- each lock bears with all later ones
+-- each lock is compatible with all later ones
 abbrev Apart : List HeldLock → Type 0
 Apart [] = Unit {0}
 Apart (a ∷ held) = AllByRecursion (Bear a) held × Apart held
@@ -30,7 +30,7 @@ both : {X : Type 0} (P : X → Type 0) (xs ys : List X) → AllByRecursion P xs 
 both P [] ys p q = q
 both P (x ∷ xs) ys p q = (p.0, both P xs ys p.1 q)
 
--- each lock of the first list bears with all of the second
+-- each lock of the first list is compatible with all of the second
 abbrev Across : List HeldLock → List HeldLock → Type 0
 Across [] more = Unit {0}
 Across (a ∷ held) more = AllByRecursion (Bear a) more × Across held more

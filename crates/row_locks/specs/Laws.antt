@@ -22,7 +22,7 @@ called t Undo = undone t
 abbrev pub no_locks : LockTable
 no_locks = record { held = []; last = None }
 
--- Two locks that are held bear with one another: one session holds both, or they don't conflict.
+-- Two locks that are held are compatible: one session holds both, or they don't conflict.
 abbrev pub Bear : HeldLock → HeldLock → Type 0
 Bear a b = a.session ≢ b.session → conflict a.lock b.lock ≡ false
 

@@ -111,7 +111,7 @@ abbrev pub rename_number : NotRenamed → ℕ
 rename_number Stands = 1050
 rename_number Missing = 1146
 
--- the fault is why no table is renamed, or want of memory
+-- the fault is why no table is renamed, or out of memory
 abbrev pub IsRenameFault : Result Database NotRenamed → RenameFault → Type 0
 IsRenameFault after (faults.Refused reason) = after ≡ Err reason
 IsRenameFault after faults.Memory = Unit {0}

@@ -96,7 +96,7 @@ fn set_name_at(tables: &mut Vec<Table>, place: usize, name: Name) -> Name
     table.set_name(name)
 }
 
-/// Renames tables pair by pair; or none, where a pair is refused or memory wanting.
+/// Renames tables pair by pair; or none, where a pair is refused or memory runs out.
 #[tactic(auto, unfolding(crate::specs::Databases::rename_tables))]
 fn rename_from(tables: &mut Vec<Table>, pairs: &[Pair]) -> Result<(), RenameFault>
     requires { NamesDiffer (database tables.old.items) }

@@ -6,7 +6,7 @@ use Rattle.table_words.specs.Listed.{gathered}
 use Rattle.table_words.specs.Pieces.{behind_sign, keyword_at, any_word_at, text_at}
 use Rattle.schema_rules.specs.Results.{◌>>=◌}
 use Rattle.table_words.specs.Reads.{Read}
-use Rattle.table_words.specs.Scope.{misfit}
+use Rattle.table_words.specs.Scope.{mismatch}
 use Rattle.table_words.specs.Tokens.{is_keyword}
 use Rattle.schema_text.specs.declared.options.TableOption.{TableOption}
 use Rattle.schema_text.specs.declared.options.TableOption.TheVariants.{Comment, Passed}
@@ -57,14 +57,14 @@ charset_at (word ∷ rest) =
 -- behind DEFAULT, one of them has to stand
 abbrev pub needed : List Token → Option (TableOption × List Token) → Perhaps
 needed words (Some read) = Ok (Some read)
-needed words None = Err (misfit words)
+needed words None = Err (mismatch words)
 
 unfoldable pub default_charset_at : List Token → Perhaps
 default_charset_at words = do
   read ← charset_at words
   needed words read
 
--- An option at the front; none where the first word begins none. All but COMMENT are passed over.
+-- The option that the words begin with; none where the first word begins none. All but COMMENT are passed over.
 unfoldable pub option_at : List Token → Perhaps
 option_at [] = Ok None
 option_at (word ∷ rest) =

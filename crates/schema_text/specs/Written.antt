@@ -9,7 +9,7 @@ use Rattle.table_words.specs.Listed.{listed}
 use Rattle.table_words.specs.Pieces.{behind_keyword, behind_sign, keyword_at, sign_at, name_at}
 use Rattle.schema_rules.specs.Results.{◌>>=◌}
 use Rattle.table_words.specs.Reads.{Read}
-use Rattle.table_words.specs.Scope.{is_no_item, misfit}
+use Rattle.table_words.specs.Scope.{is_no_item, mismatch}
 use Rattle.table_words.specs.Tokens.{is_keyword}
 use Rattle.schema_text.specs.declared.written.Item.{Item}
 use Rattle.schema_text.specs.declared.written.Item.TheVariants as items
@@ -46,7 +46,7 @@ column_item_at words = do
 
 -- An item between the parentheses. PRIMARY, UNIQUE, KEY and INDEX begin a key, unless they stand in backquotes.
 unfoldable pub item_at : List Token → Read Item
-item_at [] = Err (misfit [])
+item_at [] = Err (mismatch [])
 item_at (word ∷ rest) =
     if is_keyword word (codes "PRIMARY") then primary_item_at rest
     else (if is_keyword word (codes "UNIQUE") then key_item_at true (behind_key_word rest)
@@ -65,7 +65,7 @@ last_words words None = words
 -- nothing stands behind the table
 abbrev pub alone : WrittenTable → List Token → Result WrittenTable SchemaCode
 alone table [] = Ok table
-alone table (word ∷ rest) = Err (misfit (word ∷ rest))
+alone table (word ∷ rest) = Err (mismatch (word ∷ rest))
 
 -- CREATE TABLE, the table's name, its items in parentheses, its options, and at most one ; behind them.
 unfoldable pub table_at : List Token → Result WrittenTable SchemaCode

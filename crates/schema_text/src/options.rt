@@ -6,7 +6,7 @@ ghost use Rattle.schema_text.specs.Options.{value_words, passed_at, set_at, comm
 
 use gho_values::Chars;
 use std::alloc::Global;
-use table_words::{SchemaFault, Token, any_word_at, behind_sign, keyword_at, misfit, text_at};
+use table_words::{SchemaFault, Token, any_word_at, behind_sign, keyword_at, mismatch, text_at};
 
 /// An option of a table.
 #[derive(Debug, Drop)]
@@ -80,7 +80,7 @@ fn default_charset_at(words: &[Token]) -> Result<Option<(TableOption, &[Token])>
 {
     match charset_at(words)? {
         Some((option, rest)) => Ok(Some((option, rest))),
-        None => Err(SchemaFault::Refused(misfit(words))),
+        None => Err(SchemaFault::Refused(mismatch(words))),
     }
 }
 
@@ -113,7 +113,7 @@ fn with_option(comment: Chars, option: TableOption) -> Chars
     }
 }
 
-/// The comment that the options at the front give, and what stands behind them.
+/// The comment that the options here give, and what stands behind them.
 #[tactic(auto, unfolding(crate::specs::Options::options_at))]
 pub fn options_at(alloc: Global, words: &[Token]) -> Result<(Chars, &[Token]), SchemaFault>
     ensures { Reads (λ comment. (comment.0, comment.1.now)) result (options_at words.now) }

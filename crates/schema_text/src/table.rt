@@ -13,7 +13,7 @@ use gho_values::Sequence;
 use std::alloc::Global;
 use table_words::{
     SchemaCode, SchemaFault, Token, behind_keyword, behind_sign, is_no_item, key_at,
-    key_columns_at, keyword_at, misfit, name_at, sign_at, text_words,
+    key_columns_at, keyword_at, mismatch, name_at, sign_at, text_words,
 };
 
 #[tactic(auto, unfolding(crate::specs::Written::primary_item_at))]
@@ -61,7 +61,7 @@ fn item_at(alloc: Global, words: &[Token]) -> Result<(Item, &[Token]), SchemaFau
     ensures { Reads (λ item. (item.0, item.1.now)) result (item_at words.now) }
 {
     match words {
-        [] => Err(SchemaFault::Refused(misfit(words))),
+        [] => Err(SchemaFault::Refused(mismatch(words))),
         [word, rest @ ..] => {
             if word.is_keyword("PRIMARY") {
                 primary_item_at(alloc, rest)
@@ -109,7 +109,7 @@ fn alone(table: WrittenTable, words: &[Token]) -> Result<WrittenTable, SchemaFau
 {
     match words {
         [] => Ok(table),
-        [_, ..] => Err(SchemaFault::Refused(misfit(words))),
+        [_, ..] => Err(SchemaFault::Refused(mismatch(words))),
     }
 }
 

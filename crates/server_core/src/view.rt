@@ -86,7 +86,7 @@ pub fn settled(tables: Tables, sessions: &[Session], view: Option<View>, session
     }
 }
 
-/// What is kept once a session in a transaction wrote more; nothing, where it isn't the session's or memory is wanting.
+/// What is kept once a session in a transaction wrote more; nothing, where it isn't the session's or memory runs out.
 pub fn extended(
     alloc: Global,
     tables: &Tables,

@@ -42,7 +42,7 @@ words_behind zero place (b ∷ rest) = read_on place (b ∷ rest) (front_at plac
 abbrev pub words_of : List ℕ → Result (List Reading) WordFault
 words_of bytes = words_behind 0 0 bytes
 
--- the fault is the one that was met in reading, or want of memory
+-- the fault is the one that was met in reading, or out of memory
 abbrev pub IsFaultOf : Result (List Reading) WordFault → WordFault → Type 0
 IsFaultOf read Memory = Unit {0}
 IsFaultOf read (Unclosed place) = read ≡ Err (Unclosed place)

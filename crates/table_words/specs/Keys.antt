@@ -10,7 +10,7 @@ use Rattle.table_words.specs.Listed.{listed}
 use Rattle.table_words.specs.Pieces.{behind_keyword, behind_sign, sign_at, name_at}
 use Rattle.schema_rules.specs.Results.{◌>>=◌}
 use Rattle.table_words.specs.Reads.{Read}
-use Rattle.table_words.specs.Scope.{misfit}
+use Rattle.table_words.specs.Scope.{mismatch}
 
 -- a number at the front
 abbrev pub is_number : WordClass → Bool
@@ -36,12 +36,12 @@ descending_or other None = other
 descending_or other (Some rest) = Scope
 
 -- What a key is refused with where these words stand behind one of its columns.
-unfoldable pub key_misfit : List Token → SchemaCode
-key_misfit words = descending_or (prefix_or (misfit words) (behind_sign (codes "(") words)) (behind_keyword (codes "DESC") words)
+unfoldable pub key_mismatch : List Token → SchemaCode
+key_mismatch words = descending_or (prefix_or (mismatch words) (behind_sign (codes "(") words)) (behind_keyword (codes "DESC") words)
 
 -- the key's closing parenthesis
 abbrev pub closed : List (List ℕ) → List Token → Option (List Token) → Read (List (List ℕ))
-closed names words None = Err (key_misfit words)
+closed names words None = Err (key_mismatch words)
 closed names words (Some rest) = Ok (names, rest)
 
 unfoldable pub names_at : List Token → Read (List (List ℕ))

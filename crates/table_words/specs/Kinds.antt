@@ -10,7 +10,7 @@ use Rattle.table_words.specs.declared.token.Token.{Token}
 use Rattle.table_words.specs.Pieces.{behind_keyword, behind_sign, sign_at, number_at}
 use Rattle.schema_rules.specs.Results.{◌>>=◌}
 use Rattle.table_words.specs.Reads.{Read}
-use Rattle.table_words.specs.Scope.{misfit}
+use Rattle.table_words.specs.Scope.{mismatch}
 use Rattle.table_words.specs.Tokens.{is_keyword}
 
 -- An integer kind's name gives its bytes ("Integer Types (Exact Value)").
@@ -73,9 +73,9 @@ kind_behind words.VarBinary rest = do
 
 abbrev pub kind_of : List Token → List Token → Option KindWord → Read Kind
 kind_of words rest (Some kind) = kind_behind kind rest
-kind_of words rest None = Err (misfit words)
+kind_of words rest None = Err (mismatch words)
 
 -- A kind: an integer kind with or without a display width and UNSIGNED, or VARCHAR or VARBINARY with a length ("Data Types").
 unfoldable pub kind_at : List Token → Read Kind
-kind_at [] = Err (misfit [])
+kind_at [] = Err (mismatch [])
 kind_at (word ∷ rest) = kind_of (word ∷ rest) rest (kind_word word)

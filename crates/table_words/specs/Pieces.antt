@@ -9,7 +9,7 @@ use Rattle.word_laws.specs.ReadBack.{word_value}
 use Rattle.table_words.specs.declared.code.SchemaCode.{SchemaCode}
 use Rattle.table_words.specs.declared.token.Token.{Token}
 use Rattle.table_words.specs.Reads.{Read}
-use Rattle.table_words.specs.Scope.{misfit}
+use Rattle.table_words.specs.Scope.{mismatch}
 use Rattle.table_words.specs.Tokens.{is_sign, is_keyword, same_sign}
 
 -- what stands behind this keyword, where it is the first word
@@ -25,7 +25,7 @@ behind_sign sign (word ∷ rest) = if same_sign word sign then Some rest else No
 -- what was found at the front of the words; else the first of them doesn't fit
 abbrev pub found_at : {A : Type 0} → List Token → Option A → Result A SchemaCode
 found_at words (Some found) = Ok found
-found_at words None = Err (misfit words)
+found_at words None = Err (mismatch words)
 
 unfoldable pub keyword_at : List ℕ → List Token → Result (List Token) SchemaCode
 keyword_at keyword words = found_at words (behind_keyword keyword words)
@@ -56,7 +56,7 @@ number_of class.Bytes text = None
 number_of class.Sign text = None
 
 unfoldable pub number_at : List Token → Read ℤ
-number_at [] = Err (misfit [])
+number_at [] = Err (mismatch [])
 number_at (word ∷ rest) = found_at (word ∷ rest) (with_rest rest (number_of word.class word.text))
 
 -- the text that a word is
@@ -69,7 +69,7 @@ text_of class.Bytes text = None
 text_of class.Sign text = None
 
 unfoldable pub text_at : List Token → Read (List ℕ)
-text_at [] = Err (misfit [])
+text_at [] = Err (mismatch [])
 text_at (word ∷ rest) = found_at (word ∷ rest) (with_rest rest (text_of word.class word.text))
 
 -- the literal that a word is: NULL, a number, a text or bytes ("Literal Values")
@@ -77,10 +77,10 @@ abbrev pub literal_of : Token → Option Value
 literal_of word = if is_keyword word (codes "NULL") then Some Null else word_value word.class word.text
 
 unfoldable pub literal_at : List Token → Read Value
-literal_at [] = Err (misfit [])
+literal_at [] = Err (mismatch [])
 literal_at (word ∷ rest) = found_at (word ∷ rest) (with_rest rest (literal_of word))
 
 -- what stands behind any word but a sign, which is passed over
 unfoldable pub any_word_at : List Token → Result (List Token) SchemaCode
-any_word_at [] = Err (misfit [])
-any_word_at (word ∷ rest) = if is_sign word.class then Err (misfit (word ∷ rest)) else Ok rest
+any_word_at [] = Err (mismatch [])
+any_word_at (word ∷ rest) = if is_sign word.class then Err (mismatch (word ∷ rest)) else Ok rest

@@ -51,6 +51,6 @@ unfoldable pub is_no_item : Token → Bool
 is_no_item word = is_unquoted word.class && (is_constraint word.text || is_extension word.text)
 
 -- What a text is refused with where these words stand in a place where the first of them doesn't fit: it is a word of MySQL's CREATE TABLE that this program doesn't take, or it is a mistake.
-unfoldable pub misfit : List Token → SchemaCode
-misfit [] = Syntax
-misfit (word ∷ rest) = if is_no_item word || (is_unquoted word.class && is_other_kind word.text) then Scope else Syntax
+unfoldable pub mismatch : List Token → SchemaCode
+mismatch [] = Syntax
+mismatch (word ∷ rest) = if is_no_item word || (is_unquoted word.class && is_other_kind word.text) then Scope else Syntax

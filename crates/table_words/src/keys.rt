@@ -1,12 +1,12 @@
 //! The columns of a key as they are written.
 
 ghost use Rattle.std.specs.Prelude.{◌≡◌, length};
-ghost use Rattle.table_words.specs.Keys.{is_number, begins_number, prefix_or, key_misfit, names_at, key_columns_at, key_name_at, key_at};
+ghost use Rattle.table_words.specs.Keys.{is_number, begins_number, prefix_or, key_mismatch, names_at, key_columns_at, key_name_at, key_at};
 ghost use Rattle.table_words.specs.Reads.{Reads};
 
 use crate::code::{SchemaCode, SchemaFault};
 use crate::pieces::{behind_keyword, behind_sign, name_at, sign_at};
-use crate::scope::misfit;
+use crate::scope::mismatch;
 use crate::token::Token;
 use gho_values::{Name, Names, Sequence};
 use sql_words::WordClass;
@@ -31,14 +31,14 @@ fn begins_number(words: &[Token]) -> bool
 }
 
 /// What a key is refused with where these words stand behind one of its columns.
-#[tactic(auto, unfolding(crate::specs::Keys::key_misfit))]
-fn key_misfit(words: &[Token]) -> SchemaCode
-    ensures { result ≡ key_misfit words.now }
+#[tactic(auto, unfolding(crate::specs::Keys::key_mismatch))]
+fn key_mismatch(words: &[Token]) -> SchemaCode
+    ensures { result ≡ key_mismatch words.now }
 {
     match (behind_keyword("DESC", words), behind_sign("(", words)) {
         (Some(_), _) => SchemaCode::Scope,
         (None, Some(rest)) if begins_number(rest) => SchemaCode::Scope,
-        _ => misfit(words),
+        _ => mismatch(words),
     }
 }
 
@@ -67,7 +67,7 @@ pub fn key_columns_at(alloc: Global, words: &[Token]) -> Result<(Names, &[Token]
     let rest = sign_at("(", words)?;
     let (names, rest) = names_at(alloc, rest)?;
     match behind_sign(")", rest) {
-        None => Err(SchemaFault::Refused(key_misfit(rest))),
+        None => Err(SchemaFault::Refused(key_mismatch(rest))),
         Some(rest) => Ok((names, rest)),
     }
 }

@@ -7,7 +7,7 @@ ghost use Rattle.table_words.specs.Reads.{Reads};
 
 use crate::code::{SchemaCode, SchemaFault};
 use crate::pieces::{behind_keyword, behind_sign, number_at, sign_at};
-use crate::scope::misfit;
+use crate::scope::mismatch;
 use crate::token::Token;
 use gho_values::Kind;
 
@@ -130,11 +130,11 @@ pub fn kind_at(words: &[Token]) -> Result<(Kind, &[Token]), SchemaFault>
     ensures { Reads (λ kind. (kind.0, kind.1.now)) result (kind_at words.now) }
 {
     match words {
-        [] => Err(SchemaFault::Refused(misfit(words))),
+        [] => Err(SchemaFault::Refused(mismatch(words))),
         [word, rest @ ..] => {
             match kind_word(word) {
                 Some(kind) => kind_behind(kind, rest),
-                None => Err(SchemaFault::Refused(misfit(words))),
+                None => Err(SchemaFault::Refused(mismatch(words))),
             }
         }
     }

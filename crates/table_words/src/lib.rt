@@ -19,6 +19,6 @@ pub use literals::{LiteralRef, read_literal};
 pub use pieces::{
     any_word_at, behind_keyword, behind_sign, keyword_at, literal_at, name_at, sign_at, text_at,
 };
-pub use scope::{is_no_item, misfit};
+pub use scope::{is_no_item, mismatch};
 pub use token::Token;
 pub use tokens::{TextWords, text_words};

@@ -5,7 +5,7 @@ ghost use Rattle.table_words.specs.Pieces.{behind_keyword, behind_sign, keyword_
 ghost use Rattle.table_words.specs.Reads.{Reads};
 
 use crate::code::SchemaFault;
-use crate::scope::misfit;
+use crate::scope::mismatch;
 use crate::token::Token;
 use gho_values::{Chars, Name, Value};
 use sql_words::WordClass;
@@ -47,7 +47,7 @@ pub fn keyword_at<'a>(keyword: &str, words: &'a [Token]) -> Result<&'a [Token], 
 {
     match behind_keyword(keyword, words) {
         Some(rest) => Ok(rest),
-        None => Err(SchemaFault::Refused(misfit(words))),
+        None => Err(SchemaFault::Refused(mismatch(words))),
     }
 }
 
@@ -58,7 +58,7 @@ pub fn sign_at<'a>(sign: &str, words: &'a [Token]) -> Result<&'a [Token], Schema
 {
     match behind_sign(sign, words) {
         Some(rest) => Ok(rest),
-        None => Err(SchemaFault::Refused(misfit(words))),
+        None => Err(SchemaFault::Refused(mismatch(words))),
     }
 }
 
@@ -84,7 +84,7 @@ pub fn name_at(alloc: Global, words: &[Token]) -> Result<(Name, &[Token]), Schem
 {
     match behind_name(words) {
         Some((name, rest)) => Ok((Name::new(alloc, name)?, rest)),
-        None => Err(SchemaFault::Refused(misfit(words))),
+        None => Err(SchemaFault::Refused(mismatch(words))),
     }
 }
 
@@ -103,11 +103,11 @@ pub(crate) fn number_at(words: &[Token]) -> Result<(i128, &[Token]), SchemaFault
     ensures { Reads (λ number. (number.0, number.1.now)) result (number_at words.now) }
 {
     match words {
-        [] => Err(SchemaFault::Refused(misfit(words))),
+        [] => Err(SchemaFault::Refused(mismatch(words))),
         [word, rest @ ..] => {
             match number_of(word) {
                 Some(number) => Ok((number, rest)),
-                None => Err(SchemaFault::Refused(misfit(words))),
+                None => Err(SchemaFault::Refused(mismatch(words))),
             }
         }
     }
@@ -131,11 +131,11 @@ pub fn text_at(alloc: Global, words: &[Token]) -> Result<(Chars, &[Token]), Sche
     ensures { Reads (λ text. (text.0, text.1.now)) result (text_at words.now) }
 {
     match words {
-        [] => Err(SchemaFault::Refused(misfit(words))),
+        [] => Err(SchemaFault::Refused(mismatch(words))),
         [word, rest @ ..] => {
             match text_of(alloc, word)? {
                 Some(text) => Ok((text, rest)),
-                None => Err(SchemaFault::Refused(misfit(words))),
+                None => Err(SchemaFault::Refused(mismatch(words))),
             }
         }
     }
@@ -157,11 +157,11 @@ pub fn literal_at(alloc: Global, words: &[Token]) -> Result<(Value, &[Token]), S
     ensures { Reads (λ value. (value.0, value.1.now)) result (literal_at words.now) }
 {
     match words {
-        [] => Err(SchemaFault::Refused(misfit(words))),
+        [] => Err(SchemaFault::Refused(mismatch(words))),
         [word, rest @ ..] => {
             match literal_of(alloc, word)? {
                 Some(value) => Ok((value, rest)),
-                None => Err(SchemaFault::Refused(misfit(words))),
+                None => Err(SchemaFault::Refused(mismatch(words))),
             }
         }
     }
@@ -173,10 +173,10 @@ pub fn any_word_at(words: &[Token]) -> Result<&[Token], SchemaFault>
     ensures { Reads (λ rest. rest.now) result (any_word_at words.now) }
 {
     match words {
-        [] => Err(SchemaFault::Refused(misfit(words))),
+        [] => Err(SchemaFault::Refused(mismatch(words))),
         [word, rest @ ..] => {
             if word.is_any_sign() {
-                Err(SchemaFault::Refused(misfit(words)))
+                Err(SchemaFault::Refused(mismatch(words)))
             } else {
                 Ok(rest)
             }

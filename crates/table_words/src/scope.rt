@@ -1,7 +1,7 @@
 //! Words that the texts may not have, and what they are refused with.
 
 ghost use Rattle.std.specs.Prelude.{◌≡◌};
-ghost use Rattle.table_words.specs.Scope.{is_constraint, is_extension, is_fraction_kind, is_time_kind, is_character_kind, is_long_kind, is_text_kind, is_choice_kind, is_shape_kind, is_many_shapes_kind, is_integer_synonym, is_other_kind, is_no_item, misfit};
+ghost use Rattle.table_words.specs.Scope.{is_constraint, is_extension, is_fraction_kind, is_time_kind, is_character_kind, is_long_kind, is_text_kind, is_choice_kind, is_shape_kind, is_many_shapes_kind, is_integer_synonym, is_other_kind, is_no_item, mismatch};
 
 use crate::code::SchemaCode;
 use crate::token::Token;
@@ -147,9 +147,9 @@ pub fn is_no_item(word: &Token) -> bool
 }
 
 /// What a text is refused with where these words stand and the first of them doesn't fit.
-#[tactic(auto, unfolding(crate::specs::Scope::misfit))]
-pub fn misfit(words: &[Token]) -> SchemaCode
-    ensures { result ≡ misfit words.now }
+#[tactic(auto, unfolding(crate::specs::Scope::mismatch))]
+pub fn mismatch(words: &[Token]) -> SchemaCode
+    ensures { result ≡ mismatch words.now }
 {
     match words {
         [] => SchemaCode::Syntax,

@@ -17,7 +17,7 @@ pub enum Go {
     },
 }
 
-/// How much load the tool bears with.
+/// How much load the tool tolerates.
 #[derive(Debug, Drop)]
 pub struct Throttle {
     max_load: u32,

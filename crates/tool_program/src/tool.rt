@@ -5,7 +5,7 @@ use server_words::Cause;
 
 /// How far the tool is: which call comes next, and what it needs to know for it.
 ///
-/// So far the tool rests until every client is over. Then it makes the new table, copies all rows in chunks, and
+/// So far the tool waits until every client is done. Then it makes the new table, copies all rows in chunks, and
 /// renames the tables.
 #[derive(Debug, Drop)]
 pub enum Tool {

@@ -28,7 +28,7 @@ impl Model for BytesSink {
 
 impl BytesSink {
     /// A sink that holds nothing yet. With `fail_at` it takes that many bytes and then fails at each piece that isn't
-    /// empty. Want of memory is a fault of the sink too; with `None` there is no other.
+    /// empty. Running out of memory is a fault of the sink too; with `None` there is no other.
     pub fn new(alloc: Global, fail_at: Option<usize>) -> BytesSink
         ensures { result ≡ record { held = []; until_fault = fail_at; faults = 0 } }
     {
@@ -59,7 +59,7 @@ impl Sink for BytesSink {
 
     ghost faults = { λ s. s.faults };
 
-    /// Takes as much of the piece as stands before the fault, or fails for want of memory.
+    /// Takes as much of the piece as stands before the fault, or fails, being out of memory.
     fn give(&mut self, piece: &[u8]) -> Gave
         // What every sink says.
         ensures some { IfGiven result (λ n. 0 < length piece.now → 0 < n) }
@@ -69,7 +69,7 @@ impl Sink for BytesSink {
         ensures failed_gives_none { OnSinkFault result (Appends (Some self.old.held) (Some self.new.held) []) }
         ensures never_falls { self.old.faults ≤ self.new.faults }
 
-        // When it takes the empty piece and when it fails, and how much it takes. A fault for want of memory is free.
+        // When it takes the empty piece and when it fails, and how much it takes. A fault for lack of memory is free.
         ensures empty { piece.now ≡ [] → result ≡ Gave.Some 0 }
         ensures due { 0 < length piece.now → self.old.until_fault ≡ Some 0 → result ≡ Gave.Failed }
         ensures how_many { IfGiven result (λ n. n ≡ before_fault self.old.until_fault (length piece.now)) }

@@ -2,7 +2,7 @@ use Rattle.std.proofs.Common.{◌≡◌, [], Some}
 use Rattle.event_codec.specs.Reading.{values_at}
 use Rattle.event_codec.proofs.reading.values_at.Given as goal
 
--- what is left to read, behind the values so far, is what all spell
+-- what is left to read, behind the values so far, is what all bytes encode
 abbrev pub invariant-loop-left : goal.invariant-loop-left
 invariant-loop-left l = values_at l.values l.left l.rest ≡ values_at (Some []) l.count l.bytes
 

@@ -1,4 +1,4 @@
--- What is read is spelled so.
+-- What is read is encoded so.
 use Rattle.std.proofs.Common.{◌≡◌, ◌≢◌, ℕ, zero, suc, ◌+◌, ◌*◌, ◌^◌, ◌/◌, ◌%◌, ◌<◌, ◌≤◌, ℤ, Bool, true, false, ◌&&◌, nat_eq, nat_le, cond, List, [], ◌∷◌, ◌++◌, length, take, drop, get_or, Option, Some, None, Result, Ok, Err, refl, ap, subst, sym, ◌∙◌, arith, Fits, append_assoc}
 use Rattle.std.specs.Int.{w8, w32, w64, w128, from_be_bytes, cast_signed}
 use Rattle.std.specs.List.{AllByRecursion}
@@ -18,9 +18,9 @@ use Rattle.event_codec.specs.declared.event.Change.{Change}
 use Rattle.event_codec.specs.declared.event.Change.TheVariants.{Write, Update, Delete}
 use Rattle.event_codec.specs.declared.fault.DecodeFault.{DecodeFault}
 use Rattle.event_codec.specs.declared.fault.DecodeFault.TheVariants.{Cut, BadTag, BadLength, BadValue}
-use Rattle.event_codec.specs.Spelling.{length_bytes, half_bytes, number_bytes, sized, value_bytes, values_bytes, tag_of, columns_of, values_of, body_of, spelled, is_number, IsSpelledValue, RowsAlike, IsSpelled}
+use Rattle.event_codec.specs.Encoding.{length_bytes, half_bytes, number_bytes, sized, value_bytes, values_bytes, tag_of, columns_of, values_of, body_of, encoded, is_number, IsEncodableValue, RowsAlike, IsEncodable}
 use Rattle.event_codec.specs.Reading.{◌>>=◌, taken, sized_at, number_of, number_at, text_of, text_at, blob_at, value_at, with_value, values_at, name_of, name_at, count_at, one_row, two_rows, change_at, event_of, event_at, decoded}
-use Rattle.event_codec.specs.Laws.{IsHeld, IsWritten, ReadsWhatIsSpelled}
+use Rattle.event_codec.specs.Laws.{IsHeld, IsWritten, ReadsWhatIsEncodable}
 use Rattle.event_codec.proofs.Sizes.{length-sized, values_bytes-none, values_bytes-cons, values_bytes-append}
 
 -- each is a byte
@@ -67,21 +67,21 @@ alike n m e = grind (arith, nat_tests)
 apart : (n m : ℕ) → nat_eq n m ≡ false → n ≢ m
 apart n m e = λ same. grind (arith, nat_tests)
 
-parts : (front rest : List ℕ) → Bytes (front ++ rest) → Bytes front × Bytes rest
+parts : (prefix rest : List ℕ) → Bytes (prefix ++ rest) → Bytes prefix × Bytes rest
 parts [] rest all = (tt, all)
-parts (byte ∷ front) rest all = ((all.0, (parts front rest all.1).0), (parts front rest all.1).1)
+parts (byte ∷ prefix) rest all = ((all.0, (parts prefix rest all.1).0), (parts prefix rest all.1).1)
 
 small : (bytes : List ℕ) → Bytes bytes → (i : ℕ) → get_or bytes i 0 < 256
 small [] all i = omega arith
 small (byte ∷ bytes) all zero = all.0
 small (byte ∷ bytes) all (suc i) = small bytes all.1 i
 
-taken_parts : (fault : DecodeFault) (n : ℕ) (bytes front rest : List ℕ) → taken fault n bytes ≡ Ok (front, rest) → (bytes ≡ front ++ rest) × (length front ≡ n)
+taken_parts : (fault : DecodeFault) (n : ℕ) (bytes prefix rest : List ℕ) → taken fault n bytes ≡ Ok (prefix, rest) → (bytes ≡ prefix ++ rest) × (length prefix ≡ n)
 unfolding taken
-taken_parts fault n bytes front rest e =
-    let c : (nat_le n (length bytes) ≡ true) × (pair (take n bytes) (drop n bytes) ≡ Ok (front, rest)) = chosen (nat_le n (length bytes)) (Ok (take n bytes, drop n bytes)) fault (front, rest) e in
-    let p : (take n bytes ≡ front) × (drop n bytes ≡ rest) = both_ok (take n bytes) front (drop n bytes) rest c.1 in (
-      sym (take-append-drop n bytes) ∙ ap (λ f. f ++ drop n bytes) p.0 ∙ ap (λ r. front ++ r) p.1,
+taken_parts fault n bytes prefix rest e =
+    let c : (nat_le n (length bytes) ≡ true) × (pair (take n bytes) (drop n bytes) ≡ Ok (prefix, rest)) = chosen (nat_le n (length bytes)) (Ok (take n bytes, drop n bytes)) fault (prefix, rest) e in
+    let p : (take n bytes ≡ prefix) × (drop n bytes ≡ rest) = both_ok (take n bytes) prefix (drop n bytes) rest c.1 in (
+      sym (take-append-drop n bytes) ∙ ap (λ f. f ++ drop n bytes) p.0 ∙ ap (λ r. prefix ++ r) p.1,
       ap length (sym p.0) ∙ length-take-le n bytes (at_most n (length bytes) c.0),
     )
 
@@ -100,32 +100,32 @@ half_fits : (half : List ℕ) → Bytes half → from_be_bytes w64 half < 2 ^ 64
 half_fits half all = omega (arith, small half all 0, small half all 1, small half all 2, small half all 3, small half all 4, small half all 5, small half all 6, small half all 7)
 
 -- bytes that stand behind their length
-record IsSizedAt (bytes front rest : List ℕ) : Type 0 where
-  split : bytes ≡ sized front ++ rest
-  fits : length front < 2 ^ 32
+record IsSizedAt (bytes prefix rest : List ℕ) : Type 0 where
+  split : bytes ≡ sized prefix ++ rest
+  fits : length prefix < 2 ^ 32
   behind : Bytes rest
 
-sized_parts : (fault : DecodeFault) (bytes front rest : List ℕ) → Bytes bytes → sized_at fault bytes ≡ Ok (front, rest) → IsSizedAt bytes front rest
+sized_parts : (fault : DecodeFault) (bytes prefix rest : List ℕ) → Bytes bytes → sized_at fault bytes ≡ Ok (prefix, rest) → IsSizedAt bytes prefix rest
 unfolding sized_at sized
-sized_parts fault bytes front rest all e =
-    let w = went_on (taken fault 4 bytes) (λ size. taken fault (from_be_bytes w32 size.0) size.1) (front, rest) e in
+sized_parts fault bytes prefix rest all e =
+    let w = went_on (taken fault 4 bytes) (λ size. taken fault (from_be_bytes w32 size.0) size.1) (prefix, rest) e in
     let size : List ℕ = w.0.0 in
     let more : List ℕ = w.0.1 in
     let p : (bytes ≡ size ++ more) × (length size ≡ 4) = taken_parts fault 4 bytes size more w.1 in
-    let q : (more ≡ front ++ rest) × (length front ≡ from_be_bytes w32 size) = taken_parts fault (from_be_bytes w32 size) more front rest w.2 in
+    let q : (more ≡ prefix ++ rest) × (length prefix ≡ from_be_bytes w32 size) = taken_parts fault (from_be_bytes w32 size) more prefix rest w.2 in
     let these : Bytes size × Bytes more = parts size more (subst Bytes p.0 all) in
-    let those : Bytes front × Bytes rest = parts front rest (subst Bytes q.0 these.1) in
-    let spelling : length_bytes (length front) ≡ size = ap length_bytes q.1 ∙ length_there size these.0 p.1 in
+    let those : Bytes prefix × Bytes rest = parts prefix rest (subst Bytes q.0 these.1) in
+    let encoding : length_bytes (length prefix) ≡ size = ap length_bytes q.1 ∙ length_there size these.0 p.1 in
     record {
-      split = p.0 ∙ ap (λ m. size ++ m) q.0 ∙ sym (append_assoc size front rest) ∙ ap (λ s. (s ++ front) ++ rest) (sym spelling);
+      split = p.0 ∙ ap (λ m. size ++ m) q.0 ∙ sym (append_assoc size prefix rest) ∙ ap (λ s. (s ++ prefix) ++ rest) (sym encoding);
       fits = omega (arith, q.1, length_fits size these.0);
       behind = those.1;
     }
 
--- a value that stands at the front
+-- a value that stands first
 record IsValueAt (bytes : List ℕ) (value : Value) (rest : List ℕ) : Type 0 where
   split : bytes ≡ value_bytes value ++ rest
-  spelled : IsSpelledValue value
+  encoded : IsEncodableValue value
   held : IsHeld value
   behind : Bytes rest
 
@@ -142,9 +142,9 @@ some_of : {A : Type 0} (b : Bool) (a v : A) → cond b (Some a) None ≡ Some v 
 some_of true a v e = (refl, cc)
 some_of false a v e = absurd cc
 
-number_spelled : (high low : List ℕ) → Bytes high → Bytes low → length high ≡ 8 → length low ≡ 8 → number_bytes (cast_signed w128 (from_be_bytes w64 high * 2 ^ 64 + from_be_bytes w64 low)) ≡ high ++ low
+number_encoded : (high low : List ℕ) → Bytes high → Bytes low → length high ≡ 8 → length low ≡ 8 → number_bytes (cast_signed w128 (from_be_bytes w64 high * 2 ^ 64 + from_be_bytes w64 low)) ≡ high ++ low
 unfolding number_bytes
-number_spelled high low all_high all_low eight_high eight_low =
+number_encoded high low all_high all_low eight_high eight_low =
     let h : ℕ = from_be_bytes w64 high in
     let l : ℕ = from_be_bytes w64 low in
     ap (λ u. half_bytes (u / 2 ^ 64) ++ half_bytes (u % 2 ^ 64)) (of_z-to_z w128 (h * 2 ^ 64 + l) (both_fit h l (half_fits high all_high) (half_fits low all_low)))
@@ -169,8 +169,8 @@ number_parts bytes value rest all e =
     let z : ℤ = cast_signed w128 (from_be_bytes w64 high * 2 ^ 64 + from_be_bytes w64 low) in
     let r : (number_of (from_be_bytes w64 high) (from_be_bytes w64 low) ≡ Some value) × (last ≡ rest) = both_ok (number_of (from_be_bytes w64 high) (from_be_bytes w64 low)) (Some value) last rest v.2 in
     let n : (is_number z ≡ true) × (Num z ≡ value) = some_of (is_number z) (Num z) value r.0 in
-    let split : bytes ≡ number_bytes z ++ last = p.0 ∙ ap (λ m. high ++ m) q.0 ∙ sym (append_assoc high low last) ∙ ap (λ b. b ++ last) (sym (number_spelled high low these.0 those.0 p.1 q.1)) in
-    let there : IsValueAt (1 ∷ bytes) (Num z) last = record { split = ap (λ b. 1 ∷ b) split; spelled = n.0; held = tt; behind = those.1 } in
+    let split : bytes ≡ number_bytes z ++ last = p.0 ∙ ap (λ m. high ++ m) q.0 ∙ sym (append_assoc high low last) ∙ ap (λ b. b ++ last) (sym (number_encoded high low these.0 those.0 p.1 q.1)) in
+    let there : IsValueAt (1 ∷ bytes) (Num z) last = record { split = ap (λ b. 1 ∷ b) split; encoded = n.0; held = tt; behind = those.1 } in
     subst (λ v. IsValueAt (1 ∷ bytes) v rest) n.1 (subst (λ l. IsValueAt (1 ∷ bytes) (Num z) l) r.1 there)
 
 text_parts : (bytes : List ℕ) (value : Value) (rest : List ℕ) → Bytes bytes → text_at bytes ≡ Ok (Some value, rest) → IsValueAt (2 ∷ bytes) value rest
@@ -182,7 +182,7 @@ text_parts bytes value rest all e =
     let p : IsSizedAt bytes text last = sized_parts BadLength bytes text last all w.1 in
     let r : (text_of text ≡ Some value) × (last ≡ rest) = both_ok (text_of text) (Some value) last rest w.2 in
     let n : (is_utf8 text ≡ true) × (Text text ≡ value) = some_of (is_utf8 text) (Text text) value r.0 in
-    let there : IsValueAt (2 ∷ bytes) (Text text) last = record { split = ap (λ b. 2 ∷ b) p.split; spelled = tt; held = IsUtf8-from_is_utf8 text n.0; behind = p.behind } in
+    let there : IsValueAt (2 ∷ bytes) (Text text) last = record { split = ap (λ b. 2 ∷ b) p.split; encoded = tt; held = IsUtf8-from_is_utf8 text n.0; behind = p.behind } in
     subst (λ v. IsValueAt (2 ∷ bytes) v rest) n.1 (subst (λ l. IsValueAt (2 ∷ bytes) (Text text) l) r.1 there)
 
 blob_parts : (bytes : List ℕ) (value : Value) (rest : List ℕ) → Bytes bytes → blob_at bytes ≡ Ok (Some value, rest) → IsValueAt (3 ∷ bytes) value rest
@@ -194,7 +194,7 @@ blob_parts bytes value rest all e =
     let p : IsSizedAt bytes blob last = sized_parts BadLength bytes blob last all w.1 in
     let r : (Some (Blob blob) ≡ Some value) × (last ≡ rest) = both_ok (Some (Blob blob)) (Some value) last rest w.2 in
     let n : Blob blob ≡ value = cc in
-    let there : IsValueAt (3 ∷ bytes) (Blob blob) last = record { split = ap (λ b. 3 ∷ b) p.split; spelled = tt; held = tt; behind = p.behind } in
+    let there : IsValueAt (3 ∷ bytes) (Blob blob) last = record { split = ap (λ b. 3 ∷ b) p.split; encoded = tt; held = tt; behind = p.behind } in
     subst (λ v. IsValueAt (3 ∷ bytes) v rest) n (subst (λ l. IsValueAt (3 ∷ bytes) (Blob blob) l) r.1 there)
 
 null_parts : (bytes : List ℕ) (value : Value) (rest : List ℕ) → Bytes bytes → pair (Some Null) bytes ≡ Ok (Some value, rest) → IsValueAt (0 ∷ bytes) value rest
@@ -202,7 +202,7 @@ unfolding value_bytes
 null_parts bytes value rest all e =
     let r : (Some Null ≡ Some value) × (bytes ≡ rest) = both_ok (Some Null) (Some value) bytes rest e in
     let n : Null ≡ value = cc in
-    let there : IsValueAt (0 ∷ bytes) Null bytes = record { split = refl; spelled = tt; held = tt; behind = all } in
+    let there : IsValueAt (0 ∷ bytes) Null bytes = record { split = refl; encoded = tt; held = tt; behind = all } in
     subst (λ v. IsValueAt (0 ∷ bytes) v rest) n (subst (λ l. IsValueAt (0 ∷ bytes) Null l) r.1 there)
 
 by_kind : (t0 t1 t2 t3 : Bool) (kind : ℕ) (bytes : List ℕ) (value : Value) (rest : List ℕ) → nat_eq kind 0 ≡ t0 → nat_eq kind 1 ≡ t1 → nat_eq kind 2 ≡ t2 → nat_eq kind 3 ≡ t3 → Bytes bytes → cond t0 (Ok (Some Null, bytes)) (cond t1 (number_at bytes) (cond t2 (text_at bytes) (cond t3 (blob_at bytes) (Err BadValue)))) ≡ Ok (Some value, rest) → IsValueAt (kind ∷ bytes) value rest
@@ -217,7 +217,7 @@ unfolding value_at
 value_parts [] value rest all e = absurd cc
 value_parts (kind ∷ bytes) value rest all e = by_kind (nat_eq kind 0) (nat_eq kind 1) (nat_eq kind 2) (nat_eq kind 3) kind bytes value rest refl refl refl refl all.1 e
 
--- values that stand at the front, behind those so far
+-- values that stand first, behind those so far
 record AreValuesAt (so_far : Option (List Value)) (n : ℕ) (bytes : List ℕ) (values : List Value) (rest : List ℕ) : Type 0 where
   old : List Value
   new : List Value
@@ -225,7 +225,7 @@ record AreValuesAt (so_far : Option (List Value)) (n : ℕ) (bytes : List ℕ) (
   values_is : values ≡ old ++ new
   count : length new ≡ n
   split : bytes ≡ values_bytes new ++ rest
-  spelled : AllByRecursion IsSpelledValue new
+  encoded : AllByRecursion IsEncodableValue new
   held : AllByRecursion IsHeld new
   behind : Bytes rest
 
@@ -239,7 +239,7 @@ no_values so_far bytes values rest all e =
       values_is = sym (append-nil values);
       count = refl;
       split = r.1 ∙ ap (λ none. none ++ rest) (sym values_bytes-none);
-      spelled = tt;
+      encoded = tt;
       held = tt;
       behind = subst Bytes r.1 all;
     }
@@ -267,7 +267,7 @@ goes_on old (Some value) n bytes between values rest all e f next =
       values_is = there.values_is ∙ ap (λ o. o ++ there.new) (sym old_is) ∙ append_assoc old (value ∷ []) there.new;
       count = ap suc there.count;
       split = here.split ∙ ap (λ b. value_bytes value ++ b) there.split ∙ sym (append_assoc (value_bytes value) (values_bytes there.new) rest) ∙ ap (λ b. b ++ rest) (sym (values_bytes-cons value there.new));
-      spelled = (here.spelled, there.spelled);
+      encoded = (here.encoded, there.encoded);
       held = (here.held, there.held);
       behind = there.behind;
     }
@@ -280,11 +280,11 @@ values_parts (suc n) (Some old) bytes values rest all e =
     let w = went_on (value_at bytes) (λ value. values_at (with_value (Some old) value.0) n value.1) (Some values, rest) e in
     goes_on old w.0.0 n bytes w.0.1 values rest all w.1 w.2 (λ v bytes_between f. values_parts n (Some (old ++ v ∷ [])) w.0.1 values rest bytes_between f)
 
--- a row that stands at the front
+-- a row that stands first
 record IsRowAt (n : ℕ) (bytes : List ℕ) (row : List Value) (rest : List ℕ) : Type 0 where
   count : length row ≡ n
   split : bytes ≡ values_bytes row ++ rest
-  spelled : AllByRecursion IsSpelledValue row
+  encoded : AllByRecursion IsEncodableValue row
   held : AllByRecursion IsHeld row
   behind : Bytes rest
 
@@ -297,12 +297,12 @@ row_parts n bytes row rest all e =
     record {
       count = ap length (sym new_is) ∙ p.count;
       split = p.split ∙ ap (λ new. values_bytes new ++ rest) new_is;
-      spelled = subst (AllByRecursion IsSpelledValue) new_is p.spelled;
+      encoded = subst (AllByRecursion IsEncodableValue) new_is p.encoded;
       held = subst (AllByRecursion IsHeld) new_is p.held;
       behind = p.behind;
     }
 
--- a name that stands at the front
+-- a name that stands first
 record IsNameAt (bytes name rest : List ℕ) : Type 0 where
   split : bytes ≡ length name ∷ (name ++ rest)
   some : 1 ≤ length name
@@ -337,7 +337,7 @@ name_parts (size ∷ bytes) name rest all e =
     } in
     subst (λ m. IsNameAt (size ∷ bytes) m rest) n.1 (subst (λ l. IsNameAt (size ∷ bytes) text l) r.1 there)
 
--- a count that stands at the front
+-- a count that stands first
 record IsCountAt (bytes : List ℕ) (count : ℕ) (rest : List ℕ) : Type 0 where
   split : bytes ≡ count ∷ rest
   some : 1 ≤ count
@@ -354,24 +354,24 @@ count_parts (byte ∷ bytes) count rest all e =
     let there : IsCountAt (byte ∷ bytes) byte bytes = record { split = refl; some = at_most 1 byte t.0; few = at_most byte 64 t.1; behind = all.1 } in
     subst (λ n. IsCountAt (byte ∷ bytes) n rest) r.0 (subst (λ l. IsCountAt (byte ∷ bytes) byte l) r.1 there)
 
--- a change whose values stand at the front
+-- a change whose values stand first
 record IsChangeAt (tag count : ℕ) (bytes : List ℕ) (change : Change) (rest : List ℕ) : Type 0 where
   tag_is : tag_of change ≡ tag
   count_is : columns_of change ≡ count
   split : bytes ≡ values_bytes (values_of change) ++ rest
   alike : RowsAlike change
-  spelled : AllByRecursion IsSpelledValue (values_of change)
+  encoded : AllByRecursion IsEncodableValue (values_of change)
   held : AllByRecursion IsHeld (values_of change)
 
 one_change : (writes : Bool) (tag count : ℕ) (bytes : List ℕ) (row : List Value) (change : Change) (rest : List ℕ) → nat_eq tag 1 ≡ writes → 1 ≤ tag → tag ≤ 3 → tag ≢ 2 → IsRowAt count bytes row rest → cond writes (Some (Write row)) (Some (Delete row)) ≡ Some change → IsChangeAt tag count bytes change rest
 one_change true tag count bytes row change rest is some few other p e =
     let n : Write row ≡ change = cc in
-    subst (λ c. IsChangeAt tag count bytes c rest) n (record { tag_is = sym (alike tag 1 is); count_is = p.count; split = p.split; alike = tt; spelled = p.spelled; held = p.held })
+    subst (λ c. IsChangeAt tag count bytes c rest) n (record { tag_is = sym (alike tag 1 is); count_is = p.count; split = p.split; alike = tt; encoded = p.encoded; held = p.held })
 one_change false tag count bytes row change rest is some few other p e =
     let n : Delete row ≡ change = cc in
     let not_one : tag ≢ 1 = apart tag 1 is in
     let three : 3 ≡ tag = third tag some few other not_one in
-    subst (λ c. IsChangeAt tag count bytes c rest) n (record { tag_is = three; count_is = p.count; split = p.split; alike = tt; spelled = p.spelled; held = p.held })
+    subst (λ c. IsChangeAt tag count bytes c rest) n (record { tag_is = three; count_is = p.count; split = p.split; alike = tt; encoded = p.encoded; held = p.held })
   where
     third : (tag : ℕ) → 1 ≤ tag → tag ≤ 3 → tag ≢ 2 → tag ≢ 1 → 3 ≡ tag
     third tag some few other not_one = omega arith
@@ -397,7 +397,7 @@ from_rows tag count bytes (Some before) (Some after) between last change rest is
       count_is = p.count;
       split = p.split ∙ ap (λ b. values_bytes before ++ b) q.split ∙ sym (append_assoc (values_bytes before) (values_bytes after) last) ∙ ap (λ b. b ++ last) (sym (values_bytes-append before after));
       alike = p.count ∙ sym q.count;
-      spelled = both_of IsSpelledValue before after p.spelled q.spelled;
+      encoded = both_of IsEncodableValue before after p.encoded q.encoded;
       held = both_of IsHeld before after p.held q.held;
     }))
 
@@ -434,14 +434,14 @@ made tag body name between count last change p q r =
       tag_is = r.tag_is;
       body_is = is;
       written = λ fits. record {
-        spelled = record {
+        encoded = record {
           named = p.some;
           name = p.short;
           characters = p.characters;
           some = omega (arith, q.some, r.count_is);
           columns = omega (arith, q.few, r.count_is);
           alike = r.alike;
-          numbers = r.spelled;
+          numbers = r.encoded;
           size = omega (arith, ap length is);
         };
         name = p.utf8;
@@ -468,17 +468,17 @@ event_parts tag body event some few all e =
     let w = went_on (change_at tag v.0.0 v.0.1) (λ change. event_of u.0.0 change.0 change.1) event v.2 in
     finished tag body u.0.0 u.0.1 v.0.0 v.0.1 w.0.0 w.0.1 event some few all u.1 v.1 w.1 w.2
 
-front_bytes : (front rest : List ℕ) → Bytes (sized front ++ rest) → Bytes front
+prefix_bytes : (prefix rest : List ℕ) → Bytes (sized prefix ++ rest) → Bytes prefix
 unfolding sized
-front_bytes front rest all = (parts (length_bytes (length front)) front (parts (length_bytes (length front) ++ front) rest all).0).1
+prefix_bytes prefix rest all = (parts (length_bytes (length prefix)) prefix (parts (length_bytes (length prefix) ++ prefix) rest all).0).1
 
 length_with : (tag : ℕ) (body : List ℕ) (n : ℕ) → length body + 5 ≡ n → length (tag ∷ sized body) ≡ n
 length_with tag body n e = omega (arith, length-sized body)
 
-pub spelled_so : ReadsWhatIsSpelled
-unfolding decoded spelled
-spelled_so [] event n all e = absurd cc
-spelled_so (tag ∷ bytes) event n all e =
+pub encoded_so : ReadsWhatIsEncodable
+unfolding decoded encoded
+encoded_so [] event n all e = absurd cc
+encoded_so (tag ∷ bytes) event n all e =
     let u = went_on (sized_at Cut bytes) (λ body. cond (nat_le 1 tag && nat_le tag 3) (event_at tag body.0 >>= (λ event. Ok (event, length body.0 + 5))) (Err BadTag)) (event, n) e in
     let body : List ℕ = u.0.0 in
     let rest : List ℕ = u.0.1 in
@@ -487,11 +487,11 @@ spelled_so (tag ∷ bytes) event n all e =
     let t : (nat_le 1 tag ≡ true) × (nat_le tag 3 ≡ true) = and_parts (nat_le 1 tag) (nat_le tag 3) c.0 in
     let w = went_on (event_at tag body) (λ event. Ok (event, length body + 5)) (event, n) c.1 in
     let r : (w.0 ≡ event) × (length body + 5 ≡ n) = both_ok w.0 event (length body + 5) n w.2 in
-    let of_body : Bytes body = front_bytes body rest (subst Bytes p.split all.1) in
+    let of_body : Bytes body = prefix_bytes body rest (subst Bytes p.split all.1) in
     let is : IsEventOf tag body event = subst (IsEventOf tag body) r.0 (event_parts tag body w.0 (at_most 1 tag t.0) (at_most tag 3 t.1) of_body w.1) in
-    let spelling : tag_of event.change ∷ sized (body_of event) ≡ tag ∷ sized body = ap (λ k. k ∷ sized (body_of event)) is.tag_is ∙ ap (λ b. tag ∷ sized b) is.body_is in
+    let encoding : tag_of event.change ∷ sized (body_of event) ≡ tag ∷ sized body = ap (λ k. k ∷ sized (body_of event)) is.tag_is ∙ ap (λ b. tag ∷ sized b) is.body_is in
     let long : length (tag ∷ sized body) ≡ n = length_with tag body n r.1 in (
-      spelling ∙ sym (take_at (tag ∷ sized body) rest n long) ∙ ap (λ b. take n (tag ∷ b)) (sym p.split),
+      encoding ∙ sym (take_at (tag ∷ sized body) rest n long) ∙ ap (λ b. take n (tag ∷ b)) (sym p.split),
       is.written p.fits,
     )
 
@@ -499,6 +499,6 @@ all_bytes : (bytes : List ℕ) → ((i : ℕ) → Fits w8 (get_or bytes i 0)) �
 all_bytes [] fits = tt
 all_bytes (byte ∷ bytes) fits = (Fits-lt-pow {w = w8} (fits 0), all_bytes bytes (λ i. fits (suc i)))
 
--- an event that was read from a slice may be spelled
-pub read_is_spelled : (bytes : List ℕ) (event : RowEvent) (n : ℕ) → ((i : ℕ) → Fits w8 (get_or bytes i 0)) → decoded bytes ≡ Ok (event, n) → IsSpelled event
-read_is_spelled bytes event n fits e = (spelled_so bytes event n (all_bytes bytes fits) e).1.spelled
+-- an event that was read from a slice may be encoded
+pub read_is_encodable : (bytes : List ℕ) (event : RowEvent) (n : ℕ) → ((i : ℕ) → Fits w8 (get_or bytes i 0)) → decoded bytes ≡ Ok (event, n) → IsEncodable event
+read_is_encodable bytes event n fits e = (encoded_so bytes event n (all_bytes bytes fits) e).1.encoded

@@ -1,8 +1,8 @@
--- How the parts of an event are spelled one after another.
+-- How the parts of an event are encoded one after another.
 use Rattle.std.proofs.Common.{◌≡◌, ℕ, ◌+◌, ◌<◌, ◌≤◌, List, ◌∷◌, ◌++◌, length, drop, get_or, ap, sym, ◌∙◌, arith, length-append, append_assoc}
 use Rattle.std.proofs.lemmas.List.{drop_more}
 use Rattle.gho_values.specs.declared.value.Value.{Value}
-use Rattle.event_codec.specs.Spelling.{value_bytes, values_bytes}
+use Rattle.event_codec.specs.Encoding.{value_bytes, values_bytes}
 use Rattle.event_codec.proofs.Sizes.{length-both, values_bytes-append, values_bytes-cons}
 
 pub ruleset of_changes = (length-both, values_bytes-append, append_assoc)

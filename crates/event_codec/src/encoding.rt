@@ -1,14 +1,14 @@
-//! Spells events in bytes.
+//! Encodes events.
 
 ghost use Rattle.std.specs.Prelude.{◌≡◌, ◌<◌, ◌+◌, ◌^◌, ◌++◌, length, OnOk, OnErr, IfOk};
-ghost use Rattle.event_codec.specs.Spelling.{length_bytes, half_bytes, number_bytes, sized, value_bytes, values_bytes, tag_of, columns_of, values_of, body_of, spelled, IsSpelled};
+ghost use Rattle.event_codec.specs.Encoding.{length_bytes, half_bytes, number_bytes, sized, value_bytes, values_bytes, tag_of, columns_of, values_of, body_of, encoded, IsEncodable};
 
 use crate::event::{Change, RowEvent};
 use gho_values::{Bytes, Sequence, Value};
 use std::alloc::{AllocError, Global};
 use std::mem;
 
-/// How many bytes the value is spelled in.
+/// How many bytes the value is encoded in.
 #[tactic(auto, using(crate::proofs::Sizes::of_value))]
 fn cost_of_value(value: &Value) -> u64
     requires { length (value_bytes value.now) < 2 ^ 32 }
@@ -22,7 +22,7 @@ fn cost_of_value(value: &Value) -> u64
     }
 }
 
-/// How many bytes the values are spelled in.
+/// How many bytes the values are encoded in.
 #[tactic(auto, using(crate::proofs::Sizes::of_values))]
 fn cost_of_row(row: &[Value]) -> u64
     requires { length (values_bytes row.now) < 2 ^ 32 }
@@ -35,7 +35,7 @@ fn cost_of_row(row: &[Value]) -> u64
     cost
 }
 
-/// How many bytes the values of a change are spelled in.
+/// How many bytes the values of a change are encoded in.
 #[tactic(auto, using(crate::proofs::Sizes::of_changes))]
 fn cost_of_change(change: &Change) -> u64
     requires { length (values_bytes (values_of change.now)) < 2 ^ 32 }
@@ -49,17 +49,17 @@ fn cost_of_change(change: &Change) -> u64
     }
 }
 
-/// How many bytes the event is spelled in.
+/// How many bytes the event is encoded in.
 #[tactic(auto, using(crate::proofs::Sizes::of_events))]
 pub fn cost(event: &RowEvent) -> u64
-    requires { IsSpelled event.now }
-    ensures { result ≡ length (spelled event.now) }
+    requires { IsEncodable event.now }
+    ensures { result ≡ length (encoded event.now) }
 {
     cost_of_change(&event.change) + event.table.as_str().len() as u64 + 7
 }
 
 /// Adds bytes behind their length.
-#[tactic(auto, unfolding(crate::specs::Spelling::sized, crate::specs::Spelling::length_bytes))]
+#[tactic(auto, unfolding(crate::specs::Encoding::sized, crate::specs::Encoding::length_bytes))]
 fn push_sized(into: &mut Vec<u8>, bytes: &[u8]) -> Result<(), AllocError>
     requires { length bytes.now < 2 ^ 32 }
     ensures { OnOk result (into.new.items ≡ into.old.items ++ sized bytes.now) }
@@ -72,7 +72,7 @@ fn push_sized(into: &mut Vec<u8>, bytes: &[u8]) -> Result<(), AllocError>
 const HALF: u128 = 0x1_0000_0000_0000_0000;
 
 /// Adds half of a number.
-#[tactic(auto, unfolding(crate::specs::Spelling::half_bytes))]
+#[tactic(auto, unfolding(crate::specs::Encoding::half_bytes))]
 fn push_half(into: &mut Vec<u8>, half: u64) -> Result<(), AllocError>
     ensures { OnOk result (into.new.items ≡ into.old.items ++ half_bytes half) }
 {
@@ -80,7 +80,7 @@ fn push_half(into: &mut Vec<u8>, half: u64) -> Result<(), AllocError>
 }
 
 /// Adds a number.
-#[tactic(auto, using(crate::proofs::Spellings::of_changes), unfolding(crate::specs::Spelling::number_bytes))]
+#[tactic(auto, using(crate::proofs::Encodings::of_changes), unfolding(crate::specs::Encoding::number_bytes))]
 fn push_number(into: &mut Vec<u8>, number: i128) -> Result<(), AllocError>
     ensures { OnOk result (into.new.items ≡ into.old.items ++ number_bytes number) }
 {
@@ -90,7 +90,7 @@ fn push_number(into: &mut Vec<u8>, number: i128) -> Result<(), AllocError>
 }
 
 /// Adds a value.
-#[tactic(auto, using(crate::proofs::Sizes::of_value), unfolding(crate::specs::Spelling::value_bytes))]
+#[tactic(auto, using(crate::proofs::Sizes::of_value), unfolding(crate::specs::Encoding::value_bytes))]
 fn push_value(into: &mut Vec<u8>, value: &Value) -> Result<(), AllocError>
     requires { length (value_bytes value.now) < 2 ^ 32 }
     ensures { OnOk result (into.new.items ≡ into.old.items ++ value_bytes value.now) }
@@ -128,7 +128,7 @@ fn push_values(into: &mut Vec<u8>, values: &[Value]) -> Result<(), AllocError>
 }
 
 /// Adds the values of a change.
-#[tactic(auto, using(crate::proofs::Spellings::of_changes))]
+#[tactic(auto, using(crate::proofs::Encodings::of_changes))]
 fn push_change(into: &mut Vec<u8>, change: &Change) -> Result<(), AllocError>
     requires { length (values_bytes (values_of change.now)) < 2 ^ 32 }
     ensures { OnOk result (into.new.items ≡ into.old.items ++ values_bytes (values_of change.now)) }
@@ -163,9 +163,9 @@ fn columns_of(change: &Change) -> usize
 }
 
 /// The event's body.
-#[tactic(auto, unfolding(crate::specs::Spelling::body_of))]
+#[tactic(auto, unfolding(crate::specs::Encoding::body_of))]
 fn body_of(alloc: Global, event: &RowEvent) -> Result<Vec<u8>, AllocError>
-    requires { IsSpelled event.now }
+    requires { IsEncodable event.now }
     ensures { IfOk result (λ body. body.items ≡ body_of event.now) }
 {
     let name = event.table.as_str().as_bytes();
@@ -178,10 +178,10 @@ fn body_of(alloc: Global, event: &RowEvent) -> Result<Vec<u8>, AllocError>
 }
 
 /// The event's bytes.
-#[tactic(auto, unfolding(crate::specs::Spelling::spelled))]
-fn spelled(alloc: Global, event: &RowEvent) -> Result<Vec<u8>, AllocError>
-    requires { IsSpelled event.now }
-    ensures { IfOk result (λ bytes. bytes.items ≡ spelled event.now) }
+#[tactic(auto, unfolding(crate::specs::Encoding::encoded))]
+fn encoded(alloc: Global, event: &RowEvent) -> Result<Vec<u8>, AllocError>
+    requires { IsEncodable event.now }
+    ensures { IfOk result (λ bytes. bytes.items ≡ encoded event.now) }
 {
     let body = body_of(alloc, event)?;
     let mut bytes = Vec::with_capacity(alloc, body.len())?;
@@ -192,11 +192,11 @@ fn spelled(alloc: Global, event: &RowEvent) -> Result<Vec<u8>, AllocError>
 
 /// Adds the event's bytes at the end.
 pub fn encode(alloc: Global, event: &RowEvent, into: &mut Bytes) -> Result<(), AllocError>
-    requires { IsSpelled event.now }
-    ensures ok { OnOk result (into.new ≡ into.old ++ spelled event.now) }
+    requires { IsEncodable event.now }
+    ensures ok { OnOk result (into.new ≡ into.old ++ encoded event.now) }
     ensures err { OnErr result (into.new ≡ into.old) }
 {
-    let more = spelled(alloc, event)?;
+    let more = encoded(alloc, event)?;
     let mut bytes = mem::replace(into, Sequence::new(alloc)).into_vec();
     let added = bytes.extend_from_slice(more.as_slice());
     *into = Sequence::from_vec(bytes);

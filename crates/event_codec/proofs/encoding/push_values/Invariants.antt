@@ -1,6 +1,6 @@
 use Rattle.std.proofs.Common.{◌≡◌, ◌^◌, ◌<◌, ◌++◌, drop, length}
-use Rattle.event_codec.specs.Spelling.{values_bytes}
-use Rattle.event_codec.proofs.spelling.push_values.Given as goal
+use Rattle.event_codec.specs.Encoding.{values_bytes}
+use Rattle.event_codec.proofs.encoding.push_values.Given as goal
 
 -- what was added so far, with the rest, is all; and the rest is no longer than all
 abbrev pub invariant-loop-value : goal.invariant-loop-value

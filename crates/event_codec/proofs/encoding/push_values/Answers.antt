@@ -1,7 +1,7 @@
 use Rattle.std.proofs.Common.{◌+◌, ◌<◌, ◌++◌, drop, length, ap, ◌∙◌, arith}
-use Rattle.event_codec.specs.Spelling.{values_bytes}
-use Rattle.event_codec.proofs.Spellings.{one_more, shorter}
-use Rattle.event_codec.proofs.spelling.push_values.Goals as goal
+use Rattle.event_codec.specs.Encoding.{values_bytes}
+use Rattle.event_codec.proofs.Encodings.{one_more, shorter}
+use Rattle.event_codec.proofs.encoding.push_values.Goals as goal
 
 pub loop-value-preserved : goal.loop-value-preserved
 loop-value-preserved c =

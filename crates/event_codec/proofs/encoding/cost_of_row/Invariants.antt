@@ -1,6 +1,6 @@
 use Rattle.std.proofs.Common.{◌≡◌, ◌+◌, drop, length}
-use Rattle.event_codec.specs.Spelling.{values_bytes}
-use Rattle.event_codec.proofs.spelling.cost_of_row.Given as goal
+use Rattle.event_codec.specs.Encoding.{values_bytes}
+use Rattle.event_codec.proofs.encoding.cost_of_row.Given as goal
 
 -- the cost so far, with that of the rest, is that of all
 abbrev pub invariant-loop-value : goal.invariant-loop-value

@@ -1,4 +1,4 @@
--- How an event is spelled in bytes: a tag, the length of its body, and the body. The format is this project's own; what an event has is as in MySQL's binary log in ROW format with full row images (MySQL's manual, "Replication Formats").
+-- How an event is encoded in bytes: a tag, the length of its body, and the body. The format is this project's own; what an event has is as in MySQL's binary log in ROW format with full row images (MySQL's manual, "Replication Formats").
 use Rattle.std.specs.Prelude.{◌≡◌, ℕ, ◌-◌, ◌^◌, ◌/◌, ◌%◌, ◌<◌, ◌≤◌, ℤ, pos, neg_ℤ, int_le, Bool, true, ◌&&◌, List, [], ◌∷◌, ◌++◌, length}
 use Rattle.std.specs.Int.{w32, w64, w128, to_be_bytes, cast_unsigned}
 use Rattle.std.specs.List.{flat_map, AllByRecursion}
@@ -59,30 +59,30 @@ unfoldable pub body_of : RowEvent → List ℕ
 body_of event = length event.table ∷ (event.table ++ columns_of event.change ∷ values_bytes (values_of event.change))
 
 -- An event.
-unfoldable pub spelled : RowEvent → List ℕ
-spelled event = tag_of event.change ∷ sized (body_of event)
+unfoldable pub encoded : RowEvent → List ℕ
+encoded event = tag_of event.change ∷ sized (body_of event)
 
 -- A number that an integer column can hold.
 abbrev pub is_number : ℤ → Bool
 is_number n = int_le (neg_ℤ (pos (2 ^ 63))) n && int_le n (pos (2 ^ 64 - 1))
 
 -- A value whose number, where it is one, an integer column can hold.
-abbrev pub IsSpelledValue : Value → Type 0
-IsSpelledValue (Num n) = is_number n ≡ true
-IsSpelledValue value = Unit {0}
+abbrev pub IsEncodableValue : Value → Type 0
+IsEncodableValue (Num n) = is_number n ≡ true
+IsEncodableValue value = Unit {0}
 
 -- The rows of the change have equally many values.
 abbrev pub RowsAlike : Change → Type 0
 RowsAlike (Update before after) = length before ≡ length after
 RowsAlike change = Unit {0}
 
--- The events that are spelled: a name of 1 to 64 characters and at most 255 bytes, rows of 1 to 64 values, alike in their number, numbers that a column can hold, and a body whose length four bytes tell.
-pub record IsSpelled (event : RowEvent) : Type 0 where
+-- The events that are encoded: a name of 1 to 64 characters and at most 255 bytes, rows of 1 to 64 values, alike in their number, numbers that a column can hold, and a body whose length four bytes tell.
+pub record IsEncodable (event : RowEvent) : Type 0 where
   pub named : 1 ≤ length event.table
   pub name : length event.table ≤ 255
   pub characters : character_count event.table ≤ 64
   pub some : 1 ≤ columns_of event.change
   pub columns : columns_of event.change ≤ 64
   pub alike : RowsAlike event.change
-  pub numbers : AllByRecursion IsSpelledValue (values_of event.change)
+  pub numbers : AllByRecursion IsEncodableValue (values_of event.change)
   pub size : length (body_of event) < 2 ^ 32
