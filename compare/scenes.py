@@ -12,9 +12,13 @@ SOON, PATIENT = 0.4, 20
 
 
 class Step:
+    """A step with the answer of the definitions, what is seen of that from outside, and what a server answers."""
+
     def __init__(self, line):
         self.session, self.text, ours, theirs, self.rule = STEP.match(line).groups()
-        self.ours, self.theirs = ours or "lost", theirs or ours or "lost"
+        self.ours = ours or "lost"
+        self.seen = "waits" if self.ours.startswith("waits") else self.ours
+        self.theirs = theirs or self.seen
 
 
 class Scene:
@@ -98,8 +102,8 @@ def compare_scenes():
         listed = scenes()
         for scene in listed:
             for step, answer in play(server, scene):
-                same += answer == step.ours
-                if answer == step.theirs != step.ours:
+                same += answer == step.seen
+                if answer == step.theirs != step.seen:
                     by_rule.append((scene, step, answer))
                 if answer != step.theirs:
                     unexplained += 1

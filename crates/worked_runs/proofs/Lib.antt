@@ -11,3 +11,4 @@ mod Sequences2
 mod Sequences3
 mod Sequences4
 mod SerialRun
+mod Scenes
