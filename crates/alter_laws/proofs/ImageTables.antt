@@ -104,18 +104,18 @@ stay schema new (r ∷ rows) (m ∷ made) keeps fit is apart =
 
 -- ---- both tables have a clustered key
 
-record Both (a b : Option Index) : Type 0 where
-  old : Index
-  index : Index
-  there : a ≡ Some old
-  here : b ≡ Some index
+pub record Both (a b : Option Index) : Type 0 where
+  pub old : Index
+  pub index : Index
+  pub there : a ≡ Some old
+  pub here : b ≡ Some index
 
 both-there : (standing : Standing) (a b : Option Index) → keeps_key standing a b ≡ true → Both a b
 both-there standing (Some old) (Some index) e = record { old = old; index = index; there = refl; here = refl }
 both-there standing (Some old) None e = absurd cc
 both-there standing None b e = absurd cc
 
-both-clustered : (schema : Schema) (standing : Standing) → first_reason (result_reasons schema standing) ≡ None → Both (clustered_key schema) (clustered_key standing.schema)
+pub both-clustered : (schema : Schema) (standing : Standing) → first_reason (result_reasons schema standing) ≡ None → Both (clustered_key schema) (clustered_key standing.schema)
 both-clustered schema standing none =
     let changed = not (keeps_key standing (clustered_key schema) (clustered_key standing.schema)) in
     let first = none_first (eqb (length standing.schema.columns) 0) codes.AllColumnsDropped ((changed, codes.ClusteredKeyChange) ∷ []) none in

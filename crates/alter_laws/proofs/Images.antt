@@ -159,7 +159,7 @@ row-at (c ∷ columns) (v ∷ row) zero column is at = let same : c ≡ column =
 row-at (c ∷ columns) (v ∷ row) (suc place) column is at = let later = row-at columns row place column is.1 at in record { value = later.value; here = later.here; stores_it = later.stores_it }
 
 -- the map at a place of a column that was there
-map-at : (columns : List Column) (origins : List (Option ℕ)) (place before : ℕ) (column : Column) → slice_get columns place ≡ Some column → slice_get origins place ≡ Some (Some before) → slice_get (map_of columns origins) place ≡ Some (record { kind = column.kind; nullable = column.nullable; origin = Old before })
+pub map-at : (columns : List Column) (origins : List (Option ℕ)) (place before : ℕ) (column : Column) → slice_get columns place ≡ Some column → slice_get origins place ≡ Some (Some before) → slice_get (map_of columns origins) place ≡ Some (record { kind = column.kind; nullable = column.nullable; origin = Old before })
 unfolding map_of
 map-at [] origins place before column at from = absurd cc
 map-at (c ∷ columns) [] place before column at from = absurd cc

@@ -41,7 +41,7 @@ ends approve schema clauses new lawful e =
 
 -- ---- each unique key
 
-at-place : (P : Index → Type 0) (xs : List Index) (i : ℕ) (x : Index) → AllByRecursion P xs → slice_get xs i ≡ Some x → P x
+pub at-place : (P : Index → Type 0) (xs : List Index) (i : ℕ) (x : Index) → AllByRecursion P xs → slice_get xs i ≡ Some x → P x
 at-place P [] i x all e = absurd cc
 at-place P (y ∷ xs) zero x all e = let same : y ≡ x = cc in subst P same all.0
 at-place P (y ∷ xs) (suc i) x all e = at-place P xs i x all.1 e
@@ -68,16 +68,16 @@ any-cons : (test : Index → Bool) (x : Index) (xs : List Index) (b : Bool) → 
 any-cons test x xs true h rest e = record { place = 0; item = x; here = refl; passes = h }
 any-cons test x xs false h rest e = let later = rest e in record { place = suc later.place; item = later.item; here = later.here; passes = later.passes }
 
-any-item : (test : Index → Bool) (xs : List Index) → list_any test xs ≡ true → AnyItem test xs
+pub any-item : (test : Index → Bool) (xs : List Index) → list_any test xs ≡ true → AnyItem test xs
 any-item test [] e = absurd cc
 any-item test (x ∷ xs) e = any-cons test x xs (test x) refl (any-item test xs) e
 
-any-at : (test : Index → Bool) (xs : List Index) (place : ℕ) (x : Index) → slice_get xs place ≡ Some x → test x ≡ true → list_any test xs ≡ true
+pub any-at : (test : Index → Bool) (xs : List Index) (place : ℕ) (x : Index) → slice_get xs place ≡ Some x → test x ≡ true → list_any test xs ≡ true
 any-at test [] place x e h = absurd cc
 any-at test (y ∷ xs) zero x e h = let same : y ≡ x = cc in rw (same, h) refl
 any-at test (y ∷ xs) (suc place) x e h = second_or (test y) (list_any test xs) (any-at test xs place x e h)
 
-abbrev clashes : List Value → List Value → Index → Bool
+abbrev pub clashes : List Value → List Value → Index → Bool
 clashes a b index = is_eq (compare_keys (key_of index.places a) (key_of index.places b)) && no_null (key_of index.places a)
 
 pub stay_apart : ImagesStayApart
@@ -103,7 +103,7 @@ origin-is (Some None) before place e h = absurd cc
 origin-is None before place e h = absurd cc
 
 -- the places that were the columns' are the old key's
-same_columns-are : (old : Schema) (standing : Standing) (places sources before : List ℕ) → SamePlaces old standing places sources → same_columns standing.origins places before ≡ true → sources ≡ before
+pub same_columns-are : (old : Schema) (standing : Standing) (places sources before : List ℕ) → SamePlaces old standing places sources → same_columns standing.origins places before ≡ true → sources ≡ before
 unfolding same_columns
 same_columns-are old standing [] [] [] same e = refl
 same_columns-are old standing [] [] (b ∷ before) same e = absurd cc
@@ -118,10 +118,10 @@ clustered-place : (schema : Schema) (o : Option ℕ) (index : Index) → unique_
 clustered-place schema (Some place) index e = (place, e)
 clustered-place schema None index e = absurd cc
 
-clustered-stands : (schema : Schema) (index : Index) → clustered_key schema ≡ Some index → (place : ℕ) × (slice_get schema.uniques place ≡ Some index)
+pub clustered-stands : (schema : Schema) (index : Index) → clustered_key schema ≡ Some index → (place : ℕ) × (slice_get schema.uniques place ≡ Some index)
 clustered-stands schema index e = clustered-place schema (clustered_place schema) index e
 
-keeps-parts : (standing : Standing) (old index : Index) (a b : Option Index) → a ≡ Some old → b ≡ Some index → keeps_key standing a b ≡ true → same_columns standing.origins index.places old.places ≡ true
+pub keeps-parts : (standing : Standing) (old index : Index) (a b : Option Index) → a ≡ Some old → b ≡ Some index → keeps_key standing a b ≡ true → same_columns standing.origins index.places old.places ≡ true
 keeps-parts standing old index (Some x) (Some y) e f h =
     let same : x ≡ old = index-is x old e in
     let also : y ≡ index = index-is y index f in

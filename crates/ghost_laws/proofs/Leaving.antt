@@ -35,7 +35,7 @@ use Rattle.server_laws.proofs.Others.{at_wait}
 use Rattle.ghost_laws.specs.Laws.{DeedsAreDone}
 use Rattle.ghost_laws.specs.Leaving.{DeedLeaves, is_lost, unless_lost, was_done, where_done, with_grant}
 
-abbrev holds_of : State → ℕ → SessionHold
+abbrev pub holds_of : State → ℕ → SessionHold
 holds_of state n = (face_of state.sessions n).hold
 
 -- a session that is there
@@ -43,11 +43,11 @@ pub record There (now : State) (number : ℕ) : Type 0 where
   pub found : Session
   pub is : session_of number now.sessions ≡ Some found
 
-hold_found : (now : State) (number : ℕ) (there : There now number) → hold_in there.found ≡ holds_of now number
+pub hold_found : (now : State) (number : ℕ) (there : There now number) → hold_in there.found ≡ holds_of now number
 hold_found now number there = sym (ap (λ (o : Option Session). (face_in o).hold) there.is)
 
 -- its session changes, and is lost behind it or not
-changed_so : (now : State) (number : ℕ) (there : There now number) (change : Session → Session) (face : Face) (lost : Bool) → ((s : Session) → (change s).number ≡ s.number) → face_in (Some (change there.found)) ≡ face → (tables : Database) (log : List RowEvent) (waiting : List Waiting)
+pub changed_so : (now : State) (number : ℕ) (there : There now number) (change : Session → Session) (face : Face) (lost : Bool) → ((s : Session) → (change s).number ≡ s.number) → face_in (Some (change there.found)) ≡ face → (tables : Database) (log : List RowEvent) (waiting : List Waiting)
     → Besides number (holds_of now) (holds_of (final lost number (record now { tables = tables; log = log; waiting = waiting; sessions = with_session number change now.sessions }))) (unless_lost lost face.hold)
 unfolding loses
 changed_so now number there change face false keeps same tables log waiting =
@@ -58,14 +58,14 @@ changed_so now number there change face true keeps same tables log waiting =
     (lost_faces number now.sessions (with_session number change now.sessions) (face_in (Some (change there.found))) (faces_with number change now.sessions there.found keeps there.is))
 
 -- its session stays, or is lost
-same_so : (now : State) (number : ℕ) (lost : Bool) (tables : Database) (log : List RowEvent) (waiting : List Waiting) → Besides number (holds_of now) (holds_of (final lost number (record now { tables = tables; log = log; waiting = waiting }))) (unless_lost lost (holds_of now number))
+pub same_so : (now : State) (number : ℕ) (lost : Bool) (tables : Database) (log : List RowEvent) (waiting : List Waiting) → Besides number (holds_of now) (holds_of (final lost number (record now { tables = tables; log = log; waiting = waiting }))) (unless_lost lost (holds_of now number))
 unfolding loses
 same_so now number false tables log waiting = record { there = λ n differ. refl; here = refl }
 same_so now number true tables log waiting =
     holds_besides number (face_of now.sessions) (face_of (Rattle.std.specs.Prelude.filter (λ session. not (session.number == number)) now.sessions)) no_face
     (lost_faces number now.sessions now.sessions (face_of now.sessions number) (record { there = λ n differ. refl; here = refl }))
 
-stored_final : (lost : Bool) (number : ℕ) (state : State) → stored (final lost number state) ≡ stored state
+pub stored_final : (lost : Bool) (number : ℕ) (state : State) → stored (final lost number state) ≡ stored state
 unfolding loses
 stored_final true number state = refl
 stored_final false number state = refl
@@ -80,11 +80,11 @@ NeedsApart now number (Moves answer tables) = Unit {0}
 NeedsApart now number (Locks answer names) = Unit {0}
 NeedsApart now number (Unlocks answer) = Unit {0}
 
-resting_hold : (lost : Bool) → unless_lost lost no_hold ≡ no_hold
+pub resting_hold : (lost : Bool) → unless_lost lost no_hold ≡ no_hold
 resting_hold true = refl
 resting_hold false = refl
 
-rests_so : (now : State) (number : ℕ) (there : There now number) (lost : Bool) (tables : Database) (log : List RowEvent) (waiting : List Waiting)
+pub rests_so : (now : State) (number : ℕ) (there : There now number) (lost : Bool) (tables : Database) (log : List RowEvent) (waiting : List Waiting)
     → Besides number (holds_of now) (holds_of (final lost number (record now { tables = tables; log = log; waiting = waiting; sessions = with_session number at_rest now.sessions }))) no_hold
 rests_so now number there lost tables log waiting =
     subst (Besides number (holds_of now) (holds_of (final lost number (record now { tables = tables; log = log; waiting = waiting; sessions = with_session number at_rest now.sessions })))) (resting_hold lost)

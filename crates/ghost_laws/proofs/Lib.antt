@@ -26,3 +26,4 @@ pub mod Leaving
 pub mod Granting
 pub mod Running
 pub mod Copies
+pub mod Undone

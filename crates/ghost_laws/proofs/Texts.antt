@@ -60,10 +60,10 @@ row_given place (column ∷ columns) (c ∷ cs) row places values same stand =
     rw (here, same.0, same.1) (one_more place (stores (source c.origin row) c.kind c.nullable) (image_from (place + 1) cs row) (row_from (place + 1) columns places values) rest)
 
 -- the places of all columns, in order
-not_here : (place j : ℕ) → ((place + (suc j)) == place) ≡ false
+pub not_here : (place j : ℕ) → ((place + (suc j)) == place) ≡ false
 not_here place j = grind (arith, nat_tests)
 
-is_here : (place : ℕ) → ((place + 0) == place) ≡ true
+pub is_here : (place : ℕ) → ((place + 0) == place) ≡ true
 is_here place = grind (arith, nat_tests)
 
 stand_all : (place : ℕ) (columns : List Column) (cs : List MapColumn) (row : Row) → SameColumns columns cs → Stand place (places_from place columns) (given cs row) (given cs row)
@@ -81,7 +81,7 @@ length_given place [] (c ∷ cs) row same = absurd same
 length_given place (column ∷ columns) [] row same = absurd same
 length_given place (column ∷ columns) (c ∷ cs) row same = ap suc (length_given (place + 1) columns cs row same.2)
 
-same_number : (n : ℕ) → (n == n) ≡ true
+pub same_number : (n : ℕ) → (n == n) ≡ true
 same_number n = grind (arith, nat_tests)
 
 pub new_row_given : (schema : Schema) (cs : List MapColumn) (row : Row) → SameColumns schema.columns cs → new_row schema None (given cs row) ≡ row_or (image cs row)

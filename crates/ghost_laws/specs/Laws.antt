@@ -41,7 +41,8 @@ use Rattle.journal_words.specs.Journals.{opens}
 use Rattle.plain_server.specs.declared.answer.Answer.{Answer}
 use Rattle.plain_server.specs.declared.request.Request.{Request}
 use Rattle.plain_server.specs.Deeds.{deed}
-use Rattle.ghost_laws.specs.Leaving.{DeedLeaves, is_lost, was_done, where_done}
+use Rattle.plain_server.specs.Entries.{is_cut}
+use Rattle.ghost_laws.specs.Leaving.{DeedLeaves, deed_answer, is_lost, told_done, undone_hold, was_done, where_done}
 use Rattle.ghost_relation.specs.Views.{Progress}
 use Rattle.ghost_rows.specs.Moments.{Row, rows_after, rows_at, Fits, LogFits}
 use Rattle.ghost_rows.specs.Timelines.{Migration, IsPlanned}
@@ -85,6 +86,27 @@ DeedsAreDone =
     → told_at entry.side entry.answer entry.missed ≡ Some given → was_done given ≡ true
     → DeedLeaves (deed (where_done entry.asked entry.session (opens entry (scene_state limits scene journal))) entry.session request) (is_lost entry.side) entry.session (stored (scene_state limits scene journal)) (stored (scene_state limits scene (journal ++ entry ∷ [])))
     (λ n. (face_of (scene_state limits scene journal).sessions n).hold) (λ n. (face_of (scene_state limits scene (journal ++ entry ∷ [])).sessions n).hold)
+
+-- *What is told is what the deed answers*
+abbrev pub DeedsAnswer : Type 0
+DeedsAnswer =
+    (limits : Limits) (scene : Scene) (journal : List Entry) (entry : Entry) (request : Request) (given : Answer) → IsSceneRun limits scene journal → IsEntryTold limits scene journal entry → about (opens entry (scene_state limits scene journal)) entry.session entry.asked ≡ Some request
+    → told_at entry.side entry.answer entry.missed ≡ Some given → was_done given ≡ true → given ≡ deed_answer (deed (where_done entry.asked entry.session (opens entry (scene_state limits scene journal))) entry.session request)
+
+-- *What was not done leaves all*: the tables and the log stay, and its session holds what it held, or nothing.
+abbrev pub UndoneIsLeft : Type 0
+UndoneIsLeft =
+    (limits : Limits) (scene : Scene) (journal : List Entry) (entry : Entry) (request : Request) → IsSceneRun limits scene journal → IsEntryTold limits scene journal entry → is_cut entry.asked ≡ false → about (opens entry (scene_state limits scene journal)) entry.session entry.asked ≡ Some request
+    → told_done (told_at entry.side entry.answer entry.missed) ≡ false
+    → (stored (scene_state limits scene (journal ++ entry ∷ [])) ≡ stored (scene_state limits scene journal))
+    × Besides entry.session (λ n. (face_of (scene_state limits scene journal).sessions n).hold) (λ n. (face_of (scene_state limits scene (journal ++ entry ∷ [])).sessions n).hold) (undone_hold entry.side entry.answer (face_of (scene_state limits scene journal).sessions entry.session).hold)
+
+-- *A session that is lost between calls* holds nothing more.
+abbrev pub CutsAreLeft : Type 0
+CutsAreLeft =
+    (limits : Limits) (scene : Scene) (journal : List Entry) (entry : Entry) → is_cut entry.asked ≡ true → entry.side ≡ None
+    → (stored (scene_state limits scene (journal ++ entry ∷ [])) ≡ stored (scene_state limits scene journal))
+    × Besides entry.session (λ n. (face_of (scene_state limits scene journal).sessions n).hold) (λ n. (face_of (scene_state limits scene (journal ++ entry ∷ [])).sessions n).hold) no_hold
 
 -- *A row whose points are held is held by its key*; no key is held by two sessions; and rows whose points two sessions hold are
 -- disjoint.

@@ -51,3 +51,23 @@ where_done asked number state = state
 abbrev pub is_lost : Option Side → Bool
 is_lost None = false
 is_lost (Some side) = true
+
+-- what is told, heard or missed, says that the request was done
+abbrev pub told_done : Option Answer → Bool
+told_done None = false
+told_done (Some given) = was_done given
+
+-- what an entry leaves its session whose request was not done: a wait keeps what it holds; a time-out and a loss end it
+abbrev pub undone_hold : Option Side → Answer → SessionHold → SessionHold
+undone_hold None (answers.Waits by) own = own
+undone_hold side answer own = no_hold
+
+-- what a deed answers
+abbrev pub deed_answer : Deed → Answer
+deed_answer (Rests answer) = answer
+deed_answer (Grows answer need events) = answer
+deed_answer (Writes answer events) = answer
+deed_answer (Forgets answer) = answer
+deed_answer (Moves answer tables) = answer
+deed_answer (Locks answer names) = answer
+deed_answer (Unlocks answer) = answer

@@ -1,15 +1,19 @@
 //! Every turn keeps the ghost relation: each function's contract is a law.
 
-ghost use Rattle.ghost_laws.specs.Laws.{WritesFit, DeedsAreDone, ChangesAgree, CommitsFit, RowsAreHeld, HeldByOne, HeldRowsAreDisjoint, CopyStarts, EmptyCopyStarts, CopyEnds, OthersCommit, OthersGoOn, TablesMove, CopierReturns, ApplierReturns, ChunksAreTold, ChunkBegins, ToldKeysStand, RowCopies, ChunkCommits, RangeIsCopied, ChunkIsLost, ChunkRepeats, BatchIsRead, BatchIsPassed, RowIsPut, RowIsPutAgain, RowIsRemoved, RowIsChanged, UnfitRowIsMissed, StatementIsRefused, RefusedRowIsRemoved, BatchCommits, BatchRepeats, BatchIsLost, RunsKeep, CopiesAlter, SceneCopiesAlter};
+ghost use Rattle.ghost_laws.specs.Laws.{WritesFit, DeedsAreDone, DeedsAnswer, UndoneIsLeft, CutsAreLeft, ChangesAgree, CommitsFit, RowsAreHeld, HeldByOne, HeldRowsAreDisjoint, CopyStarts, EmptyCopyStarts, CopyEnds, OthersCommit, OthersGoOn, TablesMove, CopierReturns, ApplierReturns, ChunksAreTold, ChunkBegins, ToldKeysStand, RowCopies, ChunkCommits, RangeIsCopied, ChunkIsLost, ChunkRepeats, BatchIsRead, BatchIsPassed, RowIsPut, RowIsPutAgain, RowIsRemoved, RowIsChanged, UnfitRowIsMissed, StatementIsRefused, RefusedRowIsRemoved, BatchCommits, BatchRepeats, BatchIsLost, RunsKeep, CopiesAlter, SceneCopiesAlter};
 
 /// Behind every run, what each session wrote fits the committed tables, under its locks.
 pub fn writes_fit()
     ensures { WritesFit }
 {}
 
-/// Where a request was done, its deed tells what is left of the tables, the log and of what sessions hold.
+/// Where a request was done, its deed tells what is left of the tables, the log and of what sessions hold, and what is answered; where
+/// it wasn't, all stays but what its session holds.
 pub fn deeds_are_done()
-    ensures { DeedsAreDone }
+    ensures done { DeedsAreDone }
+    ensures answered { DeedsAnswer }
+    ensures undone { UndoneIsLeft }
+    ensures cut { CutsAreLeft }
 {}
 
 /// A change that fits is the same by value and by key; committed events that fit give each table its rows at the log's end.

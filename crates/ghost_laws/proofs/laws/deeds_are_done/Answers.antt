@@ -1,5 +1,15 @@
 use Rattle.ghost_laws.proofs.Leaving.{deeds_are_done}
+use Rattle.ghost_laws.proofs.Undone.{cuts_are_left, deeds_answer, undone_is_left}
 use Rattle.ghost_laws.proofs.laws.deeds_are_done.Goals as goal
 
-pub returns : goal.returns
-returns c = deeds_are_done
+pub returns-clause-done : goal.returns-clause-done
+returns-clause-done c = deeds_are_done
+
+pub returns-clause-answered : goal.returns-clause-answered
+returns-clause-answered c = deeds_answer
+
+pub returns-clause-undone : goal.returns-clause-undone
+returns-clause-undone c = undone_is_left
+
+pub returns-clause-cut : goal.returns-clause-cut
+returns-clause-cut c = cuts_are_left

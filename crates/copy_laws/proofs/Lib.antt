@@ -1,0 +1,6 @@
+mod Journals
+mod Served
+mod Knowing
+mod Chunks
+mod Rows
+mod Copiers

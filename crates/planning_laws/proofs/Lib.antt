@@ -1,0 +1,2 @@
+mod OldPlaces
+mod Planned
