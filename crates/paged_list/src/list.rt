@@ -156,7 +156,8 @@ impl PagedList {
 
     /// How many pages there are.
     pub fn pages(&self) -> usize
-        ensures { result ≡ length self.now.pages }
+        ensures count { result ≡ length self.now.pages }
+        ensures sizes { ArePages self.now.pages }
     {
         self.pages.len()
     }

@@ -1,0 +1,4 @@
+pub mod Ordered
+pub mod RowPlaces
+pub mod SpanPlaces
+pub mod TablePages

@@ -1,0 +1,49 @@
+use Rattle.std.proofs.Common.{◌≡◌, ◌∙◌, ◌+◌, ◌-◌, ◌<◌, ◌≤◌, min, arith, ℕ, [], insert, length, map, ap, sym}
+use Rattle.std.proofs.lemmas.List.{length-map}
+use Rattle.slab.specs.Slab.{slab_len}
+use Rattle.gho_schema.specs.Rows.{key_places}
+use Rattle.paged_list.specs.Pages.{flat, pages_made}
+use Rattle.row_pages.specs.RowOrders.{row_of, rows_of}
+use Rattle.row_pages.proofs.RowPlaces.{Rows, row_fails_on, rows_put, listed_put, put_is, new_is}
+use Rattle.row_pages.proofs.TablePages.{made_of_rows, last_of_rows}
+use Rattle.row_pages.proofs.table.Table.put.Goals as goal
+
+pub place_of_row-place-requires : goal.place_of_row-place-requires
+place_of_row-place-requires c =
+    row_fails_on c.key_places-places.result.now [] c.as_slice.result.now (rows_of c.self.inside.rows (flat c.self.inside.order.pages)) (rw c.key_places-places.ensures c.self.invariant.listed.ascends)
+
+held_after : (old new : Rows) (other : ℕ) → slab_len new ≡ slab_len old + 1 → new.capacity ≡ old.capacity → 0 < min (old.capacity - slab_len old) other → slab_len new ≤ new.capacity
+held_after old new other more capacity room = omega (arith, more, capacity, room)
+
+pub invariant_of-self : goal.invariant_of-self
+invariant_of-self c =
+    let places = key_places c.self.inside.schema in
+    let entries = flat c.self.inside.order.pages in
+    let place = rw (c.key_places-places.ensures, c.as_slice.ensures) at c.place_of_row-place.ensures.place in
+    let fresh = new_is places c.args.row (rows_of c.self.inside.rows entries) (rw (← c.self.view_is) at c.requires.new_key) in
+    record {
+      listed =
+          listed_put places [] c.self.inside.rows c.insert_reserved-entry.new.self entries (flat c.insert.new.self.pages) c.insert_reserved-entry.result c.args.row c.self.invariant.listed fresh c.insert_reserved-entry.ensures.updates
+          c.insert_reserved-entry.ensures.was_vacant c.insert_reserved-entry.ensures.len (c.insert.ensures.entries ∙ ap (λ (k : ℕ). insert entries k c.insert_reserved-entry.result) place);
+      held = held_after c.self.inside.rows c.insert_reserved-entry.new.self _ c.insert_reserved-entry.ensures.len c.insert_reserved-entry.ensures.capacity (rw (← c.self.view_is) at c.requires.room);
+    }
+
+pub returns-clause-rows : goal.returns-clause-rows
+returns-clause-rows c =
+    let entries = flat c.self.inside.order.pages in
+    let place = rw (c.key_places-places.ensures, c.as_slice.ensures) at c.place_of_row-place.ensures.place in
+    rw (← c.self.view_is, c.insert.ensures.entries, place)
+    (rows_put c.self.inside.rows c.insert_reserved-entry.new.self c.insert_reserved-entry.result c.args.row entries _ c.insert_reserved-entry.ensures.updates c.self.invariant.listed.stored c.insert_reserved-entry.ensures.was_vacant
+    ∙ put_is (key_places c.self.inside.schema) c.args.row (rows_of c.self.inside.rows entries))
+
+pub returns-clause-pages : goal.returns-clause-pages
+returns-clause-pages c =
+    let places = key_places c.self.inside.schema in
+    let pages = c.self.inside.order.pages in
+    let row_pages = map (rows_of c.self.inside.rows) pages in
+    let page = rw (c.key_places-places.ensures, c.as_slice.ensures) at c.place_of_row-place.ensures.page in
+    rw (← c.self.view_is)
+    (length-map c.insert.new.self.pages (rows_of c.insert_reserved-entry.new.self) ∙ c.insert.ensures.pages
+    ∙ ap (λ (n : ℕ). n + pages_made pages c.place_of_row-place.result.page) (sym (length-map pages (rows_of c.self.inside.rows)))
+    ∙ ap (λ (n : ℕ). length row_pages + n) (sym (made_of_rows (row_of c.self.inside.rows) c.place_of_row-place.result.page pages))
+    ∙ ap (λ (n : ℕ). length row_pages + pages_made row_pages n) (page ∙ last_of_rows places c.args.row row_pages))

@@ -1,0 +1,3 @@
+pub mod RowOrders
+pub mod Seeking
+pub mod StoredRows

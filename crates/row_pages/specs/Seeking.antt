@@ -1,0 +1,25 @@
+-- Rows that are sought by a key.
+use Rattle.std.specs.Prelude.{◌≡◌, ◌<◌, ℕ, List, [], length, get_or, find, true, Some}
+use Rattle.std.specs.List.{slice_get, prefix_len}
+use Rattle.slab.specs.Slab.{Slab}
+use Rattle.gho_values.specs.declared.value.Value.{Value}
+use Rattle.gho_schema.specs.Rows.{key_of}
+use Rattle.paged_list.specs.Pages.{flat, place_in}
+use Rattle.row_store.specs.RowLists.{is_at, comes_before}
+use Rattle.row_pages.specs.RowOrders.{row_of, rows_of}
+use Rattle.row_pages.specs.declared.places.Sought.{Sought}
+use Rattle.row_pages.specs.declared.places.Sought.TheVariants.{Key, Of}
+
+-- the key that is sought
+abbrev pub sought_key : List ℕ → Sought → List Value
+sought_key places (Key key) = key.now
+sought_key places (Of row) = key_of places row.now
+
+-- The entry stands here, and its row is the first that has this key.
+pub record IsFound (places : List ℕ) (key : List Value) (slab : Slab (List Value)) (pages : List (List ℕ)) (page at entry : ℕ) : Type 0 where
+  pub page_is : page < length pages
+  pub within : at < length (get_or pages page [])
+  pub place_is : place_in pages page at ≡ prefix_len (comes_before places key) (rows_of slab (flat pages))
+  pub entry_is : slice_get (flat pages) (place_in pages page at) ≡ Some entry
+  pub has_key : is_at places key (row_of slab entry) ≡ true
+  pub row_is : find (is_at places key) (rows_of slab (flat pages)) ≡ Some (row_of slab entry)

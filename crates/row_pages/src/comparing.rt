@@ -1,0 +1,36 @@
+//! How rows and keys compare.
+
+ghost use Rattle.std.specs.Prelude.{◌≡◌};
+ghost use Rattle.gho_values.specs.Comparing.{compare_keys};
+ghost use Rattle.gho_schema.specs.Rows.{key_of};
+ghost use Rattle.row_pages.specs.RowOrders.{compare_by};
+
+use crate::row_key::RowKey;
+use gho_values::Value;
+use std::cmp::Ordering;
+
+/// Which comes first: this key, or the key of a row.
+pub fn compare_key(key: &[Value], places: &[u32], row: &[Value]) -> Ordering
+    ensures { result ≡ compare_keys key.now (key_of places.now row.now) }
+{
+    key.iter().cmp(RowKey::new(places, row))
+}
+
+/// Which of two rows comes first by the key at these places.
+pub fn compare_rows(places: &[u32], row: &[Value], other: &[Value]) -> Ordering
+    ensures { result ≡ compare_keys (key_of places.now row.now) (key_of places.now other.now) }
+{
+    RowKey::new(places, row).cmp(RowKey::new(places, other))
+}
+
+/// Which of two rows comes first by the values at these places, and where they tie, at the second.
+pub fn compare_by(first: &[u32], second: &[u32], row: &[Value], other: &[Value]) -> Ordering
+    ensures { result ≡ compare_by first.now second.now row.now other.now }
+{
+    let order = compare_rows(first, row, other);
+    if order.is_ne() {
+        order
+    } else {
+        compare_rows(second, row, other)
+    }
+}

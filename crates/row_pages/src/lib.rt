@@ -1,0 +1,12 @@
+//! A table whose rows stand in pages: a look-up, a put and a removal look at few of them.
+#![tactic(auto)]
+
+mod comparing;
+mod places;
+mod row_key;
+mod span_rows;
+mod spans;
+mod table;
+
+pub use span_rows::SpanRows;
+pub use table::Table;

@@ -1,0 +1,168 @@
+//! A table: rows in a slab, and their entries in order of the clustered key.
+
+ghost use Rattle.std.specs.Prelude.{◌≡◌, ◌≤◌, ◌<◌, ◌+◌, ◌==◌, true, [], if◌then◌else◌, None, length, get_or, is_some, option_copied, OnOk};
+ghost use Rattle.std.specs.List.{flat_map};
+ghost use Rattle.gho_schema.specs.Rows.{key_of, key_places, with_row};
+ghost use Rattle.gho_schema.specs.Tables.{Ascends};
+ghost use Rattle.paged_list.specs.Pages.{pages_made, last_page};
+ghost use Rattle.row_store.specs.RowLists.{comes_before, without_key};
+ghost use Rattle.row_store.specs.Databases.{row_at_key, rows_in};
+ghost use Rattle.row_pages.specs.StoredRows.{ArePagesOfRows};
+
+use crate::places::{Sought, found, place_of_row};
+use crate::span_rows::SpanRows;
+use crate::spans::entries_in_span;
+use gho_schema::Schema;
+use gho_values::{Key, Row, Span};
+use paged_list::PagedList;
+use slab::Slab;
+use std::alloc::{AllocError, Global};
+use std::marker::Model;
+
+/// A table with its rows, in pages of 1 to 64.
+#[derive(Debug, Drop)]
+pub struct Table {
+    schema: Schema,
+    rows: Slab<Row>,
+    order: PagedList,
+}
+
+impl Model for Table {
+    ghost use Rattle.std.specs.Prelude.{map};
+    ghost use Rattle.gho_schema.specs.Rows.{key_places};
+    ghost use Rattle.paged_list.specs.Pages.{flat};
+    ghost use Rattle.row_pages.specs.RowOrders.{rows_of};
+    ghost use Rattle.row_pages.specs.StoredRows.{PagedTable, IsOrdered, spare_of};
+
+    ghost Value = { PagedTable };
+
+    ghost view = { λ t. record { table = record { schema = t.schema; rows = rows_of t.rows (flat t.order.pages) }; pages = map (rows_of t.rows) t.order.pages; spare = spare_of t.rows t.order } };
+
+    ghost invariant = { λ t. IsOrdered (key_places t.schema) t.rows (flat t.order.pages) };
+}
+
+impl Table {
+    /// The table without rows. It takes no memory.
+    pub fn new(alloc: Global, schema: Schema) -> Table
+        ensures schema { result.table.schema ≡ schema }
+        ensures rows { result.table.rows ≡ [] }
+    {
+        Table {
+            schema,
+            rows: Slab::new(alloc),
+            order: PagedList::new(alloc),
+        }
+    }
+
+    /// What its columns and keys are. The rows stand in order of the clustered key.
+    pub fn schema(&self) -> &Schema
+        ensures schema { result.now ≡ self.now.table.schema }
+        ensures ascends { Ascends (key_places self.now.table.schema) self.now.table.rows }
+    {
+        &self.schema
+    }
+
+    /// How many rows it has.
+    pub fn len(&self) -> usize
+        ensures { result ≡ length self.now.table.rows }
+    {
+        self.rows.len()
+    }
+
+    /// Whether it has no row.
+    pub fn is_empty(&self) -> bool
+        ensures { result ≡ (length self.now.table.rows == 0) }
+    {
+        self.rows.is_empty()
+    }
+
+    /// The rows in order of the clustered key.
+    pub fn rows(&self) -> SpanRows<'_>
+        ensures { result ≡ self.now.table.rows }
+    {
+        SpanRows::new(&self.rows, self.order.entries())
+    }
+
+    /// How many pages it has.
+    pub fn pages(&self) -> usize
+        ensures count { result ≡ length self.now.pages }
+        ensures rows { flat_map (λ page. page) self.now.pages ≡ self.now.table.rows }
+        ensures sizes { ArePagesOfRows self.now.pages }
+    {
+        self.order.pages()
+    }
+
+    /// The rows of a page.
+    pub fn page(&self, n: usize) -> SpanRows<'_>
+        requires { n < length self.now.pages }
+        ensures { result ≡ get_or self.now.pages n [] }
+    {
+        SpanRows::new(&self.rows, self.order.page_entries(n))
+    }
+
+    /// The row with this key.
+    pub fn get(&self, key: &Key) -> Option<&Row>
+        ensures { option_copied result ≡ row_at_key self.now.table key.now }
+    {
+        let places = self.schema.key_places();
+        let sought = Sought::Key(key.as_slice());
+        match found(&self.rows, &self.order, places, sought) {
+            Some((_, entry)) => self.rows.get(entry),
+            None => None,
+        }
+    }
+
+    /// The rows whose keys lie in the span, in order.
+    pub fn in_span(&self, span: &Span) -> SpanRows<'_>
+        ensures { result ≡ rows_in self.now.table span.now }
+    {
+        let places = self.schema.key_places();
+        let entries = entries_in_span(&self.rows, &self.order, places, span);
+        SpanRows::new(&self.rows, entries)
+    }
+
+    /// Makes room for so many more rows.
+    pub fn reserve(&mut self, n: usize) -> Result<(), AllocError>
+        ensures table { self.new.table ≡ self.old.table }
+        ensures pages { self.new.pages ≡ self.old.pages }
+        ensures ok { OnOk result (n ≤ self.new.spare) }
+        ensures spare { self.old.spare ≤ self.new.spare }
+    {
+        let Some(total) = self.rows.len().checked_add(n) else {
+            return Err(AllocError);
+        };
+        self.rows.reserve(n)?;
+        self.order.reserve(total)
+    }
+
+    /// Puts a row in its place. It takes no memory.
+    pub fn put(&mut self, row: Row)
+        requires room { 0 < self.old.spare }
+        requires new_key { row_at_key self.old.table (key_of (key_places self.old.table.schema) row) ≡ None }
+        ensures schema { self.new.table.schema ≡ self.old.table.schema }
+        ensures rows { self.new.table.rows ≡ with_row (key_places self.old.table.schema) row self.old.table.rows }
+        ensures pages { length self.new.pages ≡ length self.old.pages + pages_made self.old.pages (last_page (comes_before (key_places self.old.table.schema) (key_of (key_places self.old.table.schema) row)) self.old.pages) }
+        ensures spare { self.new.spare + 1 ≡ self.old.spare }
+    {
+        let places = self.schema.key_places();
+        let place = place_of_row(&self.rows, &self.order, places, &[], row.as_slice());
+        let entry = self.rows.insert_reserved(row);
+        self.order.insert(place, entry);
+    }
+
+    /// Takes the row with this key out. It takes no memory.
+    pub fn remove(&mut self, key: &Key) -> Option<Row>
+        ensures row { result ≡ row_at_key self.old.table key.now }
+        ensures schema { self.new.table.schema ≡ self.old.table.schema }
+        ensures rows { self.new.table.rows ≡ without_key (key_places self.old.table.schema) key.now self.old.table.rows }
+        ensures spare { self.new.spare ≡ self.old.spare + (if is_some result then 1 else 0) }
+    {
+        let places = self.schema.key_places();
+        let sought = Sought::Key(key.as_slice());
+        let Some((place, entry)) = found(&self.rows, &self.order, places, sought) else {
+            return None;
+        };
+        self.order.remove(place);
+        self.rows.try_remove(entry)
+    }
+}
