@@ -1,0 +1,144 @@
+-- Who holds a name, as the steps of an attempt change it.
+use Rattle.std.proofs.Common.{◌≡◌, ◌≢◌, ℕ, Bool, true, false, not, nat_eq, ◌&&◌, ◌||◌, cond, List, [], ◌∷◌, Option, Some, None, refl, sym, ◌∙◌, arith, inl, inr}
+use Rattle.std.specs.Prelude.{◌⊎◌}
+use Rattle.std.proofs.lemmas.Bool.{false≢true}
+use Rattle.std.proofs.lemmas.Bool.Decides.{nat_tests}
+use Rattle.std.specs.Cmp.Lexicographic.{pointwise}
+use Rattle.std.specs.List.{list_any}
+use Rattle.metadata_locks.specs.Granting.{HeldName, has_name, is_on, holds, least, holding_session, waiting_session, least_holder, least_waiter, refuser_of_name, refuser_of_names, ahead_of}
+use Rattle.metadata_locks.specs.declared.request.Waiter.{Waiter}
+
+pub first_none : (a b : Option ℕ) → least a b ≡ None → a ≡ None
+first_none None b e = refl
+first_none (Some a) None e = absurd cc
+first_none (Some a) (Some b) e = absurd cc
+
+pub second_none : (a b : Option ℕ) → least a b ≡ None → b ≡ None
+second_none None b e = e
+second_none (Some a) None e = absurd cc
+second_none (Some a) (Some b) e = absurd cc
+
+pub both_none : (a b : Option ℕ) → a ≡ None → b ≡ None → least a b ≡ None
+both_none a b e f = rw e f
+
+pub not_true : (b : Bool) → (b ≡ true → ⊥) → b ≡ false
+not_true true never = absurd (never refl)
+not_true false never = refl
+
+-- a lock that a session holds refuses every other session
+refuses : (own on : Bool) (s : ℕ) → own ≡ false → on ≡ true → cond (not own && on) (Some s) None ≡ None → ⊥
+refuses true on s e f g = absurd cc
+refuses false true s e f g = cc
+refuses false false s e f g = absurd cc
+
+pub are_one : (m n : ℕ) → nat_eq m n ≡ true → m ≡ n
+are_one m n e = grind (arith, nat_tests)
+
+pub are_two : (m n : ℕ) → m ≢ n → nat_eq m n ≡ false
+are_two m n other = grind (arith, nat_tests)
+
+both_true : (a b : Bool) → (a && b) ≡ true → (a ≡ true) × (b ≡ true)
+both_true true true e = (refl, refl)
+both_true true false e = absurd cc
+both_true false b e = absurd cc
+
+either_true : (a b : Bool) → (a || b) ≡ true → (a ≡ false → b ≡ true)
+either_true true b e f = absurd cc
+either_true false b e f = e
+
+one_other : (other : HeldName) (s l : ℕ) (t : List ℕ) (x : Bool) → s ≢ l → (nat_eq other.session s && is_on other t x) ≡ true → holding_session l t x other ≡ None → ⊥
+one_other other s l t x apart h e =
+    let parts : (nat_eq other.session s ≡ true) × (is_on other t x ≡ true) = both_true (nat_eq other.session s) (is_on other t x) h in
+    let same : other.session ≡ s = are_one other.session s parts.0 in
+    refuses (nat_eq other.session l) (is_on other t x) other.session (are_two other.session l (λ same_l. apart (sym same ∙ same_l))) parts.1 e
+
+-- where a session holds a name, another one isn't alone with it
+pub not_alone : (held : List HeldName) (s l : ℕ) (t : List ℕ) (x : Bool) → s ≢ l → holds held s t x ≡ true → least_holder held l t x ≡ None → ⊥
+unfolding holds least_holder
+not_alone [] s l t x apart h e = absurd cc
+not_alone (other ∷ held) s l t x apart h e =
+    by (nat_eq other.session s && is_on other t x) refl (λ more. not_alone held s l t x apart more (second_none (holding_session l t x other) (least_holder held l t x) e))
+  where
+    by : (b : Bool) → (nat_eq other.session s && is_on other t x) ≡ b → (holds held s t x ≡ true → ⊥) → ⊥
+    by true is again = one_other other s l t x apart is (first_none (holding_session l t x other) (least_holder held l t x) e)
+    by false is again = again (either_true (nat_eq other.session s && is_on other t x) (holds held s t x) h is)
+
+-- who holds a name exclusively holds it
+weaker_one : (own here strong : Bool) → (own && (here && (strong || false))) ≡ true → (own && (here && (strong || true))) ≡ true
+weaker_one true true true e = refl
+weaker_one true true false e = absurd cc
+weaker_one true false strong e = absurd cc
+weaker_one false here strong e = absurd cc
+
+first_true : (a b : Bool) → a ≡ true → (a || b) ≡ true
+first_true true b e = refl
+first_true false b e = absurd cc
+
+second_true : (a b : Bool) → b ≡ true → (a || b) ≡ true
+second_true true b e = refl
+second_true false b e = e
+
+pub weaker : (held : List HeldName) (s : ℕ) (t : List ℕ) → holds held s t true ≡ true → holds held s t false ≡ true
+unfolding holds
+weaker [] s t h = h
+weaker (other ∷ held) s t h = by (nat_eq other.session s && is_on other t true) refl (weaker held s t)
+  where
+    by : (b : Bool) → (nat_eq other.session s && is_on other t true) ≡ b → (holds held s t true ≡ true → holds held s t false ≡ true) → holds (other ∷ held) s t false ≡ true
+    by true is again = first_true (nat_eq other.session s && is_on other t false) (holds held s t false) (weaker_one (nat_eq other.session s) (pointwise nat_eq other.name t) other.exclusive is)
+    by false is again = second_true (nat_eq other.session s && is_on other t false) (holds held s t false) (again (either_true (nat_eq other.session s && is_on other t true) (holds held s t true) h is))
+
+-- WHO IS REFUSED
+
+-- what is granted whole is granted each
+pub granted_each : (held : List HeldName) (waiting : List Waiter) (s : ℕ) (x : Bool) (names : List (List ℕ)) (t : List ℕ) → refuser_of_names held waiting s x (t ∷ names) ≡ None → refuser_of_name held waiting s t x ≡ None
+unfolding refuser_of_names
+granted_each held waiting s x names t e = first_none (refuser_of_name held waiting s t x) (refuser_of_names held waiting s x names) e
+
+-- what is granted exclusively nobody else holds
+pub granted_alone : (held : List HeldName) (waiting : List Waiter) (s other : ℕ) (t : List ℕ) → other ≢ s → holds held s t true ≡ false → refuser_of_name held waiting s t true ≡ None → holds held other t false ≡ false
+unfolding refuser_of_name
+granted_alone held waiting s other t apart lacks e =
+    let both : least (least_holder held s t false) (least_waiter (ahead_of s waiting) s t) ≡ None = rw lacks at e in
+    not_true (holds held other t false) (λ has. not_alone held other s t false apart has (first_none (least_holder held s t false) (least_waiter (ahead_of s waiting) s t) both))
+
+-- a session is refused an exclusive lock on what another one holds
+pub refused_exclusive : (held : List HeldName) (waiting : List Waiter) (s l : ℕ) (t : List ℕ) → l ≢ s → holds held l t true ≡ true → holds held s t false ≡ false → refuser_of_name held waiting s t true ≡ None → ⊥
+refused_exclusive held waiting s l t apart own lacks e =
+    let weak : holds held s t true ≡ false = not_true (holds held s t true) (λ has. false≢true (sym lacks ∙ weaker held s t has)) in
+    false≢true (sym (granted_alone held waiting s l t apart weak e) ∙ weaker held l t own)
+
+pub refused_shared : (held : List HeldName) (waiting : List Waiter) (s l : ℕ) (t : List ℕ) → l ≢ s → holds held l t true ≡ true → refuser_of_name held waiting s t false ≡ None → ⊥
+unfolding refuser_of_name
+refused_shared held waiting s l t apart own e =
+    not_alone held l s t true apart own (first_none (least_holder held s t true) (cond (holds held s t false) None (least_waiter waiting s t)) e)
+
+-- a waiting request refuses whoever holds nothing yet
+waiter_refuses : (waiting : List Waiter) (r s : ℕ) (t : List ℕ) → r ≢ s → list_any (λ waiter. nat_eq waiter.session r && has_name waiter.names t) waiting ≡ true → least_waiter waiting s t ≡ None → ⊥
+unfolding least_waiter
+waiter_refuses [] r s t apart h e = absurd cc
+waiter_refuses (other ∷ waiting) r s t apart h e =
+    by (nat_eq other.session r && has_name other.names t) refl (λ more. waiter_refuses waiting r s t apart more (second_none (waiting_session s t other) (least_waiter waiting s t) e))
+  where
+    by : (b : Bool) → (nat_eq other.session r && has_name other.names t) ≡ b → (list_any (λ waiter. nat_eq waiter.session r && has_name waiter.names t) waiting ≡ true → ⊥) → ⊥
+    by true is again =
+        let parts : (nat_eq other.session r ≡ true) × (has_name other.names t ≡ true) = both_true (nat_eq other.session r) (has_name other.names t) is in
+        refuses (nat_eq other.session s) (has_name other.names t) other.session (are_two other.session s (λ same. apart (sym (are_one other.session r parts.0) ∙ same))) parts.1
+        (first_none (waiting_session s t other) (least_waiter waiting s t) e)
+    by false is again = again (either_true (nat_eq other.session r && has_name other.names t) (list_any (λ waiter. nat_eq waiter.session r && has_name waiter.names t) waiting) h is)
+
+pub waits_behind : (held : List HeldName) (waiting : List Waiter) (s r : ℕ) (t : List ℕ) → r ≢ s → holds held s t false ≡ false → list_any (λ waiter. nat_eq waiter.session r && has_name waiter.names t) waiting ≡ true → refuser_of_name held waiting s t false ≡ None → ⊥
+unfolding refuser_of_name
+waits_behind held waiting s r t other lacks waits e =
+    let second : cond (holds held s t false) None (least_waiter waiting s t) ≡ None = second_none (least_holder held s t true) (cond (holds held s t false) None (least_waiter waiting s t)) e in
+    let bare : least_waiter waiting s t ≡ None = rw lacks at second in
+    waiter_refuses waiting r s t other waits bare
+
+pub one_or_two : (m n : ℕ) → (m ≡ n) ⊎ (m ≢ n)
+one_or_two m n = by (nat_eq m n) refl
+  where
+    by : (b : Bool) → nat_eq m n ≡ b → (m ≡ n) ⊎ (m ≢ n)
+    by true is = inl (are_one m n is)
+    by false is = inr (λ same. false≢true (sym is ∙ eq_true m n same))
+      where
+        eq_true : (m n : ℕ) → m ≡ n → nat_eq m n ≡ true
+        eq_true m n same = grind (arith, nat_tests)

@@ -1,0 +1,4 @@
+pub mod Laws
+pub mod Sentries
+pub mod Turning
+pub mod Turns
