@@ -78,10 +78,6 @@ pub asks_poll : (b : Bool) (option : Option Request) → cond b (Some Poll) (cal
 asks_poll true option e = refl
 asks_poll false option e = absurd (never_polls option e)
 
-first_and : (a b : Bool) → (a && b) ≡ true → a ≡ true
-first_and true b e = refl
-first_and false b e = absurd cc
-
 -- what the journal so far gives the locker: its call, and at L1 the range is copied
 pub locker_given : (plan : PlanData) (journal : List Entry) (work : Work) (request : Request) → (moment plan journal).tool.course ≡ Migrating work → given plan journal Lock ≡ Some (Call request)
     → LockerCalls work.cutover.table work.cutover.phase work.cutover.hold request × (work.cutover.phase ≡ Resting → work.copier.is_copied ≡ true)

@@ -1,7 +1,7 @@
 -- Who holds a name, as the steps of an attempt change it.
 use Rattle.std.proofs.Common.{◌≡◌, ◌≢◌, ℕ, Bool, true, false, not, nat_eq, ◌&&◌, ◌||◌, cond, List, [], ◌∷◌, Option, Some, None, refl, sym, ◌∙◌, arith, inl, inr}
 use Rattle.std.specs.Prelude.{◌⊎◌}
-use Rattle.std.proofs.lemmas.Bool.{false≢true}
+use Rattle.std.proofs.lemmas.Bool.{and_parts, false≢true, or_left, or_right}
 use Rattle.std.proofs.lemmas.Bool.Decides.{nat_tests}
 use Rattle.std.specs.Cmp.Lexicographic.{pointwise}
 use Rattle.std.specs.List.{list_any}
@@ -37,18 +37,13 @@ are_one m n e = grind (arith, nat_tests)
 pub are_two : (m n : ℕ) → m ≢ n → nat_eq m n ≡ false
 are_two m n other = grind (arith, nat_tests)
 
-both_true : (a b : Bool) → (a && b) ≡ true → (a ≡ true) × (b ≡ true)
-both_true true true e = (refl, refl)
-both_true true false e = absurd cc
-both_true false b e = absurd cc
-
 either_true : (a b : Bool) → (a || b) ≡ true → (a ≡ false → b ≡ true)
 either_true true b e f = absurd cc
 either_true false b e f = e
 
 one_other : (other : HeldName) (s l : ℕ) (t : List ℕ) (x : Bool) → s ≢ l → (nat_eq other.session s && is_on other t x) ≡ true → holding_session l t x other ≡ None → ⊥
 one_other other s l t x apart h e =
-    let parts : (nat_eq other.session s ≡ true) × (is_on other t x ≡ true) = both_true (nat_eq other.session s) (is_on other t x) h in
+    let parts : (nat_eq other.session s ≡ true) × (is_on other t x ≡ true) = and_parts (nat_eq other.session s) (is_on other t x) h in
     let same : other.session ≡ s = are_one other.session s parts.0 in
     refuses (nat_eq other.session l) (is_on other t x) other.session (are_two other.session l (λ same_l. apart (sym same ∙ same_l))) parts.1 e
 
@@ -70,22 +65,14 @@ weaker_one true true false e = absurd cc
 weaker_one true false strong e = absurd cc
 weaker_one false here strong e = absurd cc
 
-first_true : (a b : Bool) → a ≡ true → (a || b) ≡ true
-first_true true b e = refl
-first_true false b e = absurd cc
-
-second_true : (a b : Bool) → b ≡ true → (a || b) ≡ true
-second_true true b e = refl
-second_true false b e = e
-
 pub weaker : (held : List HeldName) (s : ℕ) (t : List ℕ) → holds held s t true ≡ true → holds held s t false ≡ true
 unfolding holds
 weaker [] s t h = h
 weaker (other ∷ held) s t h = by (nat_eq other.session s && is_on other t true) refl (weaker held s t)
   where
     by : (b : Bool) → (nat_eq other.session s && is_on other t true) ≡ b → (holds held s t true ≡ true → holds held s t false ≡ true) → holds (other ∷ held) s t false ≡ true
-    by true is again = first_true (nat_eq other.session s && is_on other t false) (holds held s t false) (weaker_one (nat_eq other.session s) (pointwise nat_eq other.name t) other.exclusive is)
-    by false is again = second_true (nat_eq other.session s && is_on other t false) (holds held s t false) (again (either_true (nat_eq other.session s && is_on other t true) (holds held s t true) h is))
+    by true is again = or_left (nat_eq other.session s && is_on other t false) (holds held s t false) (weaker_one (nat_eq other.session s) (pointwise nat_eq other.name t) other.exclusive is)
+    by false is again = or_right (nat_eq other.session s && is_on other t false) (holds held s t false) (again (either_true (nat_eq other.session s && is_on other t true) (holds held s t true) h is))
 
 -- WHO IS REFUSED
 
@@ -121,7 +108,7 @@ waiter_refuses (other ∷ waiting) r s t apart h e =
   where
     by : (b : Bool) → (nat_eq other.session r && has_name other.names t) ≡ b → (list_any (λ waiter. nat_eq waiter.session r && has_name waiter.names t) waiting ≡ true → ⊥) → ⊥
     by true is again =
-        let parts : (nat_eq other.session r ≡ true) × (has_name other.names t ≡ true) = both_true (nat_eq other.session r) (has_name other.names t) is in
+        let parts : (nat_eq other.session r ≡ true) × (has_name other.names t ≡ true) = and_parts (nat_eq other.session r) (has_name other.names t) is in
         refuses (nat_eq other.session s) (has_name other.names t) other.session (are_two other.session s (λ same. apart (sym (are_one other.session r parts.0) ∙ same))) parts.1
         (first_none (waiting_session s t other) (least_waiter waiting s t) e)
     by false is again = again (either_true (nat_eq other.session r && has_name other.names t) (list_any (λ waiter. nat_eq waiter.session r && has_name waiter.names t) waiting) h is)

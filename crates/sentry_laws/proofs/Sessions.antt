@@ -7,6 +7,7 @@ use Rattle.script_text.specs.declared.actor.Actor.{Actor}
 use Rattle.script_text.specs.declared.actor.Actor.TheVariants.{Op, Insp, Copy, Apply, Lock, Ren, Client}
 use Rattle.plain_server.specs.Along.{Along, Along-keeps}
 use Rattle.plain_server.specs.declared.answer.Answer.TheVariants as answers
+use Rattle.history_laws.proofs.Actors.{live_more, same_actor_is, same_actor_itself}
 use Rattle.sentry_laws.specs.Turning.{last_session, session_next, session_after, IsNumbered}
 use Rattle.sentry_laws.proofs.Holding.{are_one}
 use Rattle.sentry_laws.proofs.Inductions.{last_more}
@@ -22,69 +23,9 @@ use Rattle.migration_program.specs.Programs.{IsFollowed}
 same_nat : (n : ℕ) → nat_eq n n ≡ true
 same_nat n = grind (arith, nat_tests)
 
-same_is : (a b : Actor) → same_actor a b ≡ true → a ≡ b
-same_is Op Op e = refl
-same_is Op Insp e = absurd cc
-same_is Op Copy e = absurd cc
-same_is Op Apply e = absurd cc
-same_is Op Lock e = absurd cc
-same_is Op Ren e = absurd cc
-same_is Op (Client n) e = absurd cc
-same_is Insp Op e = absurd cc
-same_is Insp Insp e = refl
-same_is Insp Copy e = absurd cc
-same_is Insp Apply e = absurd cc
-same_is Insp Lock e = absurd cc
-same_is Insp Ren e = absurd cc
-same_is Insp (Client n) e = absurd cc
-same_is Copy Op e = absurd cc
-same_is Copy Insp e = absurd cc
-same_is Copy Copy e = refl
-same_is Copy Apply e = absurd cc
-same_is Copy Lock e = absurd cc
-same_is Copy Ren e = absurd cc
-same_is Copy (Client n) e = absurd cc
-same_is Apply Op e = absurd cc
-same_is Apply Insp e = absurd cc
-same_is Apply Copy e = absurd cc
-same_is Apply Apply e = refl
-same_is Apply Lock e = absurd cc
-same_is Apply Ren e = absurd cc
-same_is Apply (Client n) e = absurd cc
-same_is Lock Op e = absurd cc
-same_is Lock Insp e = absurd cc
-same_is Lock Copy e = absurd cc
-same_is Lock Apply e = absurd cc
-same_is Lock Lock e = refl
-same_is Lock Ren e = absurd cc
-same_is Lock (Client n) e = absurd cc
-same_is Ren Op e = absurd cc
-same_is Ren Insp e = absurd cc
-same_is Ren Copy e = absurd cc
-same_is Ren Apply e = absurd cc
-same_is Ren Lock e = absurd cc
-same_is Ren Ren e = refl
-same_is Ren (Client n) e = absurd cc
-same_is (Client m) Op e = absurd cc
-same_is (Client m) Insp e = absurd cc
-same_is (Client m) Copy e = absurd cc
-same_is (Client m) Apply e = absurd cc
-same_is (Client m) Lock e = absurd cc
-same_is (Client m) Ren e = absurd cc
-same_is (Client m) (Client n) e = ap Client (are_one m n e)
-
-same_refl : (a : Actor) → same_actor a a ≡ true
-same_refl Op = refl
-same_refl Insp = refl
-same_refl Copy = refl
-same_refl Apply = refl
-same_refl Lock = refl
-same_refl Ren = refl
-same_refl (Client m) = same_nat m
-
 -- two actors that an entry's actor is, are one
 not_both : (c a b : Actor) → same_actor c a ≡ true → same_actor c b ≡ true → same_actor a b ≡ false → ⊥
-not_both c a b e f g = false≢true (sym g ∙ ap (λ x. same_actor x b) (sym (same_is c a e)) ∙ f)
+not_both c a b e f g = false≢true (sym g ∙ ap (λ x. same_actor x b) (sym (same_actor_is c a e)) ∙ f)
 
 record Sessions (journal : List Entry) : Type 0 where
   live : (a : Actor) (s : ℕ) → live_session journal a ≡ Some s → s ≡ last_session journal a
@@ -110,10 +51,6 @@ fresh journal c b s entry Poll at same cut None is inside numbered other e = unn
 fresh journal c b s entry Cut at same cut None is inside numbered other e = absurd inside
 
 -- ONE ENTRY
-
-live_more : (journal : List Entry) (entry : Entry) (a : Actor) → live_session (journal ++ entry ∷ []) a ≡ session_in a (live_session journal a) entry
-unfolding live_session
-live_more journal entry a = fold-append (session_in a) None journal (entry ∷ [])
 
 named_more : (journal : List Entry) (entry : Entry) → sessions_named (journal ++ entry ∷ []) ≡ cond (is_command entry.asked) (sessions_named journal) (max (sessions_named journal) entry.session)
 unfolding sessions_named
@@ -193,7 +130,7 @@ step plan journal entry follows numbered at = record { live = live; named = name
         turned = not_same (same_actor b a) refl
           where
             not_same : (x : Bool) → same_actor b a ≡ x → same_actor b a ≡ false
-            not_same true is = absurd (false≢true (sym two ∙ ap (same_actor a) (same_is b a is) ∙ same_refl a))
+            not_same true is = absurd (false≢true (sym two ∙ ap (same_actor a) (same_actor_is b a is) ∙ same_actor_itself a))
             not_same false is = is
 
         by : (x y : Bool) → same_actor entry.actor a ≡ x → same_actor entry.actor b ≡ y → last a ≡ last b → last a ≡ 0
