@@ -1,4 +1,10 @@
+pub mod ClashTests
+pub mod FirstRows
+pub mod Indexing
 pub mod Ordered
+pub mod Reserving
 pub mod RowPlaces
 pub mod SpanPlaces
+pub mod TableClash
 pub mod TablePages
+pub mod Zipped

@@ -18,8 +18,7 @@ use Rattle.paged_list.specs.Pages.{FailsOn, flat, StandsAt}
 use Rattle.row_pages.specs.Seeking.{IsFound}
 use Rattle.row_store.proofs.Orders.{Row, FailsAbove, before_fails}
 use Rattle.row_store.specs.RowLists.{comes_before, is_at, without_key}
-use Rattle.row_pages.specs.RowOrders.{row_of, rows_of, compare_by, is_before, Ascending, place_by, Has, is_tied, IsNew}
-use Rattle.row_pages.specs.StoredRows.{IsListed}
+use Rattle.row_pages.specs.RowOrders.{row_of, rows_of, compare_by, is_before, Ascending, place_by, Has, is_tied, IsNew, IsListed}
 use Rattle.row_pages.proofs.Ordered.{fails_on, ascending_insert, ascending_remove, stands_by, all_insert, all_at, has_new, has_old, has_fewer, has_all, all_has, has_place, has_at, map_insert, map_remove, map_same}
 
 pub by_total : (first second : List ℕ) → IsTotalOrder (compare_by first second)
@@ -61,10 +60,13 @@ kept old new entry slot [] updates stored none = tt
 kept old new entry slot (e ∷ entries) updates stored none =
     (ap (λ (s : Option Row). unwrap_or s []) (updates.others e (λ same. some_not_none (get old e) stored.0 (ap (λ (n : ℕ). get old n) same ∙ none))), kept old new entry slot entries updates stored.1 none)
 
+pub rows_kept : (old new : Rows) (entry : ℕ) (row : Row) (entries : List ℕ) → Updates old new entry (Some row) → AllByRecursion (λ e. IsSome (get old e)) entries → get old entry ≡ None → rows_of new entries ≡ rows_of old entries
+rows_kept old new entry row entries updates stored none = map_same (row_of new) (row_of old) entries (kept old new entry (Some row) entries updates stored none)
+
 pub rows_put : (old new : Rows) (entry : ℕ) (row : Row) (entries : List ℕ) (k : ℕ) → Updates old new entry (Some row) → AllByRecursion (λ e. IsSome (get old e)) entries → get old entry ≡ None → rows_of new (insert entries k entry) ≡ insert (rows_of old entries) k row
 rows_put old new entry row entries k updates stored none =
     map_insert (row_of new) k entry entries
-    ∙ ap (λ (rs : List Row). insert rs k (row_of new entry)) (map_same (row_of new) (row_of old) entries (kept old new entry (Some row) entries updates stored none))
+    ∙ ap (λ (rs : List Row). insert rs k (row_of new entry)) (rows_kept old new entry row entries updates stored none)
     ∙ ap (λ (r : Row). insert (rows_of old entries) k r) (ap (λ (s : Option Row). unwrap_or s []) updates.changed)
 
 still : (old new : Rows) (entry : ℕ) (row : Row) (entries : List ℕ) → Updates old new entry (Some row) → get old entry ≡ None → AllByRecursion (λ e. IsSome (get old e)) entries → AllByRecursion (λ e. IsSome (get new e)) entries
@@ -84,7 +86,7 @@ new_by : (clustered other : List ℕ) (row r : Row) → is_tied (compare_by clus
 unfolding key_of
 new_by clustered other row r new = tied_parts (compare_keys (key_of other row) (key_of other r)) (compare_keys (key_of clustered row) (key_of clustered r)) Equal new
 
-new_all : (clustered other : List ℕ) (row : Row) (rows : List Row) → AllByRecursion (λ r. is_tied (compare_by clustered [] row r) ≡ false) rows → AllByRecursion (λ r. is_tied (compare_by other clustered row r) ≡ false) rows
+pub new_all : (clustered other : List ℕ) (row : Row) (rows : List Row) → AllByRecursion (λ r. is_tied (compare_by clustered [] row r) ≡ false) rows → AllByRecursion (λ r. is_tied (compare_by other clustered row r) ≡ false) rows
 new_all clustered other row [] new = tt
 new_all clustered other row (r ∷ rows) new = (new_by clustered other row r new.0, new_all clustered other row rows new.1)
 
@@ -93,14 +95,14 @@ pub all_rows : (P : Row → Type 0) (slab : Rows) (entries : List ℕ) → AllBy
 all_rows P slab [] all = tt
 all_rows P slab (e ∷ entries) all = (all.0, all_rows P slab entries all.1)
 
-rows_all : (P : Row → Type 0) (slab : Rows) (entries : List ℕ) → AllByRecursion (λ e. P (row_of slab e)) entries → AllByRecursion P (rows_of slab entries)
+pub rows_all : (P : Row → Type 0) (slab : Rows) (entries : List ℕ) → AllByRecursion (λ e. P (row_of slab e)) entries → AllByRecursion P (rows_of slab entries)
 rows_all P slab [] all = tt
 rows_all P slab (e ∷ entries) all = (all.0, rows_all P slab entries all.1)
 
 pub moved : (P : ℕ → Type 0) (entries others : List ℕ) → ((e : ℕ) → Has others e → Has entries e) → AllByRecursion P entries → AllByRecursion P others
 moved P entries others here all = all_has P others (λ e has. has_all P e entries all (here e has))
 
-put_same : (k j entry e : ℕ) (order others : List ℕ) → (Has order e → Has others e) → (entry ≡ e) ⊎ Has order e → Has (insert others j entry) e
+pub put_same : (k j entry e : ℕ) (order others : List ℕ) → (Has order e → Has others e) → (entry ≡ e) ⊎ Has order e → Has (insert others j entry) e
 put_same k j entry e order others same (inl is) = subst (λ (n : ℕ). Has (insert others j entry) n) is (has_new j entry others)
 put_same k j entry e order others same (inr has) = has_old j entry e others (same has)
 

@@ -79,7 +79,7 @@ less_then Less is = refl
 less_then Equal is = absurd (cc)
 less_then Greater is = absurd (cc)
 
-all_less : (places : List ℕ) (row : Row) (rows : List Row) → AllByRecursion (λ other. compare_by places [] row other ≡ Less) rows → AllByRecursion (λ other. compare_keys (key_of places row) (key_of places other) ≡ Less) rows
+pub all_less : (places : List ℕ) (row : Row) (rows : List Row) → AllByRecursion (λ other. compare_by places [] row other ≡ Less) rows → AllByRecursion (λ other. compare_keys (key_of places row) (key_of places other) ≡ Less) rows
 unfolding key_of
 all_less places row [] less = tt
 all_less places row (other ∷ rows) less = (less_then (compare_keys (key_of places row) (key_of places other)) less.0, all_less places row rows less.1)

@@ -1,3 +1,5 @@
+pub mod Clashing
+pub mod Indexes
 pub mod RowOrders
 pub mod Seeking
 pub mod StoredRows

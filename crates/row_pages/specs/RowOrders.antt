@@ -1,10 +1,10 @@
 -- Rows in a slab, and lists of their entries in order.
-use Rattle.std.specs.Prelude.{◌≡◌, ◌⊎◌, ℕ, Bool, true, false, List, [], ◌∷◌, map, unwrap_or}
+use Rattle.std.specs.Prelude.{◌≡◌, ◌⊎◌, ℕ, Bool, true, false, List, [], ◌∷◌, length, map, unwrap_or, IsSome}
 use Rattle.std.specs.List.{AllByRecursion, prefix_len}
 use Rattle.std.specs.declared.cmp.Ordering.{Ordering}
 use Rattle.std.specs.declared.cmp.Ordering.TheVariants.{Less, Equal, Greater}
 use Rattle.std.specs.Ordering.{is_gt, ordering_then}
-use Rattle.slab.specs.Slab.{Slab, get}
+use Rattle.slab.specs.Slab.{Slab, get, slab_len}
 use Rattle.gho_values.specs.declared.value.Value.{Value}
 use Rattle.gho_values.specs.Comparing.{compare_keys}
 use Rattle.gho_schema.specs.Rows.{key_of}
@@ -49,3 +49,10 @@ is_tied Greater = false
 -- no row has this row's clustered key
 abbrev pub IsNew : List ℕ → List Value → List (List Value) → Type 0
 IsNew clustered row rows = AllByRecursion (λ other. is_tied (compare_by clustered [] row other) ≡ false) rows
+
+-- Each entry has a row, there are as many entries as rows, and the rows stand in order by their values at the first
+-- places, and where these tie, at the second.
+pub record IsListed (first second : List ℕ) (slab : Slab (List Value)) (entries : List ℕ) : Type 0 where
+  pub stored : AllByRecursion (λ entry. IsSome (get slab entry)) entries
+  pub ascends : Ascending (compare_by first second) (rows_of slab entries)
+  pub counted : length entries ≡ slab_len slab

@@ -1,12 +1,12 @@
 -- Rows that are sought by a key.
-use Rattle.std.specs.Prelude.{◌≡◌, ◌<◌, ℕ, List, [], length, get_or, find, true, Some}
+use Rattle.std.specs.Prelude.{◌≡◌, ◌<◌, ℕ, List, [], length, get_or, find, Bool, true, Some}
 use Rattle.std.specs.List.{slice_get, prefix_len}
 use Rattle.slab.specs.Slab.{Slab}
 use Rattle.gho_values.specs.declared.value.Value.{Value}
 use Rattle.gho_schema.specs.Rows.{key_of}
 use Rattle.paged_list.specs.Pages.{flat, place_in}
 use Rattle.row_store.specs.RowLists.{is_at, comes_before}
-use Rattle.row_pages.specs.RowOrders.{row_of, rows_of}
+use Rattle.row_pages.specs.RowOrders.{row_of, rows_of, Has}
 use Rattle.row_pages.specs.declared.places.Sought.{Sought}
 use Rattle.row_pages.specs.declared.places.Sought.TheVariants.{Key, Of}
 
@@ -23,3 +23,8 @@ pub record IsFound (places : List ℕ) (key : List Value) (slab : Slab (List Val
   pub entry_is : slice_get (flat pages) (place_in pages page at) ≡ Some entry
   pub has_key : is_at places key (row_of slab entry) ≡ true
   pub row_is : find (is_at places key) (rows_of slab (flat pages)) ≡ Some (row_of slab entry)
+
+-- The entry is one of these, and its row is the first that passes the test.
+pub record IsFirst (test : List Value → Bool) (slab : Slab (List Value)) (entries : List ℕ) (entry : ℕ) : Type 0 where
+  pub has : Has entries entry
+  pub row_is : find test (rows_of slab entries) ≡ Some (row_of slab entry)

@@ -1,27 +1,27 @@
 -- A table of rows in pages.
-use Rattle.std.specs.Prelude.{◌≡◌, ◌<◌, ◌≤◌, ◌+◌, ◌-◌, ℕ, List, [], ◌∷◌, length, min, IsSome}
+use Rattle.std.specs.Prelude.{◌≡◌, ◌<◌, ◌≤◌, ◌+◌, ◌-◌, ℕ, List, [], ◌∷◌, length, min}
 use Rattle.std.specs.List.{AllByRecursion}
-use Rattle.slab.specs.Slab.{Slab, get, slab_len}
+use Rattle.slab.specs.Slab.{Slab, slab_len}
 use Rattle.gho_values.specs.declared.value.Value.{Value}
 use Rattle.paged_list.specs.Pages.{InPages}
 use Rattle.row_store.specs.Databases.{TableRows}
-use Rattle.row_pages.specs.RowOrders.{rows_of, compare_by, Ascending}
+use Rattle.gho_schema.specs.declared.schema.Schema.{Schema}
+use Rattle.gho_schema.specs.Rows.{key_places}
+use Rattle.row_pages.specs.RowOrders.{IsListed}
+use Rattle.row_pages.specs.Indexes.{other_keys, keys_of, room_in, IsIndexed}
+use Rattle.row_pages.specs.declared.indexes.KeyIndex.{KeyIndex}
 
--- Each entry has a row, there are as many entries as rows, and the rows stand in order by their values at the first
--- places, and where these tie, at the second.
-pub record IsListed (first second : List ℕ) (slab : Slab (List Value)) (entries : List ℕ) : Type 0 where
-  pub stored : AllByRecursion (λ entry. IsSome (get slab entry)) entries
-  pub ascends : Ascending (compare_by first second) (rows_of slab entries)
-  pub counted : length entries ≡ slab_len slab
-
--- the rows stand in order of the clustered key
-pub record IsOrdered (clustered : List ℕ) (slab : Slab (List Value)) (order : List ℕ) : Type 0 where
-  pub listed : IsListed clustered [] slab order
+-- Each entry has a row, and the rows stand in order of the clustered key. Once there is room for a row, each other unique
+-- key has its index.
+pub record IsStored (schema : Schema) (slab : Slab (List Value)) (order : List ℕ) (indexes : List KeyIndex) : Type 0 where
+  pub listed : IsListed (key_places schema) [] slab order
   pub held : slab_len slab ≤ slab.capacity
+  pub indexed : AllByRecursion (IsIndexed (key_places schema) slab order) indexes
+  pub keyed : 0 < slab.capacity → keys_of indexes ≡ other_keys schema
 
 -- for how many more rows there is room
-abbrev pub spare_of : Slab (List Value) → InPages → ℕ
-spare_of slab order = min (slab.capacity - slab_len slab) order.spare
+abbrev pub spare_of : Slab (List Value) → InPages → List KeyIndex → ℕ
+spare_of slab order indexes = room_in indexes (min (slab.capacity - slab_len slab) order.spare)
 
 -- What contracts see of a table: its schema and rows, the rows page by page, and for how many more rows it has room.
 pub record PagedTable : Type 0 where

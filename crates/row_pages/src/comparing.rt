@@ -3,6 +3,7 @@
 ghost use Rattle.std.specs.Prelude.{◌≡◌};
 ghost use Rattle.gho_values.specs.Comparing.{compare_keys};
 ghost use Rattle.gho_schema.specs.Rows.{key_of};
+ghost use Rattle.row_store.specs.RowLists.{is_at};
 ghost use Rattle.row_pages.specs.RowOrders.{compare_by};
 
 use crate::row_key::RowKey;
@@ -33,4 +34,11 @@ pub fn compare_by(first: &[u32], second: &[u32], row: &[Value], other: &[Value])
     } else {
         compare_rows(second, row, other)
     }
+}
+
+/// Whether the row has this key.
+pub fn is_at(places: &[u32], key: &[Value], row: &[Value]) -> bool
+    ensures { result ≡ is_at places.now key.now row.now }
+{
+    compare_key(key, places, row).is_eq()
 }

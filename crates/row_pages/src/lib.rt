@@ -1,7 +1,9 @@
 //! A table whose rows stand in pages: a look-up, a put and a removal look at few of them.
 #![tactic(auto)]
 
+mod clashing;
 mod comparing;
+mod indexes;
 mod places;
 mod row_key;
 mod span_rows;

@@ -8,10 +8,11 @@ ghost use Rattle.gho_values.specs.Comparing.{compare_keys};
 ghost use Rattle.gho_schema.specs.Rows.{key_of};
 ghost use Rattle.paged_list.specs.Pages.{flat, place_in, IsGap, FailsOn, last_page};
 ghost use Rattle.row_store.specs.RowLists.{comes_before, is_at};
-ghost use Rattle.row_pages.specs.RowOrders.{row_of, rows_of, compare_by, is_before, Ascending, place_by};
-ghost use Rattle.row_pages.specs.Seeking.{sought_key, IsFound};
+ghost use Rattle.row_pages.specs.RowOrders.{row_of, rows_of, compare_by, is_before, Ascending, place_by, IsListed};
+ghost use Rattle.row_pages.specs.Seeking.{sought_key, IsFound, IsFirst};
+ghost use Rattle.row_pages.specs.Clashing.{besides_test};
 
-use crate::comparing::{compare_by, compare_key, compare_rows};
+use crate::comparing::{compare_by, compare_key, compare_rows, is_at};
 use gho_values::{Row, Value};
 use paged_list::{PagedList, Place, Test};
 use slab::Slab;
@@ -130,5 +131,69 @@ pub fn found(
         Some((place, entry))
     } else {
         None
+    }
+}
+
+/// The row of least second key that has this key.
+pub fn row_with_key<'a>(
+    rows: &'a Slab<Row>,
+    order: &PagedList,
+    places: &[u32],
+    sought: Sought<'_>,
+) -> Option<&'a Row>
+    requires { (second : List ℕ) × IsListed places.now second rows.now (flat order.now.pages) }
+    ensures { option_copied result ≡ find (is_at places.now (sought_key places.now sought.entry)) (rows_of rows.now (flat order.now.pages)) }
+{
+    match found(rows, order, places, sought) {
+        Some((_, entry)) => rows.get(entry),
+        None => None,
+    }
+}
+
+/// The first entry whose row has this key and isn't the one that is named by the second places: one of the first two of
+/// the key.
+fn found_besides(
+    rows: &Slab<Row>,
+    order: &PagedList,
+    places: &[u32],
+    sought: Sought<'_>,
+    second: &[u32],
+    named: &[Value],
+) -> Option<usize>
+    requires { Ascending (compare_by places.now second.now) (rows_of rows.now (flat order.now.pages)) }
+    ensures { MatchOption result (find (besides_test places.now (sought_key places.now sought.entry) second.now named.now) (rows_of rows.now (flat order.now.pages)) ≡ None)
+        (λ entry. IsFirst (besides_test places.now (sought_key places.now sought.entry) second.now named.now) rows.now (flat order.now.pages) entry) }
+{
+    let Some((place, entry)) = found(rows, order, places, sought) else {
+        return None;
+    };
+    if !is_at(second, named, row_of(rows, entry)) {
+        return Some(entry);
+    }
+    let Some((_, next)) = order.entry_after(place) else {
+        return None;
+    };
+    if compare_sought(sought, places, row_of(rows, next)).is_eq() {
+        Some(next)
+    } else {
+        None
+    }
+}
+
+/// The row of least second key that has this key and isn't the one that is named by the second places.
+pub fn row_besides<'a>(
+    rows: &'a Slab<Row>,
+    order: &PagedList,
+    places: &[u32],
+    sought: Sought<'_>,
+    second: &[u32],
+    named: &[Value],
+) -> Option<&'a Row>
+    requires { IsListed places.now second.now rows.now (flat order.now.pages) }
+    ensures { option_copied result ≡ find (besides_test places.now (sought_key places.now sought.entry) second.now named.now) (rows_of rows.now (flat order.now.pages)) }
+{
+    match found_besides(rows, order, places, sought, second, named) {
+        Some(entry) => rows.get(entry),
+        None => None,
     }
 }

@@ -1,4 +1,4 @@
-//! A table: rows in a slab, and their entries in order of the clustered key.
+//! A table: rows in a slab, and their entries in order of each unique key.
 
 ghost use Rattle.std.specs.Prelude.{◌≡◌, ◌≤◌, ◌<◌, ◌+◌, ◌==◌, true, [], if◌then◌else◌, None, length, get_or, is_some, option_copied, OnOk};
 ghost use Rattle.std.specs.List.{flat_map};
@@ -6,13 +6,15 @@ ghost use Rattle.gho_schema.specs.Rows.{key_of, key_places, with_row};
 ghost use Rattle.gho_schema.specs.Tables.{Ascends};
 ghost use Rattle.paged_list.specs.Pages.{pages_made, last_page};
 ghost use Rattle.row_store.specs.RowLists.{comes_before, without_key};
-ghost use Rattle.row_store.specs.Databases.{row_at_key, rows_in};
+ghost use Rattle.row_store.specs.Databases.{row_at_key, clashing, rows_in};
 ghost use Rattle.row_pages.specs.StoredRows.{ArePagesOfRows};
 
-use crate::places::{Sought, found, place_of_row};
+use crate::clashing::{clash_in, earlier, first_clash};
+use crate::indexes::{KeyIndex, add_all, make_indexes, reserve_all, take_all};
+use crate::places::{Sought, found, place_of_row, row_with_key};
 use crate::span_rows::SpanRows;
 use crate::spans::entries_in_span;
-use gho_schema::Schema;
+use gho_schema::{Schema, clustered_key};
 use gho_values::{Key, Row, Span};
 use paged_list::PagedList;
 use slab::Slab;
@@ -25,6 +27,7 @@ pub struct Table {
     schema: Schema,
     rows: Slab<Row>,
     order: PagedList,
+    indexes: Vec<KeyIndex>,
 }
 
 impl Model for Table {
@@ -32,13 +35,13 @@ impl Model for Table {
     ghost use Rattle.gho_schema.specs.Rows.{key_places};
     ghost use Rattle.paged_list.specs.Pages.{flat};
     ghost use Rattle.row_pages.specs.RowOrders.{rows_of};
-    ghost use Rattle.row_pages.specs.StoredRows.{PagedTable, IsOrdered, spare_of};
+    ghost use Rattle.row_pages.specs.StoredRows.{PagedTable, IsStored, spare_of};
 
     ghost Value = { PagedTable };
 
-    ghost view = { λ t. record { table = record { schema = t.schema; rows = rows_of t.rows (flat t.order.pages) }; pages = map (rows_of t.rows) t.order.pages; spare = spare_of t.rows t.order } };
+    ghost view = { λ t. record { table = record { schema = t.schema; rows = rows_of t.rows (flat t.order.pages) }; pages = map (rows_of t.rows) t.order.pages; spare = spare_of t.rows t.order t.indexes.items } };
 
-    ghost invariant = { λ t. IsOrdered (key_places t.schema) t.rows (flat t.order.pages) };
+    ghost invariant = { λ t. IsStored t.schema t.rows (flat t.order.pages) t.indexes.items };
 }
 
 impl Table {
@@ -51,6 +54,7 @@ impl Table {
             schema,
             rows: Slab::new(alloc),
             order: PagedList::new(alloc),
+            indexes: Vec::new(alloc),
         }
     }
 
@@ -106,9 +110,28 @@ impl Table {
     {
         let places = self.schema.key_places();
         let sought = Sought::Key(key.as_slice());
-        match found(&self.rows, &self.order, places, sought) {
-            Some((_, entry)) => self.rows.get(entry),
-            None => None,
+        row_with_key(&self.rows, &self.order, places, sought)
+    }
+
+    /// The row of least key that clashes with this one, besides the row of the key that is named.
+    pub fn clash(&self, row: &Row, besides: Option<&Key>) -> Option<&Row>
+        ensures { option_copied result ≡ clashing self.now.table row.now (option_copied besides.entry) }
+    {
+        let places = self.schema.key_places();
+        let indexes = self.indexes.as_slice();
+        let others = first_clash(&self.rows, places, indexes, row.as_slice(), besides);
+        if clustered_key(&self.schema).is_none() {
+            others
+        } else {
+            let own = clash_in(
+                &self.rows,
+                &self.order,
+                places,
+                places,
+                row.as_slice(),
+                besides,
+            );
+            earlier(places, own, others)
         }
     }
 
@@ -131,8 +154,10 @@ impl Table {
         let Some(total) = self.rows.len().checked_add(n) else {
             return Err(AllocError);
         };
-        self.rows.reserve(n)?;
-        self.order.reserve(total)
+        make_indexes(&self.schema, &self.rows, &mut self.indexes)?;
+        reserve_all(&mut self.indexes, total)?;
+        self.order.reserve(total)?;
+        self.rows.reserve(n)
     }
 
     /// Puts a row in its place. It takes no memory.
@@ -147,6 +172,7 @@ impl Table {
         let places = self.schema.key_places();
         let place = place_of_row(&self.rows, &self.order, places, &[], row.as_slice());
         let entry = self.rows.insert_reserved(row);
+        add_all(&self.rows, places, &mut self.indexes, entry);
         self.order.insert(place, entry);
     }
 
@@ -162,6 +188,7 @@ impl Table {
         let Some((place, entry)) = found(&self.rows, &self.order, places, sought) else {
             return None;
         };
+        take_all(&self.rows, places, &mut self.indexes, entry);
         self.order.remove(place);
         self.rows.try_remove(entry)
     }
