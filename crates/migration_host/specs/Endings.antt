@@ -51,6 +51,14 @@ pub record Giving : Type 0 where
   pub faults_before : ℕ
   pub faults_after : ℕ
 
+-- *Took*: what a call did to its source, by the bytes that are left and the count of faults
+abbrev pub took : {S : Type 0} → (S → Option (List ℕ)) → (S → ℕ) → S → S → Taking
+took left faults old new = record { before = left old; after = left new; faults_before = faults old; faults_after = faults new }
+
+-- *Gave*: what a call did to its sink, by the bytes that it holds and the count of faults
+abbrev pub gave : {K : Type 0} → (K → Option (List ℕ)) → (K → ℕ) → K → K → Giving
+gave held faults old new = record { before = held old; after = held new; faults_before = faults old; faults_after = faults new }
+
 -- the source was read to its end or one byte past the limit, and this comes of its bytes under the command
 pub record ReadsAndComes (told : Command) (source : Taking) (printed : Option Printed) (turns : List Turn) (journal : List Entry) : Type 0 where
   pub bytes : List ℕ

@@ -3,7 +3,7 @@
 ghost use Rattle.std.specs.Prelude.{◌≡◌, ◌≤◌, ◌==◌, false, length, Some, None};
 ghost use Rattle.migration_host.specs.declared.command.Command.TheVariants.{Check, Replay};
 ghost use Rattle.server_words.specs.declared.cause.Verdict.TheVariants as verdicts;
-ghost use Rattle.migration_host.specs.Endings.{ComesTo, Gives, command};
+ghost use Rattle.migration_host.specs.Endings.{ComesTo, Gives, command, gave, took};
 ghost use Rattle.migration_host.specs.Promises.{Ends, IsSerial, PrintsReport, PrintsSchema, PrintsRevert, PrintsUnfinished, PrintsRefusal, PrintsUsage, PrintsReadFault, PrintsPrefix, PrintsNone, IsUsageOrLost};
 
 use crate::line::Line;
@@ -34,9 +34,7 @@ pub struct Ended {
 
 /// What the words and the source come to.
 fn come_to<S: Source>(alloc: Global, line: &Line, source: &mut S) -> Outcome
-    ensures comes { ComesTo (command line.now)
-        record { before = S.left source.old; after = S.left source.new; faults_before = S.faults source.old; faults_after = S.faults source.new }
-        result.printed result.turns result.journal }
+    ensures comes { ComesTo (command line.now) (took S.left S.faults source.old source.new) result.printed result.turns result.journal }
     ensures never_falls { S.faults source.old ≤ S.faults source.new }
 {
     let Some(command) = line.command() else {
@@ -53,9 +51,7 @@ fn come_to<S: Source>(alloc: Global, line: &Line, source: &mut S) -> Outcome
 
 /// Gives what is printed, and says how it ended.
 fn give<K: Sink>(outcome: &Outcome, sink: &mut K) -> Status
-    ensures gives { Gives outcome.now.printed
-        record { before = K.held sink.old; after = K.held sink.new; faults_before = K.faults sink.old; faults_after = K.faults sink.new }
-        result }
+    ensures gives { Gives outcome.now.printed (gave K.held K.faults sink.old sink.new) result }
     ensures never_falls { K.faults sink.old ≤ K.faults sink.new }
 {
     match &outcome.printed {
@@ -69,10 +65,7 @@ fn give<K: Sink>(outcome: &Outcome, sink: &mut K) -> Status
 
 /// Does what the words ask for, and says how it ended.
 fn ending<S: Source, K: Sink>(alloc: Global, line: &Line, source: &mut S, sink: &mut K) -> Ended
-    ensures ends { Ends line.now
-        record { before = S.left source.old; after = S.left source.new; faults_before = S.faults source.old; faults_after = S.faults source.new }
-        record { before = K.held sink.old; after = K.held sink.new; faults_before = K.faults sink.old; faults_after = K.faults sink.new }
-        result.turns result.journal result.status }
+    ensures ends { Ends line.now (took S.left S.faults source.old source.new) (gave K.held K.faults sink.old sink.new) result.turns result.journal result.status }
     ensures source_never_falls { S.faults source.old ≤ S.faults source.new }
     ensures sink_never_falls { K.faults sink.old ≤ K.faults sink.new }
 {
@@ -101,59 +94,27 @@ pub fn ghost_<R: Threads + Wait + Sync, S: Source, K: Sink, G: Gate + Sync>(
     _gate: &G,
 ) -> Ended
     // What the call took, did and gave under its status, in one relation: the clauses below say the same case by case.
-    ensures ends { Ends line.now
-        record { before = S.left source.old; after = S.left source.new; faults_before = S.faults source.old; faults_after = S.faults source.new }
-        record { before = K.held sink.old; after = K.held sink.new; faults_before = K.faults sink.old; faults_after = K.faults sink.new }
-        result.turns result.journal result.status }
+    ensures ends { Ends line.now (took S.left S.faults source.old source.new) (gave K.held K.faults sink.old sink.new) result.turns result.journal result.status }
 
     // The headline: whatever the status, where turns were taken.
-    ensures serial { (length result.journal == 0) ≡ false → IsSerial
-        record { before = S.left source.old; after = S.left source.new; faults_before = S.faults source.old; faults_after = S.faults source.new }
-        result.turns result.journal }
+    ensures serial { (length result.journal == 0) ≡ false → IsSerial (took S.left S.faults source.old source.new) result.turns result.journal }
 
-    ensures done { result.status ≡ 0 → command line.now ≡ Some Replay → PrintsReport
-        record { before = S.left source.old; after = S.left source.new; faults_before = S.faults source.old; faults_after = S.faults source.new }
-        record { before = K.held sink.old; after = K.held sink.new; faults_before = K.faults sink.old; faults_after = K.faults sink.new }
-        result.turns result.journal verdicts.Done }
-    ensures checked { result.status ≡ 0 → command line.now ≡ Some Check → PrintsSchema
-        record { before = S.left source.old; after = S.left source.new; faults_before = S.faults source.old; faults_after = S.faults source.new }
-        record { before = K.held sink.old; after = K.held sink.new; faults_before = K.faults sink.old; faults_after = K.faults sink.new }
-        result.turns result.journal }
-    ensures reverted { result.status ≡ 3 → PrintsRevert
-        record { before = S.left source.old; after = S.left source.new; faults_before = S.faults source.old; faults_after = S.faults source.new }
-        record { before = K.held sink.old; after = K.held sink.new; faults_before = K.faults sink.old; faults_after = K.faults sink.new }
-        result.turns result.journal }
-    ensures turns_spent { result.status ≡ 7 → PrintsUnfinished
-        record { before = S.left source.old; after = S.left source.new; faults_before = S.faults source.old; faults_after = S.faults source.new }
-        record { before = K.held sink.old; after = K.held sink.new; faults_before = K.faults sink.old; faults_after = K.faults sink.new }
-        result.turns result.journal }
+    ensures done { result.status ≡ 0 → command line.now ≡ Some Replay → PrintsReport (took S.left S.faults source.old source.new) (gave K.held K.faults sink.old sink.new) result.turns result.journal verdicts.Done }
+    ensures checked { result.status ≡ 0 → command line.now ≡ Some Check → PrintsSchema (took S.left S.faults source.old source.new) (gave K.held K.faults sink.old sink.new) result.turns result.journal }
+    ensures reverted { result.status ≡ 3 → PrintsRevert (took S.left S.faults source.old source.new) (gave K.held K.faults sink.old sink.new) result.turns result.journal }
+    ensures turns_spent { result.status ≡ 7 → PrintsUnfinished (took S.left S.faults source.old source.new) (gave K.held K.faults sink.old sink.new) result.turns result.journal }
 
-    ensures usage { result.status ≡ 1 → PrintsUsage
-        record { before = S.left source.old; after = S.left source.new; faults_before = S.faults source.old; faults_after = S.faults source.new }
-        record { before = K.held sink.old; after = K.held sink.new; faults_before = K.faults sink.old; faults_after = K.faults sink.new }
-        result.turns result.journal }
+    ensures usage { result.status ≡ 1 → PrintsUsage (took S.left S.faults source.old source.new) (gave K.held K.faults sink.old sink.new) result.turns result.journal }
     ensures usage_only_at_faulty_words { result.status ≡ 1 → command line.now ≡ None }
     ensures faulty_words { command line.now ≡ None → IsUsageOrLost result.status }
 
-    ensures refused { result.status ≡ 2 → PrintsRefusal
-        record { before = S.left source.old; after = S.left source.new; faults_before = S.faults source.old; faults_after = S.faults source.new }
-        record { before = K.held sink.old; after = K.held sink.new; faults_before = K.faults sink.old; faults_after = K.faults sink.new }
-        result.turns result.journal }
+    ensures refused { result.status ≡ 2 → PrintsRefusal (took S.left S.faults source.old source.new) (gave K.held K.faults sink.old sink.new) result.turns result.journal }
 
-    ensures read_fault { result.status ≡ 4 → PrintsReadFault
-        record { before = S.left source.old; after = S.left source.new; faults_before = S.faults source.old; faults_after = S.faults source.new }
-        record { before = K.held sink.old; after = K.held sink.new; faults_before = K.faults sink.old; faults_after = K.faults sink.new }
-        result.turns result.journal }
+    ensures read_fault { result.status ≡ 4 → PrintsReadFault (took S.left S.faults source.old source.new) (gave K.held K.faults sink.old sink.new) result.turns result.journal }
 
-    ensures write_fault { result.status ≡ 5 → PrintsPrefix line.now
-        record { before = S.left source.old; after = S.left source.new; faults_before = S.faults source.old; faults_after = S.faults source.new }
-        record { before = K.held sink.old; after = K.held sink.new; faults_before = K.faults sink.old; faults_after = K.faults sink.new }
-        result.turns result.journal }
+    ensures write_fault { result.status ≡ 5 → PrintsPrefix line.now (took S.left S.faults source.old source.new) (gave K.held K.faults sink.old sink.new) result.turns result.journal }
 
-    ensures no_memory { result.status ≡ 6 → PrintsNone line.now
-        record { before = S.left source.old; after = S.left source.new; faults_before = S.faults source.old; faults_after = S.faults source.new }
-        record { before = K.held sink.old; after = K.held sink.new; faults_before = K.faults sink.old; faults_after = K.faults sink.new }
-        result.turns result.journal }
+    ensures no_memory { result.status ≡ 6 → PrintsNone line.now (took S.left S.faults source.old source.new) (gave K.held K.faults sink.old sink.new) result.turns result.journal }
 {
     ending(alloc, line, source, sink)
 }
