@@ -1,0 +1,3 @@
+pub mod Beside
+pub mod Fronts
+pub mod Placed

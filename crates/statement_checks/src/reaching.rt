@@ -1,0 +1,112 @@
+//! What a condition reaches.
+
+ghost use Rattle.std.specs.Prelude.{◌≡◌, map, Ok, None, if◌then◌else◌, IfOk};
+ghost use Rattle.gho_schema.specs.Clustering.{clustered_place};
+ghost use Rattle.gho_schema.specs.Rows.{key_places};
+ghost use Rattle.plain_server.specs.Checking.{is_only, reach_equal, reach_range, reach_of};
+
+use crate::columns::places_named;
+use crate::keys::{is_only, key_from, key_of_columns, places_at, point, sought_each};
+use crate::parts::{compared_columns, compared_values, set_columns, set_values};
+use crate::ranges::{spans_together, whole};
+use crate::refusing::{Checked, refuses};
+use gho_schema::{Schema, clustered_place};
+use gho_values::Span;
+use plain_server::Reach;
+use script_text::{Comparison, Condition, Set};
+use std::alloc::{AllocError, Global};
+
+/// Equalities: on the columns of a unique key.
+#[tactic(auto, unfolding(plain_server::specs::Checking::reach_equal))]
+fn reach_equal(alloc: Global, schema: &Schema, sets: &[Set]) -> Result<Checked<Reach>, AllocError>
+    ensures { IfOk result (λ reach. reach ≡ reach_equal schema.now (map (λ set. set.column) sets.now) (map (λ set. set.value) sets.now)) }
+{
+    let names = set_columns(alloc, sets)?;
+    let places = match places_named(alloc, schema, names.as_slice())? {
+        Ok(places) => places,
+        Err(refusal) => return Ok(Err(refusal)),
+    };
+    let Some(place) = key_of_columns(schema, places.as_slice()) else {
+        return Ok(Err(refuses(1235)));
+    };
+    let values = set_values(alloc, sets)?;
+    let sought = match sought_each(alloc, schema, places.as_slice(), values.as_slice())? {
+        Ok(sought) => sought,
+        Err(refusal) => return Ok(Err(refusal)),
+    };
+    let key = key_from(
+        alloc,
+        places_at(schema, place),
+        places.as_slice(),
+        sought.as_slice(),
+    )?;
+    reach_at(place, point(key)?)
+}
+
+/// What is reached of the unique key at this place.
+fn reach_at(place: usize, span: Span) -> Result<Checked<Reach>, AllocError>
+    ensures { IfOk result (λ reach. reach ≡ Ok (record { key = place; span = span })) }
+{
+    // There is no memory for a table of so many keys.
+    match u32::try_from(place) {
+        Ok(key) => Ok(Ok(Reach { key, span })),
+        Err(_) => Err(AllocError),
+    }
+}
+
+/// The clustered key's place, where its one column is all that is compared.
+fn range_key(schema: &Schema, places: &[u32]) -> Option<usize>
+    ensures { result ≡ (if is_only (key_places schema.now) places.now then clustered_place schema.now else None) }
+{
+    if is_only(schema.key_places(), places) {
+        clustered_place(schema)
+    } else {
+        None
+    }
+}
+
+/// Comparisons: of the one column of the clustered key.
+#[tactic(auto, unfolding(plain_server::specs::Checking::reach_range))]
+fn reach_range(
+    alloc: Global,
+    schema: &Schema,
+    comparisons: &[Comparison],
+) -> Result<Checked<Reach>, AllocError>
+    ensures { IfOk result (λ reach. reach ≡ reach_range schema.now comparisons.now) }
+{
+    let names = compared_columns(alloc, comparisons)?;
+    let places = match places_named(alloc, schema, names.as_slice())? {
+        Ok(places) => places,
+        Err(refusal) => return Ok(Err(refusal)),
+    };
+    let Some(place) = range_key(schema, places.as_slice()) else {
+        return Ok(Err(refuses(1235)));
+    };
+    let values = compared_values(alloc, comparisons)?;
+    match sought_each(alloc, schema, places.as_slice(), values.as_slice())? {
+        Ok(sought) => reach_at(
+            place,
+            spans_together(alloc, comparisons, sought.as_slice())?,
+        ),
+        Err(refusal) => Ok(Err(refusal)),
+    }
+}
+
+/// What a condition reaches.
+#[tactic(auto, unfolding(plain_server::specs::Checking::reach_of))]
+pub fn reach_of(
+    alloc: Global,
+    schema: &Schema,
+    condition: &Condition,
+) -> Result<Checked<Reach>, AllocError>
+    ensures { IfOk result (λ reach. reach ≡ reach_of schema.now condition.now) }
+{
+    match condition {
+        Condition::All => match clustered_place(schema) {
+            Some(place) => reach_at(place, whole()),
+            None => Ok(Err(refuses(1235))),
+        },
+        Condition::Equal(sets) => reach_equal(alloc, schema, sets.as_slice()),
+        Condition::Range(comparisons) => reach_range(alloc, schema, comparisons.as_slice()),
+    }
+}
