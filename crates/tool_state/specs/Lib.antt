@@ -1,0 +1,3 @@
+pub mod TryTurns
+pub mod Meanings
+pub mod Sound
