@@ -81,8 +81,8 @@ images_clash approve schema clauses new a b made other lawful e is also image_a 
     let first : key_of found.item.places made ≡ key_of (old_places new.1 found.item.places) a = s.keeps a made is image_a ∙ ap (λ (ps : List ℕ). key_of ps a) (sym s.places) in
     let second : key_of found.item.places other ≡ key_of (old_places new.1 found.item.places) b = s.keeps b other also image_b ∙ ap (λ (ps : List ℕ). key_of ps b) (sym s.places) in
     let passes : clashes a b (kept_key new.1 found.item) ≡ true =
-        subst (λ (k : List Value). (is_eq (compare_keys k (key_of (old_places new.1 found.item.places) b)) && no_null k) ≡ true) first
-        (subst (λ (k : List Value). (is_eq (compare_keys (key_of found.item.places made) k) && no_null (key_of found.item.places made)) ≡ true) second found.passes) in
+    subst (λ (k : List Value). (is_eq (compare_keys k (key_of (old_places new.1 found.item.places) b)) && no_null k) ≡ true) first
+    (subst (λ (k : List Value). (is_eq (compare_keys (key_of found.item.places made) k) && no_null (key_of found.item.places made)) ≡ true) second found.passes) in
     any-at (clashes a b) (kept_keys new.1 new.0.uniques) found.place (kept_key new.1 found.item) (get-kept new.1 new.0.uniques found.place found.item found.here) passes
 
 -- *The clustered key is kept.*
