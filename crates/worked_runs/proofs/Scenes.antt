@@ -478,7 +478,7 @@ scene_24 =
     ∷ record { actor = Client 1; session = 1; asked = Call (requests.Do (statements.Select (codes "t") shown.All conditions.All)); side = None; answer = answers.Rows ((Num (pos 1) ∷ []) ∷ []); missed = None }
     ∷ record { actor = Insp; session = 2; asked = Call (requests.Drop (codes "t")); side = None; answer = answers.Waits 1; missed = None }
     ∷ record { actor = Client 1; session = 1; asked = Call (requests.Do (statements.Select (codes "t") shown.All conditions.All)); side = None; answer = answers.Rows ((Num (pos 1) ∷ []) ∷ []); missed = None }
-    ∷ record { actor = Client 2; session = 3; asked = Call (requests.Do (statements.Insert (codes "t") None (Num (pos 2) ∷ []))); side = None; answer = answers.Waits 2; missed = None }
+    ∷ record { actor = Client 2; session = 3; asked = Call (requests.Do (statements.Insert (codes "t") None (Num (pos 2) ∷ []))); side = None; answer = answers.Waits 1; missed = None }
     ∷ record { actor = Client 1; session = 1; asked = Call (requests.Commit); side = None; answer = answers.Ok 0; missed = None }
     ∷ record { actor = Insp; session = 2; asked = Poll; side = None; answer = answers.Ok 0; missed = None }
     ∷ record { actor = Client 2; session = 3; asked = Poll; side = None; answer = answers.Refused 1146 None; missed = None }
@@ -498,7 +498,7 @@ scene_25 =
     record { actor = Client 1; session = 1; asked = Call (requests.Begin); side = None; answer = answers.Ok 0; missed = None }
     ∷ record { actor = Client 1; session = 1; asked = Call (requests.Do (statements.Select (codes "t") shown.All conditions.All)); side = None; answer = answers.Rows ((Num (pos 1) ∷ []) ∷ []); missed = None }
     ∷ record { actor = Lock; session = 2; asked = Call (requests.LockTables (codes "t" ∷ [])); side = None; answer = answers.Waits 1; missed = None }
-    ∷ record { actor = Client 2; session = 3; asked = Call (requests.Do (statements.Insert (codes "t") None (Num (pos 2) ∷ []))); side = None; answer = answers.Waits 2; missed = None }
+    ∷ record { actor = Client 2; session = 3; asked = Call (requests.Do (statements.Insert (codes "t") None (Num (pos 2) ∷ []))); side = None; answer = answers.Waits 1; missed = None }
     ∷ record { actor = Lock; session = 2; asked = Poll; side = None; answer = answers.TimedOut 1; missed = None }
     ∷ record { actor = Client 2; session = 3; asked = Poll; side = None; answer = answers.Waits 1; missed = None }
     ∷ record { actor = Client 1; session = 1; asked = Call (requests.Commit); side = None; answer = answers.Ok 0; missed = None }
