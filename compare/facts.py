@@ -182,6 +182,11 @@ def names_behind(item):
     return len(item) - begin + 1 if begin > 1 and not item[begin - 1].is_word("KEY", "INDEX") else 0
 
 
+def has_left_out_statement(plan):
+    """Whether a statement has a word that stands for a clause of MySQL's, where the program wants none: also as a name."""
+    return any(has_word(line, "JOIN", "ORDER", "LIMIT", "ON", "DEFAULT") for script in plan.clients for line in script)
+
+
 def has_odd_key_name(plan, difference):
     return difference.theirs == "1280" and re.search(r"(?i)``|`primary`|(KEY|INDEX) primary", f"{plan.create} {plan.alter}")
 

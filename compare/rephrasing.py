@@ -82,7 +82,9 @@ def with_backquotes(plan):
     create, alter = words(plan.create), words(plan.alter)
     if any(it.is_word(*RESERVED) for it in create + alter):
         texts = [quoted(listed, lambda _, it: it.is_word(*RESERVED)) for listed in (create, alter)]
-        yield dataclasses.replace(plan, create=texts[0], alter=texts[1])
+        # A statement's first word is never a name.
+        clients = [[quoted(words(line), lambda at, it: at > 0 and it.is_word(*RESERVED)) for line in script] for script in plan.clients]
+        yield dataclasses.replace(plan, create=texts[0], alter=texts[1], clients=clients)
     for part, listed in (("create", create), ("alter", alter)):
         for place in [at for at, it in enumerate(listed) if it.is_word(*KEYWORDS)]:
             yield dataclasses.replace(plan, **{part: quoted(listed, lambda at, _, place=place: at == place)})
