@@ -25,6 +25,7 @@ impl<'a> Model for RowKey<'a> {
 }
 
 impl<'a> RowKey<'a> {
+    /// The key that `columns` make of the row `values`, column by column, in their order; a column past the row's end gives nothing.
     pub fn new(columns: &'a [u32], values: &'a [Value]) -> RowKey<'a>
         ensures { result ≡ key_of columns.now values.now }
     {
