@@ -1,4 +1,4 @@
--- *The applier's premise*, from what it knows of the log and from what A1 read.
+-- *The applier's premise*, from what it knows of the log and from what the applier's reading told.
 use Rattle.std.proofs.Common.{◌≡◌, ◌≢◌, ℕ, true, List, [], refl, sym, ◌∙◌, subst, inl, inr}
 use Rattle.std.specs.Prelude.{◌⊎◌}
 use Rattle.event_codec.specs.declared.event.RowEvent.{RowEvent}

@@ -78,7 +78,7 @@ pub asks_poll : (b : Bool) (option : Option Request) → cond b (Some Poll) (cal
 asks_poll true option e = refl
 asks_poll false option e = absurd (never_polls option e)
 
--- what the journal so far gives the locker: its call, and at L1 the range is copied
+-- what the journal so far gives the locker: its call; and where that makes the sentry, the range is copied
 pub locker_given : (plan : PlanData) (journal : List Entry) (work : Work) (request : Request) → (moment plan journal).tool.course ≡ Migrating work → given plan journal Lock ≡ Some (Call request)
     → LockerCalls work.cutover.table work.cutover.phase work.cutover.hold request × (work.cutover.phase ≡ Resting → work.copier.is_copied ≡ true)
 unfolding given cutovers.next
@@ -189,7 +189,7 @@ waiting_may (Attempting (Draining turns)) hold waits fits so = no_claim (MayAnsw
 waiting_may (Finishing clearing) hold waits fits so = no_claim (MayAnswer Resting waits) waits fits so
 waiting_may Finished hold waits fits so = no_claim (MayAnswer Resting waits) waits fits so
 
--- the renamer is called at M1 alone
+-- the renamer is called for the RENAME alone
 pub renamer_called : (plan : PlanData) (journal : List Entry) (work : Work) (request : Request) → (moment plan journal).tool.course ≡ Migrating work → given plan journal Ren ≡ Some (Call request) → MayAnswer work.cutover.phase work.cutover.renamer_waits
 unfolding given cutovers.next
 renamer_called plan journal work request is e =

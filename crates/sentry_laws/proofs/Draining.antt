@@ -24,7 +24,7 @@ use Rattle.event_applier.specs.Appliers.{events_of, planned, took, starts, moved
 abbrev pub on_both : List ℕ → RowEvent → Bool
 on_both t event = bytes_eq event.table t || bytes_eq event.table (log_name t)
 
--- the answer to A1 from a position: the events of both tables up to the next position
+-- the answer to the applier's reading from a position: the events of both tables up to the next position
 pub record IsRead (t : List ℕ) (log : List RowEvent) (position : ℕ) (events : List RowEvent) (next : ℕ) : Type 0 where
   pub forward : position ≤ next
   pub within : next ≤ length log
@@ -96,7 +96,7 @@ plans_nothing : (applier : Applier) (events : List RowEvent) → events_of appli
 unfolding planned
 plans_nothing applier events none = rw none refl
 
--- where nothing of the table is unread, A1 opens no batch
+-- where nothing of the table is unread, the applier's reading opens no batch
 pub reads_nothing : (t : List ℕ) (log : List RowEvent) (copier : Copier) (applier : Applier) (turn next : ℕ) (events : List RowEvent) → applier.table ≡ t → applier.step ≡ Reading → events_of t events ≡ [] → applier.position ≤ next → next ≤ length log
     → IsDrained t log copier applier → IsDrained t log copier (took turn applier (answers.Events events next))
 unfolding took

@@ -154,7 +154,7 @@ same_name : (name : List ℕ) → pointwise nat_eq name name ≡ true
 same_name [] = refl
 same_name (n ∷ name) = rw (same_nat n) (same_name name)
 
--- I1: the hint row stands behind all that is logged of the table
+-- The hint row is written: it stands behind all that is logged of the table
 pub writes_hint : (t : List ℕ) (attempt l : ℕ) (before after : Scene) → BehindLock t before l → ((count : ℕ) → last_hint t 0 (take count before.log) ≢ attempt) → has_table_name (old_name t) after.tables ≡ has_table_name (old_name t) before.tables → after.held ≡ before.held
     → after.log ≡ before.log ++ record { table = log_name t; change = Write (hint_row attempt) } ∷ [] → BehindHint t after attempt l
 writes_hint t attempt l before after at earlier tables held log =
@@ -208,7 +208,7 @@ drains t attempt l scene copier applier at knows is copied within idle =
       };
     }
 
--- M1 waits: the locker holds the table
+-- The RENAME waits: the locker holds the table
 pub rename_waits : (t : List ℕ) (names : List (List ℕ)) (l r : ℕ) (scene : Scene) → l ≢ r → IsLocked t scene.held l → refuser_of_names scene.held scene.waiting r true (t ∷ names) ≢ None
 rename_waits t names l r scene apart locked granted = refused_exclusive scene.held scene.waiting r l t apart locked.own (locked.alone r (λ same. apart (sym same))) (granted_each scene.held scene.waiting r true names t granted)
 
@@ -226,7 +226,7 @@ asks_rename t names l r before after copier applier at is =
     subst (λ scene. BehindRename t scene copier applier l r) (sym is)
     (record { sentry = at.sentry; locked = at.locked; drained = at.drained; waits = list_any-last t r before.waiting (record { session = r; names = t ∷ names }) (rw (same_nat r, same_name t) refl) })
 
--- L3: the sentry is dropped under the lock
+-- The sentry is dropped under the lock
 pub drops_sentry : (t : List ℕ) (l r : ℕ) (before after : Scene) (copier : Copier) (applier : Applier) → BehindRename t before copier applier l r → DropsSentry t before after → (RenameWaits t before r → RenameWaits t after r) → BehindDrop t after copier applier l r
 drops_sentry t l r before after copier applier at drops waits =
     record {
@@ -244,12 +244,12 @@ pub may_freed : (t : List ℕ) (l r : ℕ) (before after : Scene) (copier : Copi
 may_freed t l r before after copier applier frees may =
     record { alone = alone_freed t l before.held after.held frees.others may.alone; drained = subst (λ log. IsDrained t log copier applier) (sym frees.log) may.drained }
 
--- L4: the lock is given up
+-- The lock is given up
 pub unlocks : (t : List ℕ) (l r : ℕ) (before after : Scene) (copier : Copier) (applier : Applier) → BehindDrop t before copier applier l r → OnlyFreesLock t l r before after → BehindUnlock t after copier applier l r
 unlocks t l r before after copier applier at only =
     record { gone = only.tables ∙ at.gone; waits = only.frees.waits at.waits; may = may_freed t l r before after copier applier only.frees (record { alone = at.locked.alone; drained = at.drained }) }
 
--- the locker's session is lost, or E1 unlocks: its locks are freed, and its request is gone
+-- the locker's session is lost, or the attempt's end unlocks: its locks are freed, and its request is gone
 pub lock_is_freed : (t : List ℕ) (l r : ℕ) (before after : Scene) (copier : Copier) (applier : Applier) (hold : Hold) (waits : Bool) → AtEnd t before copier applier l r hold waits → OnlyFreesLock t l r before after → AtEnd t after copier applier l r Nothing waits
 lock_is_freed t l r before after copier applier hold waits at only = record { lock = tt; rename = named waits at.rename }
   where

@@ -1,4 +1,4 @@
--- No hint row is logged of an attempt before its own I1: the premise of I1's law.
+-- No hint row is logged of an attempt before the attempt writes it: the premise of the law of that step.
 use Rattle.std.proofs.Common.{◌≡◌, ◌≢◌, ℕ, zero, suc, ◌≤◌, ◌<◌, Bool, true, false, cond, List, [], ◌∷◌, take, refl, arith}
 use Rattle.std.specs.List.{AllByRecursion}
 use Rattle.std.specs.Str.{bytes_eq}

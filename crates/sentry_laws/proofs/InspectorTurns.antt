@@ -28,7 +28,7 @@ free_end : (t : List ℕ) (l r : ℕ) (scene : Scene) (copier : Copier) (applier
 free_end t l r scene copier applier hold waits is so =
     subst (λ h. AtEnd t scene copier applier l r h waits) (sym is) (subst (λ w. AtEnd t scene copier applier l r Nothing w) (sym so) (record { lock = tt; rename = tt }))
 
--- behind E3's listing
+-- behind the listing of tables at an attempt's end
 sees : (t : List ℕ) (l r : ℕ) (scene : Scene) (copier : Copier) (applier : Applier) (cutover : CutOver) (tables : List TableName) → cutover.hold ≡ Nothing → cutover.renamer_waits ≡ false → Guards t scene copier applier cutover l r (seen cutover tables)
 sees t l r scene copier applier cutover tables is so = by (not (has_name (ghost_name cutover.table) tables)) (has_sentry cutover.table tables)
   where

@@ -12,7 +12,7 @@ use Rattle.event_applier.specs.declared.applier.Part.{Part}
 use Rattle.event_applier.specs.declared.applier.Part.TheVariants.{Whole, Removal, Return}
 use Rattle.event_applier.specs.Appliers.{took, moved, batch_of, after_answer, after_part}
 
--- the answer to A1 is what the log has
+-- the answer to the applier's reading is what the log has
 abbrev pub Reads : List ℕ → List RowEvent → Applier → Answer → Type 0
 Reads t log applier (answers.Events events next) = IsRead t log applier.position events next
 Reads t log applier answer = Unit {0}

@@ -79,7 +79,7 @@ loses t l r before after copier applier cutover stage answer at fits is none fre
     (end_is t l r after copier applier (hold_after cutover.hold (Attempting stage) answers.Lost) Nothing cutover.renamer_waits cutover.renamer_waits none refl
     (lock_is_freed t l r before after copier applier cutover.hold cutover.renamer_waits (ends_guarded t l r before copier applier cutover stage fits at) frees))
 
--- lost at L3: before the drop or after it, the tables may be exchanged
+-- lost at the sentry's DROP: before the drop or after it, the tables may be exchanged
 lost_at_drop : (t : List ℕ) (l r : ℕ) (before after : Scene) (copier : Copier) (applier : Applier) → BehindRename t before copier applier l r → FreesLock t l r before after → BehindFailure t after copier applier l r
 lost_at_drop t l r before after copier applier at frees =
     record { waits = frees.waits at.waits; guarded = inr (may_freed t l r before after copier applier frees (record { alone = at.locked.alone; drained = at.drained })) }

@@ -19,7 +19,7 @@ use Rattle.cutover_core.specs.declared.cutover.Clearing.TheVariants.{Looking}
 use Rattle.cutover_core.specs.CutOvers.{inspector_phase, inspector_stage, shows_wait, is_bad, drained, stands}
 
 -- THE INSPECTOR, in an attempt that may succeed. Its turn is one of another session than the locker's and the renamer's;
--- at I1's Ok the hint row is what it logged, and no hint row before it is the attempt's.
+-- where the hint row is written, it is what the turn logged, and no hint row before it is the attempt's.
 shown : (t : List ℕ) (l r : ℕ) (scene : Scene) (copier : Copier) (applier : Applier) (cutover : CutOver) (b : Bool) → BehindRename t scene copier applier l r → Guards t scene copier applier cutover l r (Attempting (cond b Dropping Showing))
 shown t l r scene copier applier cutover true at = at
 shown t l r scene copier applier cutover false at = at

@@ -76,7 +76,7 @@ frees_lock t l r before after apart turn none = record { others = others t l bef
 pub only_frees : (t : List ℕ) (l r : ℕ) {takes : Bool} (before after : State) → r ≢ l → TurnOf takes l before after → LogsNothing before after → Defines before after → OnlyFreesLock t l r (scene before) (scene after)
 only_frees t l r before after apart turn none stays = record { frees = frees_lock t l r before after apart turn none; tables = stays (old_name t) }
 
--- *L2, done*
+-- *LOCK TABLES, done*
 name_in : (t : List ℕ) (names : List (List ℕ)) → list_any (bytes_eq t) (t ∷ names) ≡ true
 name_in t names = rw ((bytes_eq-Decides t t).1 refl) refl
 
@@ -91,7 +91,7 @@ takes_lock t l before after taken alone stays =
     second true e = refl
     second false e = e
 
--- *L3, done*: what DROP leaves has no table of the name
+-- *The sentry's DROP, done*: what DROP leaves has no table of the name
 gone : (name : List ℕ) (tables : Database) → has_table name (without_table name tables) ≡ false
 gone name [] = refl
 gone name (table ∷ tables) = by (bytes_eq table.schema.name name) refl (gone name tables)

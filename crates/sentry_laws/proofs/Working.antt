@@ -79,7 +79,7 @@ pub renamer_is : (t : List ℕ) (l r k : ℕ) (scene : Scene) (copier : Copier) 
 renamer_is t l r k scene copier applier cutover phase (inl is) at = subst (λ s. Guards t scene copier applier cutover l s phase) (sym is) at
 renamer_is t l r k scene copier applier cutover phase (inr free) at = renamer_free t l r k scene copier applier cutover phase free at
 
--- the locker's machine: its attempts count at L1 alone
+-- the locker's machine: its attempts count where it makes the sentry, and nowhere else
 took_locker : (t : List ℕ) (l r : ℕ) (scene : Scene) (copier : Copier) (applier : Applier) (cutover : CutOver) (answer : Answer) (phase : Phase) → cutover.phase ≡ phase → Guards t scene copier applier (after_locker cutover phase answer) l r (locker_phase phase answer)
     → Guards t scene copier applier (locker_took cutover answer) l r (locker_phase phase answer)
 took_locker t l r scene copier applier cutover answer Resting is at =

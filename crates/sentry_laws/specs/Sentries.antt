@@ -87,16 +87,16 @@ pub record MayExchange (table : List ℕ) (scene : Scene) (copier : Copier) (app
   pub alone : IsAlone table scene.held session
   pub drained : IsDrained table scene.log copier applier
 
--- behind L1: the sentry stands
+-- once the sentry is made: it stands
 pub record BehindSentry (table : List ℕ) (scene : Scene) : Type 0 where
   pub sentry : HasSentry table scene
 
--- behind L2: the table is locked too
+-- once the tables are locked: the sentry stands, and the table is locked too
 pub record BehindLock (table : List ℕ) (scene : Scene) (locker : ℕ) : Type 0 where
   pub sentry : HasSentry table scene
   pub locked : IsLocked table scene.held locker
 
--- behind I1: nothing is logged of the table behind the hint row
+-- once the hint row is written: nothing is logged of the table behind the hint row
 pub record BehindHint (table : List ℕ) (scene : Scene) (attempt locker : ℕ) : Type 0 where
   pub sentry : HasSentry table scene
   pub locked : IsLocked table scene.held locker
@@ -108,7 +108,7 @@ pub record BehindDrain (table : List ℕ) (scene : Scene) (copier : Copier) (app
   pub locked : IsLocked table scene.held locker
   pub drained : IsDrained table scene.log copier applier
 
--- behind M1: the RENAME waits
+-- once the RENAME is asked for: it waits
 pub record BehindRename (table : List ℕ) (scene : Scene) (copier : Copier) (applier : Applier) (locker renamer : ℕ) : Type 0 where
   pub sentry : HasSentry table scene
   pub locked : IsLocked table scene.held locker
@@ -119,14 +119,14 @@ pub record BehindRename (table : List ℕ) (scene : Scene) (copier : Copier) (ap
 abbrev pub IsFree : List ℕ → Scene → Type 0
 IsFree table scene = has_table (old_name table) scene.tables ≡ false
 
--- behind L3: the sentry is gone, the lock is held, the RENAME waits
+-- once the sentry is dropped: it is gone, the lock is held, the RENAME waits
 pub record BehindDrop (table : List ℕ) (scene : Scene) (copier : Copier) (applier : Applier) (locker renamer : ℕ) : Type 0 where
   pub gone : IsFree table scene
   pub locked : IsLocked table scene.held locker
   pub drained : IsDrained table scene.log copier applier
   pub waits : RenameWaits table scene renamer
 
--- behind L4, or the loss of the lock: the RENAME waits, and may run
+-- once the tables are unlocked, or the lock is lost: the RENAME waits, and may run
 pub record BehindUnlock (table : List ℕ) (scene : Scene) (copier : Copier) (applier : Applier) (locker renamer : ℕ) : Type 0 where
   pub gone : IsFree table scene
   pub waits : RenameWaits table scene renamer
@@ -191,7 +191,7 @@ MayAnswer (Attempting Exchanging) renamer_waits = renamer_waits ≡ true
 MayAnswer (Ending clearing) renamer_waits = renamer_waits ≡ true
 MayAnswer phase renamer_waits = ⊥
 
--- L3, done
+-- the sentry's DROP, done
 pub record DropsSentry (table : List ℕ) (before after : Scene) : Type 0 where
   pub gone : IsFree table after
   pub held : after.held ≡ before.held
@@ -247,7 +247,7 @@ LockerMay (Attempting Unlocking) hold answer = ⊥
 LockerMay (Ending clearing) Nothing answer = answer ≡ answers.Lost
 LockerMay phase hold answer = Unit {0}
 
--- L2, done
+-- LOCK TABLES, done
 pub record TakesLock (table : List ℕ) (session : ℕ) (before after : Scene) : Type 0 where
   pub tables : has_table (old_name table) after.tables ≡ has_table (old_name table) before.tables
   pub locked : IsLocked table after.held session
@@ -264,7 +264,7 @@ DropsServes table session renamer answers.Lost before after = FreesLock table se
 DropsServes table session renamer (answers.TimedOut waited) before after = ⊥
 DropsServes table session renamer answer before after = Rests table renamer before after
 
--- What the server leaves of the locker's turn, by the phase and the answer. A session lost at L3 may be lost before the
+-- What the server leaves of the locker's turn, by the phase and the answer. A session lost at the sentry's DROP may be lost before the
 -- drop or after it, so nothing is said of the tables there.
 abbrev pub LockerServes : List ℕ → ℕ → ℕ → Phase → Hold → Answer → Scene → Scene → Type 0
 LockerServes table session renamer Resting hold (answers.Ok count) before after = HasSentry table after
@@ -280,7 +280,7 @@ LockerServes table session renamer (Ending clearing) WaitsToGuard answer before 
 LockerServes table session renamer (Ending clearing) hold answer before after = OnlyFreesLock table session renamer before after
 LockerServes table session renamer phase hold answer before after = Unit {0}
 
--- the inspector's turn in an attempt that may succeed: at I1's Ok the hint row is what it logged, and no hint row before it is the attempt's
+-- the inspector's turn in an attempt that may succeed: where the hint row is written, it is what the turn logged, and no hint row before it is the attempt's
 pub record WritesHint (t : List ℕ) (attempt : ℕ) (before after : Scene) : Type 0 where
   pub earlier : (count : ℕ) → last_hint t 0 (take count before.log) ≢ attempt
   pub tables : has_table (old_name t) after.tables ≡ has_table (old_name t) before.tables
@@ -330,7 +330,7 @@ RenamerServes table renamer phase answers.Lost before after = IsGone table renam
 RenamerServes table renamer phase (answers.TimedOut waited) before after = IsGone table renamer before after
 RenamerServes table renamer phase answer before after = RefusesRename table renamer phase before after
 
--- E3's listing comes where the locker has nothing and no RENAME waits
+-- the listing of tables at an attempt's end comes where the locker has nothing and no RENAME waits
 abbrev pub InspectorMay : Phase → Hold → Bool → Answer → Type 0
 InspectorMay (Ending Looking) hold waits (answers.Tables tables) = (hold ≡ Nothing) × (waits ≡ false)
 InspectorMay phase hold waits answer = Unit {0}

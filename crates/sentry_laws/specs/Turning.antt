@@ -83,7 +83,7 @@ told state entry Cut = told_if (has_work state entry.session)
 told state entry (Command word) = None
 told state entry asked = Some entry.answer
 
--- the locker's turn: in its session, or where the line names none; L1 comes where the range is copied
+-- the locker's turn: in its session, or where the line names none; it makes the sentry where the range is copied
 pub record LockerSays (plan : PlanData) (before after : State) (locker renamer : ℕ) (work : Work) (answer : Answer) (session : ℕ) : Type 0 where
   pub same : (session ≡ locker) ⊎ IsLockerFree work.cutover.phase
   pub copied : work.cutover.phase ≡ Resting → work.copier.is_copied ≡ true
