@@ -1,8 +1,9 @@
-//! Runs calls about values, words, schemas and images over the lines of the files of the folder `data`.
+//! Runs calls about values, words, schemas, images and scripts over the lines of the files of the folder `data`.
 #![tactic(auto)]
 
 mod images;
 mod schemas;
+mod scripts;
 mod values;
 mod words;
 
@@ -11,7 +12,7 @@ use gho_values::Text;
 use std::alloc::Global;
 use std::io;
 
-/// Calls about values, words, schemas and images.
+/// Calls about values, words, schemas, images and scripts.
 struct TextCalls;
 
 impl Calls for TextCalls {
@@ -21,6 +22,7 @@ impl Calls for TextCalls {
             "value" => values::answer(alloc, call, input),
             "word" => words::answer(alloc, call, input),
             "schema" => schemas::answer(alloc, call, input),
+            "script" => scripts::answer(alloc, input),
             "image" => images::image_of(alloc, input),
             _ => Err(CallFault::Unread),
         }
