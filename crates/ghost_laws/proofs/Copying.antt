@@ -17,6 +17,7 @@ use Rattle.event_codec.specs.declared.event.RowEvent.{RowEvent}
 use Rattle.row_locks.specs.declared.lock.Lock.{Lock}
 use Rattle.row_store.specs.Databases.{TableRows, Database, find_table}
 use Rattle.row_store.specs.RowLists.{is_at}
+use Rattle.row_store.proofs.Orders.{is_Equal}
 use Rattle.plain_server.specs.declared.work.Work.TheVariants as works
 use Rattle.ghost_laws.proofs.Applying.{ext}
 use Rattle.ghost_laws.proofs.Chunks.{copied_by_key, span_same}
@@ -44,7 +45,6 @@ use Rattle.plain_server.specs.Chunks.{keys_of}
 use Rattle.plain_server.specs.Jobs.{Job, after_events}
 use Rattle.plain_server.specs.Saying.{tells}
 use Rattle.statement_laws.proofs.Stables.{others_agree}
-use Rattle.statement_laws.proofs.Standing.{is_Equal}
 use Rattle.statement_laws.specs.Agreeing.{Agree, SameWhere, TablesAgree, Within, is_under}
 use Rattle.statement_laws.specs.Covering.{Apart}
 

@@ -15,7 +15,7 @@ use Rattle.row_locks.specs.Granting.{conflict}
 use Rattle.row_store.specs.ClusteredKeys.{HasClusteredKey}
 use Rattle.row_store.proofs.Orders.{Row}
 use Rattle.plain_server.specs.declared.work.Reach.{Reach}
-use Rattle.server_laws.proofs.Spans.{key_no_null}
+use Rattle.row_store.proofs.TableLaws.{key_no_null}
 use Rattle.ghost_laws.specs.Holding.{Clustered, is_locked, is_place, locks_key}
 use Rattle.plain_server.specs.Needing.{lock_on, points}
 use Rattle.statement_laws.proofs.Orderly.{nulls}

@@ -1,7 +1,7 @@
 -- The chunk's and the batch's ends, and the start, keep the ghost relation.
 use Rattle.std.proofs.Common.{◌≡◌, ℕ, Bool, true, false, not, ◌&&◌, ◌||◌, List, [], ◌∷◌, map, find, filter, cond, Option, Some, None, Ordering, Less, Equal, Greater, refl, sym, ap, ◌∙◌, subst, ◌⊎◌, inl, inr}
 use Rattle.std.specs.Ordering.{is_lt, is_le, ordering_reverse}
-use Rattle.std.proofs.lemmas.Bool.{and_parts}
+use Rattle.std.proofs.lemmas.Bool.{and_parts, or_left}
 use Rattle.gho_values.specs.declared.span.Bound.{Bound}
 use Rattle.gho_values.specs.declared.span.Bound.TheVariants.{Open, Closed}
 use Rattle.gho_values.specs.declared.span.Span.{Span}
@@ -21,7 +21,6 @@ use Rattle.ghost_rows.specs.Changes.{NamesHeld}
 use Rattle.ghost_rows.specs.Moments.{Row, rows_after_all, rows_at}
 use Rattle.ghost_rows.specs.Timelines.{Migration, timeline_of}
 use Rattle.ghost_rows.specs.Views.{GhostRows, is_among, is_done, is_done_in, is_left, views_of}
-use Rattle.statement_laws.proofs.Tests.{or_left}
 
 -- ---- keys left to copy
 

@@ -14,6 +14,7 @@ use Rattle.row_store.specs.RowLists.{is_at, without_key}
 use Rattle.row_store.proofs.Ascending.{all-filter, ascends-filter}
 use Rattle.std.specs.Ordering.{is_eq}
 use Rattle.std.proofs.lemmas.Cmp.{tied_itself}
+use Rattle.std.proofs.lemmas.Bool.{or_right}
 use Rattle.gho_values.specs.Comparing.{compare_keys}
 use Rattle.gho_values.proofs.Orders.{keys_total}
 use Rattle.ghost_relation.specs.Applying.{AppliedAt}
@@ -32,7 +33,6 @@ use Rattle.ghost_rows.specs.Timelines.{IsDue, Migration, timeline_of}
 use Rattle.ghost_rows.specs.UnderWay.{IsUnderWay}
 use Rattle.ghost_rows.specs.Views.{GhostRows, ghost_row, is_among, view_of}
 use Rattle.plain_server.specs.Saying.{displaced}
-use Rattle.statement_laws.proofs.Tests.{or_right}
 
 -- changes and then more
 pub fits_more : (schema : Schema) (changes more : List Change) (rows : List Row) → FitsAll schema rows changes → FitsAll schema (rows_after_all (key_places schema) changes rows) more → FitsAll schema rows (changes ++ more)

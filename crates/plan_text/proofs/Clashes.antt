@@ -11,6 +11,7 @@ use Rattle.gho_schema.specs.declared.schema.Index.{Index}
 use Rattle.gho_schema.specs.Rows.{key_of, has_key, with_row, put}
 use Rattle.gho_schema.specs.Tables.{no_null, clash}
 use Rattle.plan_text.specs.PlanRows.{some_clash}
+use Rattle.row_store.proofs.Orders.{is_Equal}
 
 abbrev pub Row : Type 0
 Row = List Value
@@ -132,14 +133,9 @@ null_clashes index row (other ∷ before) null = rw (null, null_clashes index ro
     nothing true = refl
     nothing false = refl
 
-tied : (o : Ordering) → is_eq o ≡ true → o ≡ Equal
-tied Less is = absurd (cc)
-tied Equal is = refl
-tied Greater is = absurd (cc)
-
 -- keys of which one has a null and the other none differ
 differ : (a b : List Value) (e : Bool) → is_eq (compare_keys a b) ≡ e → no_null a ≡ true → no_null b ≡ false → e ≡ false
-differ a b true is full null = absurd (false≢true (sym null ∙ ap no_null (sym (tied_keys a b (tied (compare_keys a b) is))) ∙ full))
+differ a b true is full null = absurd (false≢true (sym null ∙ ap no_null (sym (tied_keys a b (is_Equal (compare_keys a b) is))) ∙ full))
 differ a b false is full null = refl
 
 seen_null : (index : Index) (kept before : List Row) (row : Row) → no_null (key_of index.places row) ≡ false → Seen index kept before → Seen index kept (before ++ row ∷ [])

@@ -23,7 +23,7 @@ all-with_row P places row (first ∷ rows) r others =
     all_placed P (compare_keys (key_of places row) (key_of places first)) row first rows (with_row places row rows) r others.0 others.1 (all-with_row P places row rows r others.1)
 
 -- what comes before a row comes before those behind it
-before_all : (places : List ℕ) (row first : Row) (rows : List Row) → compare_keys (key_of places row) (key_of places first) ≡ Less
+pub before_all : (places : List ℕ) (row first : Row) (rows : List Row) → compare_keys (key_of places row) (key_of places first) ≡ Less
     → AllByRecursion (λ other. compare_keys (key_of places first) (key_of places other) ≡ Less) rows → AllByRecursion (λ other. compare_keys (key_of places row) (key_of places other) ≡ Less) rows
 before_all places row first [] less others = tt
 before_all places row first (next ∷ rows) less others =

@@ -18,7 +18,7 @@ use Rattle.gho_schema.specs.Tables.{IsRow, no_null, clash, Apart, IsTable}
 use Rattle.row_store.specs.RowLists.{is_at, without_key}
 use Rattle.row_store.specs.ClusteredKeys.{HasClusteredKey}
 use Rattle.row_store.specs.Databases.{TableRows, clashing, IsNewIn}
-use Rattle.row_store.proofs.Orders.{Row}
+use Rattle.row_store.proofs.Orders.{Row, is_Equal}
 use Rattle.row_store.proofs.Ascending.{all-with_row, all-filter, ascends-with_row, ascends-filter}
 use Rattle.row_store.proofs.FoundRows.{none_found}
 
@@ -32,12 +32,7 @@ eq_then : (b : Bool) (x y : Bool) → (b ≡ true → x ≡ y) → (b && x) ≡ 
 eq_then true x y same = same refl
 eq_then false x y same = refl
 
-is_Equal : (o : Ordering) → is_eq o ≡ true → o ≡ Equal
-is_Equal Less is = absurd cc
-is_Equal Equal is = refl
-is_Equal Greater is = absurd cc
-
-clash_both : (uniques : List Index) (row other : Row) → clash uniques row other ≡ clash uniques other row
+pub clash_both : (uniques : List Index) (row other : Row) → clash uniques row other ≡ clash uniques other row
 clash_both [] row other = refl
 clash_both (index ∷ uniques) row other =
     let one = key_of index.places row in
@@ -66,7 +61,7 @@ kept_apart : (uniques : List Index) (b : Bool) (row : Row) (rows : List Row) →
 kept_apart uniques true row rows none apart = (none, apart)
 kept_apart uniques false row rows none apart = apart
 
-apart-filter : (uniques : List Index) (test : Row → Bool) (rows : List Row) → Apart uniques rows → Apart uniques (filter test rows)
+pub apart-filter : (uniques : List Index) (test : Row → Bool) (rows : List Row) → Apart uniques rows → Apart uniques (filter test rows)
 apart-filter uniques test [] apart = tt
 apart-filter uniques test (row ∷ rows) apart =
     kept_apart uniques (test row) row (filter test rows) (all-filter (λ other. clash uniques row other ≡ false) test rows apart.0) (apart-filter uniques test rows apart.1)
@@ -101,7 +96,7 @@ more_no_null (Num n) vs here others = others
 more_no_null (Text text) vs here others = others
 more_no_null (Blob blob) vs here others = others
 
-key_no_null : StoresNullWhereNullable → (columns : List Column) (row : Row) (places : List ℕ) → IsRow columns row → AllByRecursion (λ place. is_not_null (slice_get columns place) ≡ true) places → no_null (key_of places row) ≡ true
+pub key_no_null : StoresNullWhereNullable → (columns : List Column) (row : Row) (places : List ℕ) → IsRow columns row → AllByRecursion (λ place. is_not_null (slice_get columns place) ≡ true) places → no_null (key_of places row) ≡ true
 unfolding key_of
 key_no_null where_nullable columns row [] fits not_null = refl
 key_no_null where_nullable columns row (place ∷ places) fits not_null =

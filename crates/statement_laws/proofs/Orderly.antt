@@ -23,7 +23,7 @@ use Rattle.gho_values.specs.Laws.{StoresNullWhereNullable}
 use Rattle.gho_schema.specs.declared.schema.Column.{Column}
 use Rattle.row_store.specs.ClusteredKeys.{HasClusteredKey}
 use Rattle.row_store.specs.Databases.{clashing}
-use Rattle.row_store.proofs.TableLaws.{put_keeps}
+use Rattle.row_store.proofs.TableLaws.{put_keeps, apart-filter}
 use Rattle.gho_values.proofs.StoredValues.{keeps}
 use Rattle.gho_values.specs.declared.value.Value.TheVariants.{Null}
 use Rattle.statement_laws.proofs.Standing.{one_row, same_itself, stands-filter, some_row, found_by}
@@ -31,15 +31,6 @@ use Rattle.statement_laws.proofs.Tests.{and_left, and_right, nor_left, nor_right
 
 pub nulls : StoresNullWhereNullable
 nulls value kind nullable is = (keeps value kind nullable Null is).null refl
-
-kept_apart : (uniques : List Index) (b : Bool) (row : Row) (rows : List Row) → AllByRecursion (λ other. clash uniques row other ≡ false) rows → Apart uniques rows → Apart uniques (cond b (row ∷ rows) rows)
-kept_apart uniques true row rows none apart = (none, apart)
-kept_apart uniques false row rows none apart = apart
-
-apart-filter : (uniques : List Index) (test : Row → Bool) (rows : List Row) → Apart uniques rows → Apart uniques (filter test rows)
-apart-filter uniques test [] apart = tt
-apart-filter uniques test (row ∷ rows) apart =
-    kept_apart uniques (test row) row (filter test rows) (all-filter (λ other. clash uniques row other ≡ false) test rows apart.0) (apart-filter uniques test rows apart.1)
 
 -- some rows of a table are a table
 pub some_rows : (schema : Schema) (test : Row → Bool) (rows : List Row) → IsTable schema rows → IsTable schema (filter test rows)

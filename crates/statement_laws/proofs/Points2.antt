@@ -12,10 +12,11 @@ use Rattle.gho_schema.specs.declared.schema.Index.{Index}
 use Rattle.gho_schema.specs.Rows.{key_of}
 use Rattle.gho_schema.specs.Tables.{Ascends, no_null}
 use Rattle.row_store.specs.RowLists.{is_at}
-use Rattle.row_store.proofs.Orders.{Row}
+use Rattle.row_store.proofs.Orders.{Row, is_Equal}
 use Rattle.row_store.proofs.FoundRows.{others_not_at}
+use Rattle.row_store.proofs.RowsBetween.{none_pass}
 use Rattle.plain_server.specs.Rows.{lies_under}
-use Rattle.statement_laws.proofs.Standing.{is_Equal, both_ways}
+use Rattle.statement_laws.proofs.Standing.{both_ways}
 use Rattle.statement_laws.proofs.Tests.{and_right}
 
 -- a point is met where the key is just that
@@ -27,10 +28,6 @@ under_point index key row full =
     (λ at.
     let same : key ≡ key_of index.places row = tied_keys key (key_of index.places row) (is_Equal (compare_keys key (key_of index.places row)) at) in
     subst (λ (k : Row). (no_null k && has (point key) k) ≡ true) same (rw (full, point_has_key key) refl))
-
-none_pass : (test : Row → Bool) (rows : List Row) → AllByRecursion (λ row. test row ≡ false) rows → filter test rows ≡ []
-none_pass test [] none = refl
-none_pass test (row ∷ rows) none = rw none.0 (none_pass test rows none.1)
 
 not_greater : (o : Ordering) → is_eq o ≡ true → is_gt o ≡ false
 not_greater Less is = refl

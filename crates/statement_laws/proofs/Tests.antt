@@ -39,14 +39,6 @@ pub or_true : (b : Bool) → (b || true) ≡ true
 or_true true = refl
 or_true false = refl
 
-pub or_left : (a b : Bool) → a ≡ true → (a || b) ≡ true
-or_left true b is = refl
-or_left false b is = absurd (false≢true is)
-
-pub or_right : (a b : Bool) → b ≡ true → (a || b) ≡ true
-or_right true b is = refl
-or_right false b is = is
-
 pub nor_left : (a b : Bool) → (a || b) ≡ false → a ≡ false
 nor_left true b is = absurd (true≢false is)
 nor_left false b is = refl
