@@ -44,7 +44,7 @@ clash_both (index ∷ uniques) row other =
     rw (first, clash_both uniques row other) refl
 
 -- rows that don't clash with the row that is put
-apart_here : (uniques : List Index) (o : Ordering) (row first : Row) (rows placed : List Row) → AllByRecursion (λ other. clash uniques row other ≡ false) (first ∷ rows) → Apart uniques (first ∷ rows)
+pub apart_here : (uniques : List Index) (o : Ordering) (row first : Row) (rows placed : List Row) → AllByRecursion (λ other. clash uniques row other ≡ false) (first ∷ rows) → Apart uniques (first ∷ rows)
     → AllByRecursion (λ other. clash uniques first other ≡ false) placed → Apart uniques placed → Apart uniques (match_ordering o (row ∷ first ∷ rows) (row ∷ first ∷ rows) (first ∷ placed))
 apart_here uniques Less row first rows placed none apart all rest = (none, apart)
 apart_here uniques Equal row first rows placed none apart all rest = (none, apart)
@@ -65,6 +65,14 @@ pub apart-filter : (uniques : List Index) (test : Row → Bool) (rows : List Row
 apart-filter uniques test [] apart = tt
 apart-filter uniques test (row ∷ rows) apart =
     kept_apart uniques (test row) row (filter test rows) (all-filter (λ other. clash uniques row other ≡ false) test rows apart.0) (apart-filter uniques test rows apart.1)
+
+-- some rows of a table are a table
+pub some_rows : (schema : Schema) (test : Row → Bool) (rows : List Row) → IsTable schema rows → IsTable schema (filter test rows)
+some_rows schema test rows are = record {
+  rows_fit = all-filter (IsRow schema.columns) test rows are.rows_fit;
+  ascends = ascends-filter (key_places schema) test rows are.ascends;
+  apart = apart-filter schema.uniques test rows are.apart;
+}
 
 -- a search that finds none
 none_parts : (b : Bool) (row : Row) (rest : Option Row) → cond (b && true) (Some row) rest ≡ None → (b ≡ false) × (rest ≡ None)

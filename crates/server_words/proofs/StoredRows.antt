@@ -1,6 +1,6 @@
 -- Making a row value by value, as a loop does.
 use Rattle.std.proofs.Common.{◌≡◌, ℕ, ◌+◌, ◌<◌, ◌≤◌, List, [], ◌∷◌, ◌++◌, length, drop, get_or, Result, Ok, Err, refl, sym, ap, ◌∙◌, append_assoc}
-use Rattle.std.proofs.lemmas.List.{append-nil, drop_all, drop_more}
+use Rattle.std.proofs.lemmas.List.{append-nil, drop_all}
 use Rattle.gho_values.specs.declared.value.Value.{Value}
 use Rattle.gho_values.specs.Storing.{stores}
 use Rattle.gho_schema.specs.declared.schema.Column.{Column}
@@ -8,6 +8,7 @@ use Rattle.alter_image.specs.declared.image_fault.UnfitAt.{UnfitAt}
 use Rattle.alter_image.specs.declared.image_fault.ImageFault.{ImageFault}
 use Rattle.alter_image.specs.declared.image_fault.ImageFault.TheVariants as faults
 use Rattle.alter_image.specs.Images.{before, Fits, Images}
+use Rattle.alter_image.proofs.Rest.{from_here}
 use Rattle.server_words.specs.Statements.{stored_from}
 
 -- the values so far, and those that are still made
@@ -18,10 +19,6 @@ with_front front (Err unfit) = Err unfit
 regroup : (front : List Value) (v : Value) (others : Result (List Value) UnfitAt) → with_front front (before v others) ≡ with_front (front ++ (v ∷ [])) others
 regroup front v (Ok values) = ap (λ (vs : List Value). Ok vs) (simp append_assoc)
 regroup front v (Err unfit) = refl
-
--- the item at this place is the first of those from there on
-from_here : {X : Type 0} (items : List X) (i : ℕ) (item : X) → i < length items → item ≡ get_or items i item → drop i items ≡ item ∷ drop (i + 1) items
-from_here {X} items i item lt is = drop_more items i item lt ∙ ap (λ (x : X). x ∷ drop (i + 1) items) (sym is)
 
 pub goes_on : (front : List Value) (columns : List Column) (values : List Value) (i place : ℕ) (column : Column) (value v : Value) (total : Result (List Value) UnfitAt)
     → i < length columns → column ≡ get_or columns i column → i < length values → value ≡ get_or values i value → stores value column.kind column.nullable ≡ Ok v
