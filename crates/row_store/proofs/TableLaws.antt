@@ -15,11 +15,12 @@ use Rattle.gho_schema.specs.declared.schema.Index.{Index}
 use Rattle.gho_schema.specs.Clustering.{is_not_null, clustered_place, unique_at}
 use Rattle.gho_schema.specs.Rows.{key_of, key_places, places_of, with_row}
 use Rattle.gho_schema.specs.Tables.{IsRow, no_null, clash, Apart, IsTable}
+use Rattle.gho_schema.proofs.Orders.{all-with_row}
 use Rattle.row_store.specs.RowLists.{is_at, without_key}
 use Rattle.row_store.specs.ClusteredKeys.{HasClusteredKey}
 use Rattle.row_store.specs.Databases.{TableRows, clashing, IsNewIn}
 use Rattle.row_store.proofs.Orders.{Row, is_Equal}
-use Rattle.row_store.proofs.Ascending.{all-with_row, all-filter, ascends-with_row, ascends-filter}
+use Rattle.row_store.proofs.Ascending.{all-filter, ascends-with_row, ascends-filter}
 use Rattle.row_store.proofs.FoundRows.{none_found}
 
 -- clashes go both ways

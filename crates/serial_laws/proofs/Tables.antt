@@ -16,6 +16,7 @@ use Rattle.gho_schema.specs.declared.schema.Index.{Index}
 use Rattle.gho_schema.specs.Rows.{key_of, key_places, has_key, with_row, put}
 use Rattle.gho_schema.specs.Tables.{IsRow, IsTable, Ascends, Apart, clash}
 use Rattle.gho_schema.specs.Laws.{PutKeepsOrder}
+use Rattle.gho_schema.proofs.Orders.{all-with_row}
 use Rattle.alter_image.specs.declared.image_fault.UnfitAt.{UnfitAt}
 use Rattle.alter_image.specs.Images.{value_first}
 use Rattle.event_codec.specs.declared.event.RowEvent.{RowEvent}
@@ -23,7 +24,6 @@ use Rattle.event_codec.specs.declared.event.Change.TheVariants.{Write, Delete}
 use Rattle.row_store.specs.RowLists.{is_at, without_key}
 use Rattle.row_store.specs.Databases.{TableRows, Database, find_table, clashing, row_at_key}
 use Rattle.row_store.proofs.TableLaws.{apart_here, some_rows}
-use Rattle.row_store.proofs.Ascending.{all-with_row}
 use Rattle.script_text.specs.declared.statement.Statement.{Statement}
 use Rattle.script_text.specs.declared.statement.Statement.TheVariants as statements
 use Rattle.script_text.specs.declared.statement.Condition.{Condition}
