@@ -7,7 +7,7 @@ use Rattle.row_locks.specs.declared.lock.Lock.{Lock}
 use Rattle.row_locks.specs.declared.lock.HeldLock.{HeldLock}
 use Rattle.row_locks.specs.Holding.{held_by}
 use Rattle.row_locks.specs.Granting.{conflict, refusal, refuser_of_lock, refuser_of_set}
-use Rattle.least_session.proofs.Least.{none_of, not_refused}
+use Rattle.least_session.proofs.Sessions.{none_of, not_refused}
 use Rattle.row_locks.proofs.HeldLocks.{conflict_both_ways}
 use Rattle.plain_server.specs.declared.session.Session.{Session}
 use Rattle.statement_laws.specs.Agreeing.{Among}

@@ -12,7 +12,7 @@ use Rattle.metadata_locks.specs.Granting.{holds, holding_session, least_holder, 
 use Rattle.plain_server.specs.declared.session.Session.{Session}
 use Rattle.plain_server.specs.declared.session.HeldName.{HeldName}
 use Rattle.least_session.specs.Least.{least}
-use Rattle.least_session.proofs.Least.{none_of}
+use Rattle.least_session.proofs.Sessions.{none_of}
 use Rattle.history_laws.specs.Holdings.{face_of, face_in, names_of, IsHeld, OneHolder}
 use Rattle.std.specs.Prelude.{is_some}
 use Rattle.plain_server.specs.States.{connected, State, name_held, names_held, new_session, session_of, shared_names, with_session}

@@ -11,7 +11,7 @@ use Rattle.metadata_locks.specs.declared.request.Waiter.{Waiter}
 use Rattle.metadata_locks.specs.Granting.{HeldName, Place, place_of, ahead_of, holds, is_on, holding_session, least_holder, least_waiter, refuser_of_name, refuser_of_names}
 use Rattle.least_session.specs.Least.{least}
 use Rattle.least_session.proofs.Kept.{both, kept}
-use Rattle.least_session.proofs.Least.{none_of, not_refused, others}
+use Rattle.least_session.proofs.Sessions.{none_of, not_refused, others}
 use Rattle.metadata_locks.specs.Holding.{NameTable, LastAsk, held_by, added, asked_by, refuser_of, polled_by, polled_at, freed_if, is_known, undone_last, ended_at, held_before}
 use Rattle.metadata_locks.specs.Laws.{Call, called, no_names, Bear, HeldNamesBear}
 use Rattle.metadata_locks.specs.Laws.Call.{Ask, Poll, Free, Undo, End}

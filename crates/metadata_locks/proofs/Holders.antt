@@ -6,7 +6,7 @@ use Rattle.std.proofs.lemmas.List.Folds.{list_any-append}
 use Rattle.metadata_locks.specs.declared.request.Request.{Request}
 use Rattle.metadata_locks.specs.Granting.{HeldName, has_name, is_on, holds, holding_session, least_holder, holder_of}
 use Rattle.least_session.specs.Least.{least}
-use Rattle.least_session.proofs.Least.{least-least, least-none}
+use Rattle.least_session.proofs.Sessions.{least-least, least-none}
 use Rattle.metadata_locks.specs.Holding.{held_by}
 use Rattle.metadata_locks.specs.Requests.{locks_of}
 

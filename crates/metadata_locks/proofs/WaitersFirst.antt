@@ -4,7 +4,7 @@ use Rattle.std.proofs.lemmas.Bool.Decides.{nat_tests}
 use Rattle.metadata_locks.specs.declared.request.Waiter.{Waiter}
 use Rattle.metadata_locks.specs.Granting.{has_name, holds, waiting_session, least_holder, least_waiter, refuser_of_name}
 use Rattle.least_session.specs.Least.{least}
-use Rattle.least_session.proofs.Least.{none_of, others}
+use Rattle.least_session.proofs.Sessions.{none_of, others}
 use Rattle.metadata_locks.specs.Laws.{WaitersGoFirst}
 
 refuses : (own named : Bool) (session : ℕ) → own ≡ false → named ≡ true → cond (not own && named) (Some session) None ≡ None → ⊥

@@ -15,7 +15,7 @@ use Rattle.row_locks.specs.declared.lock.Asked2.TheVariants as answers
 use Rattle.row_locks.specs.Granting.{same_place, conflict, refusal, refuser_of_lock, refuser_of_set, answer_by}
 use Rattle.least_session.specs.Least.{least}
 use Rattle.least_session.proofs.Kept.{both, kept}
-use Rattle.least_session.proofs.Least.{none_of, not_refused, others}
+use Rattle.least_session.proofs.Sessions.{none_of, not_refused, others}
 use Rattle.row_locks.specs.Holding.{LockTable, LastAsk, held_by, granted_unless, freed_if, before_ask}
 use Rattle.row_locks.specs.Laws.{Call, called, no_locks, Bear, HeldLocksBear, ConflictBothWays, GrantsWhole}
 use Rattle.row_locks.specs.Laws.Call.{Ask, Free, Undo}

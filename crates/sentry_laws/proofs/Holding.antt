@@ -7,7 +7,7 @@ use Rattle.std.specs.Cmp.Lexicographic.{pointwise}
 use Rattle.std.specs.List.{list_any}
 use Rattle.metadata_locks.specs.Granting.{HeldName, has_name, is_on, holds, holding_session, waiting_session, least_holder, least_waiter, refuser_of_name, refuser_of_names, ahead_of}
 use Rattle.least_session.specs.Least.{least}
-use Rattle.least_session.proofs.Least.{none_of}
+use Rattle.least_session.proofs.Sessions.{none_of}
 use Rattle.metadata_locks.specs.declared.request.Waiter.{Waiter}
 
 pub both_none : (a b : Option ℕ) → a ≡ None → b ≡ None → least a b ≡ None
