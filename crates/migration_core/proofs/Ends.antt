@@ -14,7 +14,7 @@ use Rattle.tool_program.specs.declared.tool.Tool.{Tool}
 use Rattle.tool_program.specs.declared.tool.Tool.TheVariants.{Creating, Reaching, Choosing, Spanning, Copying, Renaming, Done, Reverting, Reverted}
 use Rattle.tool_program.specs.Programs.{progress, tool_actor, tool_call, tool_asks, is_none, over_from, clients_over, given, is_over, has_ended}
 use Rattle.tool_program.specs.Orders.{actors, clients_from, behind_last, last_actor, is_some, is_ready, next_actor}
-use Rattle.tool_program.proofs.Found.{all-back, none_found, some_at, some_found}
+use Rattle.tool_program.proofs.Found.{all-back, none_at, none_found, some_at, some_found}
 use Rattle.tool_program.proofs.Journals.{given_to_tool}
 
 -- the next actor is ready

@@ -6,7 +6,7 @@ pub all-back : {X : Type 0} (P : X → Type 0) (a b : List X) → AllByRecursion
 all-back P [] b all = all
 all-back P (x ∷ a) b all = all-back P a b all.1
 
-none_at : {X : Type 0} (b : Bool) (y : X) (more : Option X) → cond b (Some y) more ≡ None → (b ≡ false) × (more ≡ None)
+pub none_at : {X : Type 0} (b : Bool) (y : X) (more : Option X) → cond b (Some y) more ≡ None → (b ≡ false) × (more ≡ None)
 none_at true y more none = absurd (cc)
 none_at false y more none = (refl, none)
 
