@@ -1,0 +1,7 @@
+pub mod Standings
+pub mod Machines
+pub mod Scripts
+pub mod Tabling
+pub mod Forming
+pub mod Keying
+pub mod Laws
