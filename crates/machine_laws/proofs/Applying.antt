@@ -78,7 +78,7 @@ module _ (journal : List Entry) (entry : Entry) (applier : Applier) where
   abbrev more : List Entry
   more = journal ++ entry ∷ []
 
-  -- behind A1
+  -- behind the log that was read
   reads : (turn : ℕ) (events : List RowEvent) (behind : ℕ) (standing : Standing) → turn ≡ length journal + 1 → entry.answer ≡ answers.Events events behind → standing.busy ≡ false → standing.locked ≡ [] → standing.waits ≡ None
       → ApplierStands more (read_batch (record applier { step = Reading }) (batch_of turn (record applier { step = Reading }) events behind)) standing
   reads turn events behind standing turns is busy locked waits = at (length (planned (record applier { step = Reading }) events) == 0) refl where

@@ -48,9 +48,9 @@ use Rattle.migration_program.specs.Tools as tools
 use Rattle.machine_laws.specs.Standings.{standing_of, IsAbout, is_called, is_polled}
 use Rattle.machine_laws.specs.Machines.{Stands, copier_asks, copier_busy}
 use Rattle.machine_laws.specs.Forming.{IsFitting, SizeFits}
-use Rattle.machine_laws.specs.Tabling.{SetupTables, WorkTables, CourseTables}
+use Rattle.machine_laws.specs.Tabling.{SetupTables, WorkTables, CourseTables, TableStands}
 use Rattle.machine_laws.specs.Keying.{kinds_of, IsKey, IsKeyed, AnswersKeys, IsEndTold, IsChunkTold, BehindKeyed, StepKeyed, RangeKeyed, CopierKeyed, CourseKeyed, StaysOrderly}
-use Rattle.machine_laws.specs.Laws.{TableStands, has_keys}
+use Rattle.machine_laws.specs.Laws.{has_keys}
 use Rattle.machine_laws.proofs.Calling.{reverting_or}
 use Rattle.machine_laws.proofs.Seated.{IsServed}
 use Rattle.machine_laws.proofs.Applying.{answer_more, answer_here}

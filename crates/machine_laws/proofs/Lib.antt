@@ -18,6 +18,8 @@ mod Numbering
 mod Polling
 mod Schemas
 mod Tabling
+mod Spare
+mod Staying
 mod Keys
 mod Answering
 mod Keyed

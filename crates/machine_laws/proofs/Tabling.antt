@@ -51,8 +51,8 @@ use Rattle.plain_server.specs.States.{State, has_work, session_of, is_in_transac
 use Rattle.machine_laws.specs.Standings.{Standing, free, standing_in, standing_of, answered, answers_to, IsAbout, is_called, is_polled}
 use Rattle.machine_laws.specs.Machines.{ApplierStands, copier_asks, applier_asks, held, PhaseHolds, renaming, WorkStands, SetupStands, CourseStands}
 use Rattle.machine_laws.specs.Forming.{IsFitting}
-use Rattle.machine_laws.specs.Tabling.{schema_of, ghost_schema, TablesStand, past_ghost, SetupTables, Uncopied, WorkTables, CourseTables}
-use Rattle.machine_laws.specs.Laws.{TableStands, TablesStandUncopied}
+use Rattle.machine_laws.specs.Tabling.{schema_of, ghost_schema, TablesStand, past_ghost, SetupTables, Uncopied, WorkTables, CourseTables, TableStands}
+use Rattle.machine_laws.specs.Laws.{TablesStandUncopied}
 use Rattle.machine_laws.proofs.Calling.{none_asked, reverting_or}
 use Rattle.machine_laws.proofs.Seated.{IsServed, others_stand, own_stands, own_fits, own_lost, own_session, own_waiting, own_given}
 use Rattle.machine_laws.proofs.Asking.{some_request, WaitsWith, unless_called, copier_next, applier_next}
@@ -246,7 +246,7 @@ tool_quiet plan journal actor request is gives none = by (asking plan journal ac
     no : Call request ≡ Poll → ⊥
     no both = cc
 
-given_quiet : (plan : PlanData) (journal : List Entry) (actor : Actor) (request : Request) → AllTogether plan journal → given plan journal actor ≡ Some (Call request) → QuietAt actor request
+pub given_quiet : (plan : PlanData) (journal : List Entry) (actor : Actor) (request : Request) → AllTogether plan journal → given plan journal actor ≡ Some (Call request) → QuietAt actor request
 unfolding given
 given_quiet plan journal (Client c) request is gives none = by (client_next plan journal c (Call request) gives) where
   by : Next (client_at plan journal c) (Call request) → is_quiet request ≡ true

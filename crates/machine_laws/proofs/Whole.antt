@@ -10,11 +10,12 @@ use Rattle.gho_values.specs.Storing.{AreOfKinds}
 use Rattle.gho_schema.specs.declared.schema.Schema.{Schema}
 use Rattle.row_store.specs.Databases.{TableRows, Database, find_table}
 use Rattle.script_text.specs.declared.actor.Actor.{Actor}
+use Rattle.script_text.specs.declared.actor.Side.{Side}
 use Rattle.script_text.specs.declared.actor.Actor.TheVariants.{Op, Insp, Copy, Apply, Lock, Ren, Client}
 use Rattle.script_text.specs.declared.script.ScriptWord.{ScriptWord}
 use Rattle.script_text.specs.declared.script.ScriptWord.TheVariants as words
 use Rattle.plain_server.specs.Along.{Along-keeps}
-use Rattle.plain_server.specs.Conditions.{key_kinds, IsMapOf, IfStands, IsWellFormed}
+use Rattle.plain_server.specs.Conditions.{key_kinds, IsMapOf, IfStands, IsWellFormed, MayCall, MayPoll, MayLose}
 use Rattle.plain_server.specs.declared.entry.Asked.TheVariants.{Call, Poll}
 use Rattle.plain_server.specs.declared.entry.Entry.{Entry}
 use Rattle.plain_server.specs.declared.request.Request.{Request}
@@ -46,7 +47,8 @@ use Rattle.machine_laws.specs.Machines.{inspector_asks, applier_asks, ApplierSta
 use Rattle.machine_laws.specs.Forming.{IsFitting}
 use Rattle.machine_laws.specs.Tabling.{schema_of, ghost_schema, TablesStand, CourseTables}
 use Rattle.machine_laws.specs.Keying.{kinds_of, IsClosedKey, IsKeyed, IsMapped, CourseKeyed}
-use Rattle.machine_laws.specs.Laws.{has_keys, IsCalledWell, GivenCallsMayBeCalled, GivenPollsMayBeCalled}
+use Rattle.machine_laws.specs.Runnable.{IsRunnable}
+use Rattle.machine_laws.specs.Laws.{has_keys, IsCalledWell, GivenCallsMayBeCalled, GivenPollsMayBeCalled, LossesMayBe}
 use Rattle.machine_laws.proofs.Asking.{some_request, WaitsWith, unless_called, applier_next, setup_next, inspector_next, renamer_next}
 use Rattle.machine_laws.proofs.Journals.{IsRun, all_runs, Asking, calls_so, polls_so, asking, apply_called}
 use Rattle.machine_laws.proofs.Clients.{Next, calls_line, polls_line, client_next}
@@ -55,6 +57,7 @@ use Rattle.machine_laws.proofs.Forming.{next_call}
 use Rattle.machine_laws.proofs.Making.{given_formed}
 use Rattle.machine_laws.proofs.Polling.{AllTogether, AllWaits, waits_more, waits_begin, together_more_all, together_begins_all, given_waits, no_word, WaitsFormed, all_formed, may_poll}
 use Rattle.machine_laws.proofs.Tabling.{back_quiet}
+use Rattle.machine_laws.proofs.Staying.{tables_stay}
 use Rattle.machine_laws.proofs.Keyed.{IsKeyedAll, all_keyed, copy_called, copy_uncopied}
 
 -- WHAT IS KEYED IS WELL FORMED
@@ -104,17 +107,20 @@ module _ (plan : PlanData) (journal : List Entry) (is : IsKeyedAll plan journal)
   unfolding given
   keyed_given actor request gives same has = copy_given request has (subst (λ (a : Actor). given plan journal a ≡ Some (Call request)) same gives)
 
+keyed_all : (plan : PlanData) (journal : List Entry) → IsRunnable plan → IsFaithful plan journal → Follows plan journal → IsKeyedAll plan journal
+keyed_all plan journal runs faithful follows = all_keyed plan journal runs.fitting runs.stands (tables_stay plan journal runs.fitting runs.tables faithful follows) faithful follows
+
 -- *Given calls may be called*
 pub given_called : GivenCallsMayBeCalled
-given_called plan journal actor request n fit stands mapped orderly faithful follows gives may =
-    let well : IsCalledWell (opened_for plan journal actor n) n request = given_calls plan journal actor request n fit.scripts faithful follows gives may in
+given_called plan journal actor request n runs faithful follows gives may =
+    let well : IsCalledWell (opened_for plan journal actor n) n request = given_calls plan journal actor request n runs.fitting.scripts faithful follows gives may in
     let tables : (opened_for plan journal actor n).tables ≡ (state_at plan journal).tables = ap (λ (s : Stored). s.tables) (stored_opened false (not (is_client actor)) n (state_at plan journal)) in
-    let is : IsKeyedAll plan journal = all_keyed plan journal fit stands orderly faithful follows in
+    let is : IsKeyedAll plan journal = keyed_all plan journal runs faithful follows in
     record {
       live = well.live;
       idle = well.idle;
       comes = well.comes;
-      formed = given_formed plan journal (opened_for plan journal actor n).tables fit actor request (λ same has. subst (λ (d : Database). IsWellFormed d request) (sym tables) (keyed_given plan journal is mapped actor request gives same has)) gives;
+      formed = given_formed plan journal (opened_for plan journal actor n).tables runs.fitting actor request (λ same has. subst (λ (d : Database). IsWellFormed d request) (sym tables) (keyed_given plan journal is runs.mapped actor request gives same has)) gives;
     }
 
 -- WHO ASKS WITH KEYS
@@ -241,13 +247,31 @@ copy_waits plan journal request (Migrating work) is mapped course some has =
 
 -- *Given polls may be called*
 pub given_polled : GivenPollsMayBeCalled
-given_polled plan journal actor fit stands mapped orderly faithful follows gives =
-    let formed : WaitsFormed plan journal = all_formed plan journal fit faithful follows in
-    let is : IsKeyedAll plan journal = all_keyed plan journal fit stands orderly faithful follows in
+given_polled plan journal actor runs faithful follows gives =
+    let formed : WaitsFormed plan journal = all_formed plan journal runs.fitting faithful follows in
+    let is : IsKeyedAll plan journal = keyed_all plan journal runs faithful follows in
     let with : WaitsWith (standing_of plan journal actor).waits = given_waits plan journal actor formed.all gives in
     may_poll plan journal actor with.request formed.all (live_session journal actor) refl with.is (by formed is with.request with.is (has_keys with.request) refl) where
       by : WaitsFormed plan journal → IsKeyedAll plan journal → (request : Request) → (standing_of plan journal actor).waits ≡ Some request → (b : Bool) → has_keys request ≡ b → IsWellFormed (state_at plan journal).tables request
       by formed is request some false none = formed.waits actor request some none (state_at plan journal).tables
       by formed is request some true has =
-          let one : actor ≡ Copy = (all_keys plan journal fit faithful follows).waits actor request some has in
-          copy_waits plan journal request (moment plan journal).tool.course is mapped refl (ap (λ (a : Actor). (standing_of plan journal a).waits) (sym one) ∙ some) has
+          let one : actor ≡ Copy = (all_keys plan journal runs.fitting faithful follows).waits actor request some has in
+          copy_waits plan journal request (moment plan journal).tool.course is runs.mapped refl (ap (λ (a : Actor). (standing_of plan journal a).waits) (sym one) ∙ some) has
+
+-- LOSSES
+
+polled_lost : (plan : PlanData) (journal : List Entry) (n : ℕ) (side : Side) → (live : Option ℕ) → live ≡ Some n → (m : ℕ) × (live ≡ Some m) × MayPoll (state_at plan journal) m → MayLose (state_at plan journal) n (Some side) Poll
+polled_lost plan journal n side live is found =
+    let same : found.0 ≡ n = some_number found.0 n (sym found.1 ∙ is) in
+    let may : MayPoll (state_at plan journal) n = subst (MayPoll (state_at plan journal)) same found.2 in
+    record { live = may.live; well = may } where
+      some_number : (a b : ℕ) → Some a ≡ Some b → a ≡ b
+      some_number a b both = cc
+
+-- *Losses may be*
+pub losses : LossesMayBe
+losses plan journal actor runs faithful follows = record {
+  between = λ n lives. record { live = (all_formed plan journal runs.fitting faithful follows).all.tool.known.live actor n lives; well = refl };
+  called = λ request n side gives may. let call : MayCall (opened_for plan journal actor n) n request = given_called plan journal actor request n runs faithful follows gives may in record { live = call.live; well = call };
+  polled = λ n side gives lives. polled_lost plan journal n side (live_session journal actor) lives (given_polled plan journal actor runs faithful follows gives);
+}

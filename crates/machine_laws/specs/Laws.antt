@@ -1,14 +1,17 @@
 -- What holds of the tool's machines and their sessions behind every journal.
 use Rattle.std.specs.Prelude.{◌≡◌, ℕ, Bool, true, false, List, [], ◌∷◌, ◌++◌, Some, None}
+use Rattle.std.specs.List.{AllByRecursion}
 use Rattle.script_text.specs.declared.actor.Actor.{Actor}
-use Rattle.plain_server.specs.declared.entry.Asked.TheVariants.{Call, Poll}
+use Rattle.script_text.specs.declared.actor.Side.{Side}
+use Rattle.plain_server.specs.declared.entry.Asked.TheVariants.{Call, Poll, Cut}
 use Rattle.plain_server.specs.declared.entry.Entry.{Entry}
 use Rattle.plain_server.specs.declared.request.Request.{Request}
 use Rattle.plain_server.specs.declared.request.Request.TheVariants as requests
-use Rattle.plain_server.specs.Conditions.{ComesWell, MayCall, MayPoll}
+use Rattle.plain_server.specs.Conditions.{ComesWell, MayCall, MayPoll, MayLose}
 use Rattle.plain_server.specs.Entries.{same_actor}
 use Rattle.plain_server.specs.States.{State, session_of, is_live, is_in_transaction, holds_tables, is_waiting}
-use Rattle.plan_words.specs.PlanData.{PlanData, old_schema}
+use Rattle.statement_laws.specs.Covering.{IsOrderlyTable}
+use Rattle.plan_words.specs.PlanData.{PlanData}
 use Rattle.journal_words.specs.Journals.{state_at, IsAnswered, IsFaithful}
 use Rattle.journal_words.specs.Sessions.{live_session, sessions_named, IsSeated, KeepsSessions}
 use Rattle.migration_program.specs.Programs.{given, Follows}
@@ -17,8 +20,9 @@ use Rattle.machine_laws.specs.Standings.{standing_of, answered, IsAbout, serves_
 use Rattle.machine_laws.specs.Machines.{CourseStands}
 use Rattle.machine_laws.specs.Scripts.{ScriptsFit}
 use Rattle.machine_laws.specs.Forming.{IsFitting}
-use Rattle.machine_laws.specs.Tabling.{schema_of, CourseTables}
-use Rattle.machine_laws.specs.Keying.{IsMapped, StaysOrderly}
+use Rattle.machine_laws.specs.Tabling.{TableStands, CourseTables}
+use Rattle.machine_laws.specs.Keying.{StaysOrderly}
+use Rattle.machine_laws.specs.Runnable.{IsRunnable}
 
 -- a turn of an actor's leaves the other actors' sessions what they have, and its own what the answer tells
 pub record StandsOn (plan : PlanData) (journal : List Entry) (entry : Entry) : Type 0 where
@@ -79,25 +83,34 @@ GivenPollsMayBeMade =
     (plan : PlanData) (journal : List Entry) (actor : Actor) → IsFitting plan → IsFaithful plan journal → Follows plan journal → given plan journal actor ≡ Some Poll → ((request : Request) → (standing_of plan journal actor).waits ≡ Some request → has_keys request ≡ false)
     → (n : ℕ) × (live_session journal actor ≡ Some n) × MayPoll (state_at plan journal) n
 
--- the plan's migrated table stands
-abbrev pub TableStands : PlanData → Type 0
-TableStands plan = schema_of plan.table plan.tables ≡ Some (old_schema plan)
-
 -- *Tables stand until all is copied*: the migrated one with its schema, and the new one from its making on.
 abbrev pub TablesStandUncopied : Type 0
 TablesStandUncopied =
     (plan : PlanData) (journal : List Entry) → IsFitting plan → TableStands plan → IsFaithful plan journal → Follows plan journal
     → CourseTables plan (state_at plan journal).tables (standing_of plan journal) (moment plan journal).tool.course
 
--- *Given calls may be called*, all of them: of a fitting plan whose migrated table stands and whose map is of the two
--- tables, behind each faithful journal that follows the program and in which tables stay tables.
+-- *Tables stay tables* with clustered keys before each turn, where they are so at the start.
+abbrev pub TablesStayTables : Type 0
+TablesStayTables =
+    (plan : PlanData) (journal : List Entry) → IsFitting plan → AllByRecursion IsOrderlyTable plan.tables → IsFaithful plan journal → Follows plan journal → StaysOrderly plan journal
+
+-- *Given calls may be called*, all of them: of a runnable plan, behind each faithful journal that follows the program.
 abbrev pub GivenCallsMayBeCalled : Type 0
 GivenCallsMayBeCalled =
-    (plan : PlanData) (journal : List Entry) (actor : Actor) (request : Request) (n : ℕ) → IsFitting plan → TableStands plan → IsMapped plan → StaysOrderly plan journal → IsFaithful plan journal → Follows plan journal → given plan journal actor ≡ Some (Call request)
-    → MayTake journal n (live_session journal actor) → MayCall (opened_for plan journal actor n) n request
+    (plan : PlanData) (journal : List Entry) (actor : Actor) (request : Request) (n : ℕ) → IsRunnable plan → IsFaithful plan journal → Follows plan journal → given plan journal actor ≡ Some (Call request) → MayTake journal n (live_session journal actor)
+    → MayCall (opened_for plan journal actor n) n request
 
 -- *Given polls may be called*, all of them, likewise
 abbrev pub GivenPollsMayBeCalled : Type 0
 GivenPollsMayBeCalled =
-    (plan : PlanData) (journal : List Entry) (actor : Actor) → IsFitting plan → TableStands plan → IsMapped plan → StaysOrderly plan journal → IsFaithful plan journal → Follows plan journal → given plan journal actor ≡ Some Poll
-    → (n : ℕ) × (live_session journal actor ≡ Some n) × MayPoll (state_at plan journal) n
+    (plan : PlanData) (journal : List Entry) (actor : Actor) → IsRunnable plan → IsFaithful plan journal → Follows plan journal → given plan journal actor ≡ Some Poll → (n : ℕ) × (live_session journal actor ≡ Some n) × MayPoll (state_at plan journal) n
+
+-- an actor's session may be lost between its turns, and in a call or a poll that is given, before the effect or behind it
+pub record MayLoseAny (plan : PlanData) (journal : List Entry) (actor : Actor) : Type 0 where
+  pub between : (n : ℕ) → live_session journal actor ≡ Some n → MayLose (state_at plan journal) n None Cut
+  pub called : (request : Request) (n : ℕ) (side : Side) → given plan journal actor ≡ Some (Call request) → MayTake journal n (live_session journal actor) → MayLose (opened_for plan journal actor n) n (Some side) (Call request)
+  pub polled : (n : ℕ) (side : Side) → given plan journal actor ≡ Some Poll → live_session journal actor ≡ Some n → MayLose (state_at plan journal) n (Some side) Poll
+
+-- *Losses may be*, all of them, likewise
+abbrev pub LossesMayBe : Type 0
+LossesMayBe = (plan : PlanData) (journal : List Entry) (actor : Actor) → IsRunnable plan → IsFaithful plan journal → Follows plan journal → MayLoseAny plan journal actor

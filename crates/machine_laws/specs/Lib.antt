@@ -4,4 +4,5 @@ pub mod Scripts
 pub mod Tabling
 pub mod Forming
 pub mod Keying
+pub mod Runnable
 pub mod Laws

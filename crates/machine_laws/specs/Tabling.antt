@@ -55,3 +55,7 @@ pub record WorkTables (plan : PlanData) (tables : Database) (has : Actor → Sta
 abbrev pub CourseTables : PlanData → Database → (Actor → Standing) → Course → Type 0
 CourseTables plan tables has (SettingUp setup tries) = SetupTables plan tables has setup
 CourseTables plan tables has (Migrating work) = WorkTables plan tables has work
+
+-- the plan's migrated table stands
+abbrev pub TableStands : PlanData → Type 0
+TableStands plan = schema_of plan.table plan.tables ≡ Some (old_schema plan)

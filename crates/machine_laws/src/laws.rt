@@ -1,6 +1,6 @@
 //! The laws: each function's contract is one.
 
-ghost use Rattle.machine_laws.specs.Laws.{AnswersTellStandings, SessionsAreNumbered, MachinesStand, GivenCallsComeWell, GivenCallsMayBeMade, GivenPollsMayBeMade, TablesStandUncopied, GivenCallsMayBeCalled, GivenPollsMayBeCalled};
+ghost use Rattle.machine_laws.specs.Laws.{AnswersTellStandings, SessionsAreNumbered, MachinesStand, GivenCallsComeWell, GivenCallsMayBeMade, GivenPollsMayBeMade, TablesStandUncopied, TablesStayTables, GivenCallsMayBeCalled, GivenPollsMayBeCalled, LossesMayBe};
 
 /// What a session has on the server follows from its turns' answers alone, and each answer is one that its request may
 /// have.
@@ -41,8 +41,13 @@ pub fn tables_stand_uncopied()
     ensures { TablesStandUncopied }
 {}
 
-/// Every call that is given may be made, where tables stay tables: with it the keys that the copier asks with are of the
-/// table's kinds.
+/// Tables stay tables with clustered keys, since no definition comes inside a transaction and what is made is lawful.
+pub fn tables_stay_tables()
+    ensures { TablesStayTables }
+{}
+
+/// Every call that is given may be made, of a runnable plan: with it the keys that the copier asks with are of the table's
+/// kinds.
 pub fn given_calls_may_be_called()
     ensures { GivenCallsMayBeCalled }
 {}
@@ -50,4 +55,9 @@ pub fn given_calls_may_be_called()
 /// Every poll that is given may be made, likewise.
 pub fn given_polls_may_be_called()
     ensures { GivenPollsMayBeCalled }
+{}
+
+/// Every session may be lost, between its turns and in those that are given.
+pub fn losses_may_be()
+    ensures { LossesMayBe }
 {}
