@@ -7,11 +7,11 @@ ghost use Rattle.plain_server.specs.Locking.{blocker};
 ghost use Rattle.session_locks.specs.Bare.{bare};
 
 use crate::holding::{holds, least_holder};
-use crate::least::least;
 use crate::mentions::table_of;
 use crate::rows::refuser_of_set;
 use crate::waiting::{ahead_of, least_waiter};
 use gho_values::Name;
+use least_session::least;
 use plain_server::{Request, Session, Waiting};
 use row_locks::Lock;
 use row_store::Pair;

@@ -6,8 +6,8 @@ ghost use Rattle.metadata_locks.specs.Granting.{least_holder};
 ghost use Rattle.plain_server.specs.States.{name_held, names_held};
 ghost use Rattle.session_locks.specs.Names.{has_held};
 
-use crate::least::least;
 use gho_values::Name;
+use least_session::least;
 use plain_server::{HeldName, Session};
 
 /// Whether the name is held, exclusively where that is asked.

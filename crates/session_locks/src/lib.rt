@@ -4,7 +4,6 @@
 
 mod blocking;
 mod holding;
-mod least;
 mod listing;
 mod mentions;
 mod rows;

@@ -7,8 +7,8 @@ ghost use Rattle.row_locks.specs.Granting.{conflict, refuser_of_lock, refuser_of
 ghost use Rattle.row_locks.specs.Holding.{held_by};
 ghost use Rattle.plain_server.specs.States.{locks_held};
 
-use crate::least::least;
 use gho_values::{Bound, Span};
+use least_session::least;
 use plain_server::Session;
 use row_locks::Lock;
 

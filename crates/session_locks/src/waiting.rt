@@ -5,9 +5,9 @@ ghost use Rattle.metadata_locks.specs.Granting.{ahead_of, least_waiter};
 ghost use Rattle.plain_server.specs.States.{waiters, waits_for};
 ghost use Rattle.session_locks.specs.Names.{is_waiter_of};
 
-use crate::least::least;
 use crate::mentions::{is_exclusive, takes};
 use gho_values::Name;
+use least_session::least;
 use plain_server::Waiting;
 
 /// The session that waits here, where it is another one and waits for the name exclusively.
