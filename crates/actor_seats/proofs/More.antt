@@ -1,12 +1,12 @@
 -- What one more turn does to what is kept of the actors.
-use Rattle.std.proofs.Common.{◌≡◌, ℕ, zero, suc, ◌+◌, ◌-◌, ◌<◌, ◌≤◌, Bool, true, false, not, ◌&&◌, List, [], ◌∷◌, ◌++◌, map, length, Option, Some, None, cond, refl, sym, ap, ◌∙◌, subst, arith}
+use Rattle.std.proofs.Common.{◌≡◌, ℕ, ◌+◌, ◌<◌, ◌≤◌, Bool, true, false, not, ◌&&◌, List, [], ◌∷◌, ◌++◌, map, length, Option, None, cond, refl, sym, ap, ◌∙◌, arith}
 use Rattle.std.proofs.lemmas.List.Sums.{fold-append, count_by-le-length}
 use Rattle.std.specs.List.{AllByRecursion}
 use Rattle.script_text.specs.declared.actor.Actor.{Actor}
 use Rattle.plain_server.specs.declared.answer.Answer.{Answer}
 use Rattle.plain_server.specs.declared.answer.Answer.TheVariants as answers
 use Rattle.plain_server.specs.declared.entry.Asked.{Asked}
-use Rattle.plain_server.specs.declared.entry.Asked.TheVariants.{Call, Poll, Command, Cut}
+use Rattle.plain_server.specs.declared.entry.Asked.TheVariants.{Call, Poll}
 use Rattle.plain_server.specs.declared.entry.Entry.{Entry}
 use Rattle.plain_server.specs.declared.request.Request.{Request}
 use Rattle.plain_server.specs.Entries.{same_actor, is_cut}
@@ -14,7 +14,7 @@ use Rattle.journal_words.specs.Journals.{turns_of}
 use Rattle.journal_words.specs.Sessions.{live_session, session_in, session_left}
 use Rattle.journal_words.specs.Histories.{request_waiting, waits_in, waits_behind, renames_away}
 use Rattle.actor_seats.specs.declared.seat.ActorSeat.{ActorSeat}
-use Rattle.actor_seats.specs.Seats.{seat_at, renames_behind, counted, turned, seat_after}
+use Rattle.actor_seats.specs.Seats.{seat_at, renames_behind, counted, seat_after}
 
 pub live_more : (journal : List Entry) (entry : Entry) (actor : Actor) → live_session (journal ++ entry ∷ []) actor ≡ session_in actor (live_session journal actor) entry
 unfolding live_session

@@ -1,5 +1,5 @@
 -- What is kept of each actor, so that no turn reads the journal anew. (This project's rule.)
-use Rattle.std.specs.Prelude.{ℕ, ◌+◌, Bool, true, false, not, if◌then◌else◌, List, Option, Some, None}
+use Rattle.std.specs.Prelude.{ℕ, ◌+◌, Bool, false, if◌then◌else◌, List, Some}
 use Rattle.script_text.specs.declared.actor.Actor.{Actor}
 use Rattle.plain_server.specs.declared.answer.Answer.{Answer}
 use Rattle.plain_server.specs.declared.answer.Answer.TheVariants as answers
@@ -7,7 +7,6 @@ use Rattle.plain_server.specs.declared.entry.Asked.{Asked}
 use Rattle.plain_server.specs.declared.entry.Asked.TheVariants.{Call, Poll}
 use Rattle.plain_server.specs.declared.entry.Entry.{Entry}
 use Rattle.plain_server.specs.Entries.{same_actor, is_cut}
-use Rattle.plan_words.specs.PlanData.{PlanData}
 use Rattle.journal_words.specs.Journals.{turns_of}
 use Rattle.journal_words.specs.Sessions.{live_session, session_left}
 use Rattle.journal_words.specs.Histories.{request_waiting, renames_away}

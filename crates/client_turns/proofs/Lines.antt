@@ -1,5 +1,5 @@
 -- The lines of a script that are left.
-use Rattle.std.proofs.Common.{◌≡◌, ℕ, zero, suc, ◌+◌, ◌<◌, Bool, true, false, List, [], ◌∷◌, ◌++◌, length, drop, refl, sym, ap, ◌∙◌, arith}
+use Rattle.std.proofs.Common.{◌≡◌, ℕ, zero, suc, ◌+◌, ◌<◌, true, List, [], ◌∷◌, ◌++◌, length, drop, refl, arith}
 use Rattle.plain_server.specs.declared.transaction.TxnLine.{TxnLine}
 use Rattle.journal_words.specs.Clients.{is_inside}
 

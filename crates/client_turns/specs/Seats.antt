@@ -1,5 +1,5 @@
 -- What the code keeps of a client, in the words of how far it is in its script. (This project's rule.)
-use Rattle.std.specs.Prelude.{◌≡◌, Bool, if◌then◌else◌, List, drop, Option, None}
+use Rattle.std.specs.Prelude.{◌≡◌, if◌then◌else◌, List, drop, Option, None}
 use Rattle.script_text.specs.declared.script.ScriptLine.{ScriptLine}
 use Rattle.plain_server.specs.declared.entry.Asked.{Asked}
 use Rattle.journal_words.specs.Clients as clients
