@@ -223,7 +223,7 @@ module _ (plan : PlanData) (journal : List Entry) (entry : Entry) (is : IsTogeth
 
   -- THE LOCKER
 
-  lock_about : (work : Work) → now.tool.course ≡ Migrating work → WorkStands journal (is_reverting now.tool.reason) has work → Asking plan journal Lock entry.asked
+  pub lock_about : (work : Work) → now.tool.course ≡ Migrating work → WorkStands journal (is_reverting now.tool.reason) has work → Asking plan journal Lock entry.asked
       → (P : Type 0) → ((request : Request) → IsAbout request (has Lock) entry.asked → LockerAsks work.cutover.table work.cutover.hold work.cutover.phase request → P) → P
   lock_about work course at (calls_so request asks idle call) P then =
       then request (is_called asks idle)
@@ -271,7 +271,7 @@ module _ (plan : PlanData) (journal : List Entry) (entry : Entry) (is : IsTogeth
 
   -- THE RENAMER
 
-  ren_about : (work : Work) → now.tool.course ≡ Migrating work → WorkStands journal (is_reverting now.tool.reason) has work → Asking plan journal Ren entry.asked → (P : Type 0) → ((request : Request) → IsAbout request (has Ren) entry.asked → request ≡ exchange work.cutover.table → P) → P
+  pub ren_about : (work : Work) → now.tool.course ≡ Migrating work → WorkStands journal (is_reverting now.tool.reason) has work → Asking plan journal Ren entry.asked → (P : Type 0) → ((request : Request) → IsAbout request (has Ren) entry.asked → request ≡ exchange work.cutover.table → P) → P
   ren_about work course at (calls_so request asks idle call) P then = then request (is_called asks idle) (renamer_next work.cutover request (ap (λ (c : Course). tool_call plan now.server journal now.tool c Ren) (sym course) ∙ call))
   ren_about work course at (polls_so request asks some) P then = then request (is_polled asks some) (renamer_waits work.cutover.table work.cutover.renamer_waits request (ap (λ (s : Standing). s.waits) (sym at.renamer) ∙ some))
 

@@ -24,3 +24,7 @@ mod Keys
 mod Answering
 mod Keyed
 mod Whole
+mod Phases
+mod Renaming
+mod Marks
+mod Verdicts

@@ -43,6 +43,32 @@ keeps_table name (requests.Drop dropped) = not (bytes_eq name dropped)
 keeps_table name (requests.Rename pairs) = false
 keeps_table name request = true
 
+-- it makes, drops and renames no table
+abbrev pub is_quiet : Request → Bool
+is_quiet (requests.Create schema) = false
+is_quiet (requests.Drop name) = false
+is_quiet (requests.Rename pairs) = false
+is_quiet request = true
+
+pub quiet_keeps : (name : List ℕ) (request : Request) → is_quiet request ≡ true → keeps_table name request ≡ true
+quiet_keeps name (requests.Create schema) is = absurd (false≢true is)
+quiet_keeps name (requests.Drop dropped) is = absurd (false≢true is)
+quiet_keeps name (requests.Rename pairs) is = absurd (false≢true is)
+quiet_keeps name requests.Begin is = refl
+quiet_keeps name requests.Commit is = refl
+quiet_keeps name requests.Rollback is = refl
+quiet_keeps name (requests.Do statement) is = refl
+quiet_keeps name (requests.Ends table) is = refl
+quiet_keeps name (requests.ChunkEnd table low top size) is = refl
+quiet_keeps name (requests.BeginSpan table span size) is = refl
+quiet_keeps name (requests.CopyRow from into columns key) is = refl
+quiet_keeps name (requests.LockTables names) is = refl
+quiet_keeps name requests.Unlock is = refl
+quiet_keeps name requests.LogEnd is = refl
+quiet_keeps name (requests.ReadLog position limit tables) is = refl
+quiet_keeps name requests.ShowTables is = refl
+quiet_keeps name requests.ShowWaiting is = refl
+
 -- EVENTS
 
 schema_event : (name : List ℕ) (event : List ℕ) (change : Change) (tables : Database) → schema_of name (with_change event (change_table change) tables) ≡ schema_of name tables

@@ -56,9 +56,10 @@ use Rattle.machine_laws.proofs.Clients.{Next, calls_line, polls_line, client_nex
 use Rattle.machine_laws.proofs.Journals.{IsRun, all_runs}
 use Rattle.machine_laws.proofs.Making.{given_formed}
 use Rattle.machine_laws.proofs.Polling.{AllTogether, AllWaits, waits_more, waits_begin, together_more_all, together_begins_all}
+use Rattle.machine_laws.proofs.Schemas.{is_quiet}
 use Rattle.machine_laws.proofs.Seated.{IsServed, IsOpen, is_open}
 use Rattle.machine_laws.proofs.Spare.{scene_for, spare_mine, client_far, far_other, known_others}
-use Rattle.machine_laws.proofs.Tabling.{is_quiet, may_define, QuietAt, given_quiet}
+use Rattle.machine_laws.proofs.Tabling.{may_define, QuietAt, given_quiet}
 
 -- A NEW TABLE
 

@@ -61,35 +61,7 @@ use Rattle.machine_laws.proofs.Counting.{moment_more}
 use Rattle.machine_laws.proofs.Journals.{IsRun, all_runs, Asking, calls_so, polls_so, asking, apply_called, client_commands, never_commands}
 use Rattle.machine_laws.proofs.Clients.{Next, calls_line, polls_line, client_next}
 use Rattle.machine_laws.proofs.Polling.{AllTogether, AllWaits, waits_more, waits_begin, together_more_all, together_begins_all, given_idle, given_waits, no_word}
-use Rattle.machine_laws.proofs.Schemas.{keeps_table, schema_stays, schema_rests, schema_made}
-
--- WHAT A REQUEST LEAVES
-
--- it makes, drops and renames no table
-abbrev pub is_quiet : Request → Bool
-is_quiet (requests.Create schema) = false
-is_quiet (requests.Drop name) = false
-is_quiet (requests.Rename pairs) = false
-is_quiet request = true
-
-pub quiet_keeps : (name : List ℕ) (request : Request) → is_quiet request ≡ true → keeps_table name request ≡ true
-quiet_keeps name (requests.Create schema) is = absurd (false≢true is)
-quiet_keeps name (requests.Drop dropped) is = absurd (false≢true is)
-quiet_keeps name (requests.Rename pairs) is = absurd (false≢true is)
-quiet_keeps name requests.Begin is = refl
-quiet_keeps name requests.Commit is = refl
-quiet_keeps name requests.Rollback is = refl
-quiet_keeps name (requests.Do statement) is = refl
-quiet_keeps name (requests.Ends table) is = refl
-quiet_keeps name (requests.ChunkEnd table low top size) is = refl
-quiet_keeps name (requests.BeginSpan table span size) is = refl
-quiet_keeps name (requests.CopyRow from into columns key) is = refl
-quiet_keeps name (requests.LockTables names) is = refl
-quiet_keeps name requests.Unlock is = refl
-quiet_keeps name requests.LogEnd is = refl
-quiet_keeps name (requests.ReadLog position limit tables) is = refl
-quiet_keeps name requests.ShowTables is = refl
-quiet_keeps name requests.ShowWaiting is = refl
+use Rattle.machine_laws.proofs.Schemas.{keeps_table, is_quiet, quiet_keeps, schema_stays, schema_rests, schema_made}
 
 -- THE SETUP'S CALLS
 
@@ -105,7 +77,7 @@ setup_keeps plan (Reaching position) request is = some_request (λ r. keeps_tabl
 setup_keeps plan (Ready position range) request is = absurd cc
 
 -- ... and the new one, once it is made
-past_keeps : (plan : PlanData) (setup : Setup) (request : Request) → past_ghost setup ≡ true → setup_call plan setup ≡ Some request → keeps_table (ghost_name plan.table) request ≡ true
+pub past_keeps : (plan : PlanData) (setup : Setup) (request : Request) → past_ghost setup ≡ true → setup_call plan setup ≡ Some request → keeps_table (ghost_name plan.table) request ≡ true
 past_keeps plan Marking request past is = some_request (λ r. keeps_table (ghost_name plan.table) r ≡ true) _ request is refl
 past_keeps plan (Reaching position) request past is = some_request (λ r. keeps_table (ghost_name plan.table) r ≡ true) _ request is refl
 past_keeps plan (Ready position range) request past is = absurd cc
@@ -118,11 +90,11 @@ clearing_past left = by (is_clear left) where
   by false = refl
 
 -- how a setup comes past the making of the new table
-data Passes (setup : Setup) (answer : Answer) : Type 0 where
+pub data Passes (setup : Setup) (answer : Answer) : Type 0 where
   passed : past_ghost setup ≡ true → Passes setup answer
   makes : (count : ℕ) → setup ≡ MakingGhost → answer ≡ answers.Ok count → Passes setup answer
 
-step_past : (table : List ℕ) (setup : Setup) (answer : Answer) → past_ghost (setup_step table setup answer) ≡ true → Passes setup answer
+pub step_past : (table : List ℕ) (setup : Setup) (answer : Answer) → past_ghost (setup_step table setup answer) ≡ true → Passes setup answer
 step_past table Marking answer past = passed refl
 step_past table (Reaching position) answer past = passed refl
 step_past table (Ready position range) answer past = passed refl
@@ -135,7 +107,7 @@ step_past table (Clearing left) answer past = absurd (false≢true past)
 step_past table MakingLog (answers.Ok count) past = absurd (false≢true past)
 step_past table MakingLog answer past = absurd (false≢true past)
 
-step_waits : (table : List ℕ) (setup : Setup) (by : ℕ) → setup_step table setup (answers.Waits by) ≡ setup
+pub step_waits : (table : List ℕ) (setup : Setup) (by : ℕ) → setup_step table setup (answers.Waits by) ≡ setup
 step_waits table Listing by = refl
 step_waits table (Clearing left) by = refl
 step_waits table MakingLog by = refl
@@ -145,11 +117,11 @@ step_waits table (Reaching position) by = refl
 step_waits table (Ready position range) by = refl
 
 -- behind an answer the request waits, or none does
-data Behind (request : Request) (answer : Answer) (old : Standing) : Type 0 where
+pub data Behind (request : Request) (answer : Answer) (old : Standing) : Type 0 where
   waits_on : (by : ℕ) → answer ≡ answers.Waits by → Behind request answer old
   rests : (answered request answer old).waits ≡ None → Behind request answer old
 
-behind : (request : Request) (answer : Answer) (old : Standing) → Behind request answer old
+pub behind : (request : Request) (answer : Answer) (old : Standing) → Behind request answer old
 behind request (answers.Waits by) old = waits_on by refl
 behind request answers.Lost old = rests refl
 behind request (answers.TimedOut waited) old = rests refl
@@ -317,7 +289,7 @@ module _ (plan : PlanData) (journal : List Entry) (entry : Entry) (is : AllToget
   rests_so name quiet_asked = schema_rests plan journal entry served (own_waiting plan journal entry is.tool.known served) name quiet_asked
 
   -- all schemas stay
-  abbrev AllStay : Type 0
+  abbrev pub AllStay : Type 0
   AllStay = (name : List ℕ) → schema_of name after ≡ schema_of name before
 
   tables_stay : AllStay → TablesStand plan before → TablesStand plan after
@@ -359,7 +331,7 @@ module _ (plan : PlanData) (journal : List Entry) (entry : Entry) (is : AllToget
   still (Migrating work) stay insp copy at = record { going = λ off. uncopied_stay work work stay insp refl refl (at.going off); copied = λ on. ap (λ (s : Standing). s.waits) copy ∙ at.copied on }
 
   -- a call or a poll of an actor that defines nothing leaves all schemas
-  quiet_stay : (actor : Actor) → entry.actor ≡ actor → may_define actor ≡ false → given plan journal actor ≡ Some entry.asked → (entry.asked ≡ Cut → ⊥) → ((word : OperatorWord) → entry.asked ≡ Command word → ⊥) → AllStay
+  pub quiet_stay : (actor : Actor) → entry.actor ≡ actor → may_define actor ≡ false → given plan journal actor ≡ Some entry.asked → (entry.asked ≡ Cut → ⊥) → ((word : OperatorWord) → entry.asked ≡ Command word → ⊥) → AllStay
   quiet_stay actor same none gives called commanded name = by entry.asked refl where
     by : (asked : Asked) → entry.asked ≡ asked → schema_of name after ≡ schema_of name before
     by (Call request) asks =

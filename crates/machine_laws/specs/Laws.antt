@@ -1,10 +1,12 @@
 -- What holds of the tool's machines and their sessions behind every journal.
 use Rattle.std.specs.Prelude.{◌≡◌, ℕ, Bool, true, false, List, [], ◌∷◌, ◌++◌, Some, None}
-use Rattle.std.specs.List.{AllByRecursion}
+use Rattle.std.specs.List.{AllByRecursion, list_any}
 use Rattle.script_text.specs.declared.actor.Actor.{Actor}
 use Rattle.script_text.specs.declared.actor.Side.{Side}
 use Rattle.plain_server.specs.declared.entry.Asked.TheVariants.{Call, Poll, Cut}
 use Rattle.plain_server.specs.declared.entry.Entry.{Entry}
+use Rattle.plain_server.specs.declared.outcome.Cause.{Cause}
+use Rattle.plain_server.specs.declared.outcome.Verdict.TheVariants as verdicts
 use Rattle.plain_server.specs.declared.request.Request.{Request}
 use Rattle.plain_server.specs.declared.request.Request.TheVariants as requests
 use Rattle.plain_server.specs.Conditions.{ComesWell, MayCall, MayPoll, MayLose}
@@ -12,9 +14,11 @@ use Rattle.plain_server.specs.Entries.{same_actor}
 use Rattle.plain_server.specs.States.{State, session_of, is_live, is_in_transaction, holds_tables, is_waiting}
 use Rattle.statement_laws.specs.Covering.{IsOrderlyTable}
 use Rattle.plan_words.specs.PlanData.{PlanData}
+use Rattle.journal_words.specs.Histories.{history, is_alter}
 use Rattle.journal_words.specs.Journals.{state_at, IsAnswered, IsFaithful}
 use Rattle.journal_words.specs.Sessions.{live_session, sessions_named, IsSeated, KeepsSessions}
 use Rattle.migration_program.specs.Programs.{given, Follows}
+use Rattle.migration_program.specs.Verdicts.{has_ended, verdict_of}
 use Rattle.migration_program.specs.Tools.{is_reverting, moment}
 use Rattle.machine_laws.specs.Standings.{standing_of, answered, IsAbout, serves_to, MayTake, opened_for}
 use Rattle.machine_laws.specs.Machines.{CourseStands}
@@ -114,3 +118,12 @@ pub record MayLoseAny (plan : PlanData) (journal : List Entry) (actor : Actor) :
 -- *Losses may be*, all of them, likewise
 abbrev pub LossesMayBe : Type 0
 LossesMayBe = (plan : PlanData) (journal : List Entry) (actor : Actor) → IsRunnable plan → IsFaithful plan journal → Follows plan journal → MayLoseAny plan journal actor
+
+-- of a run that has ended the verdict is *done* where the history has the ALTER, and else *reverted*
+pub record TellsAlter (plan : PlanData) (journal : List Entry) : Type 0 where
+  pub done : list_any is_alter (history plan journal) ≡ true → verdict_of plan journal ≡ verdicts.Done
+  pub reverted : list_any is_alter (history plan journal) ≡ false → (cause : Cause) × (verdict_of plan journal ≡ verdicts.Reverted cause)
+
+-- *Verdicts tell the ALTER* of a fitting plan whose migrated table stands, once the run has ended.
+abbrev pub VerdictsTellTheAlter : Type 0
+VerdictsTellTheAlter = (plan : PlanData) (journal : List Entry) → IsFitting plan → TableStands plan → IsFaithful plan journal → Follows plan journal → has_ended plan journal ≡ true → TellsAlter plan journal

@@ -1,6 +1,6 @@
 //! The laws: each function's contract is one.
 
-ghost use Rattle.machine_laws.specs.Laws.{AnswersTellStandings, SessionsAreNumbered, MachinesStand, GivenCallsComeWell, GivenCallsMayBeMade, GivenPollsMayBeMade, TablesStandUncopied, TablesStayTables, GivenCallsMayBeCalled, GivenPollsMayBeCalled, LossesMayBe};
+ghost use Rattle.machine_laws.specs.Laws.{AnswersTellStandings, SessionsAreNumbered, MachinesStand, GivenCallsComeWell, GivenCallsMayBeMade, GivenPollsMayBeMade, TablesStandUncopied, TablesStayTables, GivenCallsMayBeCalled, GivenPollsMayBeCalled, LossesMayBe, VerdictsTellTheAlter};
 
 /// What a session has on the server follows from its turns' answers alone, and each answer is one that its request may
 /// have.
@@ -60,4 +60,10 @@ pub fn given_polls_may_be_called()
 /// Every session may be lost, between its turns and in those that are given.
 pub fn losses_may_be()
     ensures { LossesMayBe }
+{}
+
+/// Of a run that has ended the verdict is *done* where the RENAME of the migrated table was done, also where its answer was
+/// missed, and else *reverted*.
+pub fn verdicts_tell_the_alter()
+    ensures { VerdictsTellTheAlter }
 {}
