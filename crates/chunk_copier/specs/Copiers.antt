@@ -1,6 +1,6 @@
--- *The copier*: it copies the rows of the range chunk by chunk, in order of the clustered key. C1 asks where the chunk
--- ends; C2 begins a transaction, takes the share lock on the whole chunk and is told its keys; C3 copies one row for each
--- key; C4 commits. (gh-ost, "Iterating the table"; the exact steps are this project's rule.)
+-- *The copier*: it copies the rows of the range chunk by chunk, in order of the clustered key. It asks where the chunk
+-- ends; it begins a transaction, takes the share lock on the whole chunk and is told its keys; it copies one row for each
+-- key; and it commits. (gh-ost, "Iterating the table"; the exact steps are this project's rule.)
 use Rattle.std.specs.Prelude.{ℕ, ◌+◌, ◌==◌, Bool, true, false, if◌then◌else◌, List, [], length, unwrap_or, Option, Some, None}
 use Rattle.std.specs.List.{slice_get}
 use Rattle.std.specs.Ordering.{is_eq}
@@ -34,7 +34,7 @@ abbrev pub new_copier : List ℕ → List MapColumn → Option CopyRange → ℕ
 new_copier table map range size =
     record { table = table; map = map; range = range; size = size; number = 1; behind = None; is_copied = is_empty_range range; step = Choosing }
 
--- the next call is C1
+-- next it asks where a chunk ends
 abbrev pub is_choosing : CopyStep → Bool
 is_choosing Choosing = true
 is_choosing step = false
@@ -72,7 +72,7 @@ call_in journal copier (Some range) = call_at journal copier range copier.step
 unfoldable pub next : List Entry → Copier → Option Request
 next journal copier = if copier.is_copied then None else call_in journal copier copier.range
 
--- a chunk of these keys: C3, or C4 where it has none
+-- a chunk of these keys: its first row is copied, or it is committed where it has none
 abbrev pub begun : Chunk → CopyStep
 begun chunk = if chunk.keys == 0 then Committing chunk else Copying chunk 0
 
@@ -114,7 +114,7 @@ progress_at step answer = Going
 unfoldable pub progress : Copier → Answer → Progress
 progress copier answer = progress_at copier.step answer
 
--- a chunk holds at most so many rows from the next C1 on
+-- a chunk holds at most so many rows from the next one on
 abbrev pub resized : ℕ → Copier → Copier
 resized size copier = record copier { size = size }
 

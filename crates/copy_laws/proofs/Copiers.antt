@@ -22,6 +22,7 @@ use Rattle.event_codec.specs.declared.event.RowEvent.{RowEvent}
 use Rattle.row_locks.specs.declared.lock.Lock.{Lock}
 use Rattle.row_store.specs.Databases.{Database, TableRows, find_table}
 use Rattle.row_store.specs.RowLists.{is_at}
+use Rattle.row_store.proofs.Orders.{is_Equal}
 use Rattle.plain_server.specs.declared.answer.Answer.{Answer}
 use Rattle.plain_server.specs.declared.answer.Answer.TheVariants as answers
 use Rattle.plain_server.specs.declared.entry.Entry.{Entry}
@@ -51,7 +52,6 @@ use Rattle.chunk_copier.specs.Copiers.{after_answer, call_at, copies, is_top, lo
 use Rattle.statement_laws.specs.Agreeing.{Among, Within}
 use Rattle.statement_laws.specs.Covering.{Apart}
 use Rattle.statement_laws.proofs.Points.{among-right, within-itself, within-left, within-right}
-use Rattle.statement_laws.proofs.Standing.{is_Equal}
 use Rattle.statement_laws.proofs.Tests.{are_one}
 use Rattle.history_laws.proofs.Answering.{apart_both}
 use Rattle.history_laws.proofs.Journals.{journal_holds}

@@ -1,11 +1,10 @@
 -- *The cut-over*: the attempts to exchange the two tables by one RENAME, and what is cleared up behind them. An attempt
--- goes through its stages in one order: the locker makes the sentry (L1) and locks the table and the sentry's name (L2);
--- the inspector writes the hint row (I1); once the applier has come behind it the renamer asks for the RENAME (M1), which
--- waits; the inspector sees it wait (I2); the locker drops the sentry (L3) and unlocks (L4); and the RENAME runs.
--- An attempt that doesn't succeed ends: the locker unlocks (E1), the RENAME is polled to its answer (E2), and the inspector
--- looks at the tables (E3) and drops the sentry where it stands. Behind the RENAME the inspector looks (F1) and drops the
--- changelog and, where that is wanted, the old table (F2). (gh-ost, "Cut-over", with its sentry table and its lock on both
--- names; the exact steps are this project's rule.)
+-- goes through its stages in one order: the locker makes the sentry and locks the table and the sentry's name; the
+-- inspector writes the hint row; once the applier has come behind it the renamer asks for the RENAME, which waits; the
+-- inspector sees it wait; the locker drops the sentry and unlocks; and the RENAME runs. An attempt that doesn't succeed
+-- ends: the locker unlocks, the RENAME is polled to its answer, and the inspector looks at the tables and drops the sentry
+-- where it stands. Behind the RENAME the inspector looks, and drops the changelog and, where that is wanted, the old table.
+-- (gh-ost, "Cut-over", with its sentry table and its lock on both names; the exact steps are this project's rule.)
 use Rattle.std.specs.Prelude.{ℕ, Bool, false, ◌&&◌, not, if◌then◌else◌, List, [], ◌∷◌, Option, Some, None}
 use Rattle.std.specs.List.{list_any}
 use Rattle.std.specs.Str.{bytes_eq}
@@ -67,7 +66,7 @@ locker_at table Dropping = Some (requests.Drop (old_name table))
 locker_at table Unlocking = Some requests.Unlock
 locker_at table stage = None
 
--- E1, where the table lock is held
+-- the attempt ends: UNLOCK, where the table lock is held
 abbrev pub unlocks : Hold → Option Request
 unlocks Locks = Some requests.Unlock
 unlocks hold = None
@@ -87,7 +86,7 @@ inspector_at cutover Hinting = Some (writes_hint cutover.table cutover.attempts)
 inspector_at cutover Showing = Some requests.ShowWaiting
 inspector_at cutover stage = None
 
--- E1 and E2 are over: the locker neither waits nor holds the lock, and the RENAME doesn't wait
+-- the attempt's sessions are at rest: the locker neither waits nor holds the lock, and the RENAME doesn't wait
 abbrev pub is_free : Hold → Bool → Bool
 is_free Nothing renamer_waits = not renamer_waits
 is_free hold renamer_waits = false

@@ -43,7 +43,7 @@ locker_stage Dropping (answers.Ok count) = Unlocking
 locker_stage Unlocking (answers.Ok count) = Exchanging
 locker_stage stage answer = stage
 
--- the answer to L1 begins an attempt
+-- the answer to the call that makes the sentry begins an attempt
 abbrev pub begun : Answer → Phase
 begun (answers.Ok count) = Attempting Locking
 begun (answers.Waits by) = Attempting Guarding
@@ -54,7 +54,7 @@ locker_phase Resting answer = begun answer
 locker_phase (Attempting stage) answer = if is_bad answer then Ending Looking else Attempting (locker_stage stage answer)
 locker_phase phase answer = phase
 
--- what L1's and L2's answers give
+-- what the locker has by the answers to the calls that make the sentry and lock the tables
 abbrev pub hold_of_guard : Answer → Hold
 hold_of_guard (answers.Waits by) = WaitsToGuard
 hold_of_guard answer = Nothing
@@ -64,7 +64,7 @@ hold_of_lock (answers.Waits by) = WaitsToLock
 hold_of_lock (answers.Ok count) = Locks
 hold_of_lock answer = Nothing
 
--- the answer to a call under the table lock: L3 keeps the lock, L4 gives it up
+-- the answer to a call under the table lock: to drop the sentry keeps the lock, to unlock gives it up
 abbrev pub hold_under : Phase → Answer → Hold
 hold_under (Attempting Dropping) answer = if is_bad answer then Nothing else Locks
 hold_under phase answer = Nothing
@@ -84,7 +84,7 @@ abbrev pub is_resting : Phase → Bool
 is_resting Resting = true
 is_resting phase = false
 
--- L1 begins one attempt more, in which no RENAME was asked for
+-- making the sentry begins one attempt more, in which no RENAME was asked for
 abbrev pub attempts_after : Phase → ℕ → ℕ
 attempts_after Resting attempts = attempts + 1
 attempts_after phase attempts = attempts
@@ -98,7 +98,7 @@ locker_took cutover answer =
       is_asked = if is_resting cutover.phase then false else cutover.is_asked;
     }
 
--- F2 drops the changelog, and the old table where that is wanted, where they are listed
+-- behind the RENAME the inspector drops the changelog, and the old table where that is wanted, where they are listed
 abbrev pub left_at_end : CutOver → List TableName → Leftovers
 left_at_end cutover tables =
     record { log = has_name (log_name cutover.table) tables; new_table = false; old = cutover.drops_old && has_name (old_name cutover.table) tables }
@@ -106,11 +106,12 @@ left_at_end cutover tables =
 abbrev pub finishing : Leftovers → Phase
 finishing left = if is_clear left then Finished else Finishing (Drops left)
 
--- E3 drops the sentry alone
+-- behind an attempt that failed the inspector drops the sentry alone
 abbrev pub sentry_alone : Leftovers
 sentry_alone = record { log = false; new_table = false; old = true }
 
--- what E3 sees: where the new table is gone the RENAME was done, and this was F1; else the sentry, where it is listed
+-- what the inspector sees behind an attempt: where the new table is gone, the RENAME was done after all; else the sentry,
+-- where it is listed
 abbrev pub seen : CutOver → List TableName → Phase
 seen cutover tables =
     if not (has_name (ghost_name cutover.table) tables) then finishing (left_at_end cutover tables)
@@ -149,7 +150,7 @@ inspector_phase cutover phase answer = phase
 abbrev pub inspector_took : CutOver → Answer → CutOver
 inspector_took cutover answer = record cutover { phase = inspector_phase cutover cutover.phase answer }
 
--- the RENAME waits: I2 comes next
+-- the RENAME waits: next the inspector looks for it
 abbrev pub waits_phase : Phase → Phase
 waits_phase (Attempting Drained) = Attempting Showing
 waits_phase phase = phase
@@ -215,7 +216,7 @@ ended (Attempting Exchanging) = Attempting Exchanging
 ended (Attempting stage) = Ending Looking
 ended phase = phase
 
--- *Reverted*: an attempt that stands ends by E1 to E3, and no other begins.
+-- *Reverted*: an attempt that stands is ended, and no other begins.
 unfoldable pub reverted : CutOver → CutOver
 reverted cutover = record cutover { phase = ended cutover.phase; is_stopped = true }
 

@@ -1,5 +1,5 @@
--- *The applier*: it applies what was logged of the migrated table to the new one, batch by batch. A1 reads the next
--- events; where some are of the table, A2 begins a transaction, A3 says one statement on the new table a turn, and A4
+-- *The applier*: it applies what was logged of the migrated table to the new one, batch by batch. It reads the next
+-- events; where some are of the table, it begins a transaction, says one statement on the new table a turn, and
 -- commits. (gh-ost, "Triggerless design", applies binary log events as REPLACE, DELETE and UPDATE; the exact steps are
 -- this project's rule.)
 use Rattle.std.specs.Prelude.{ℕ, ◌+◌, ◌==◌, Bool, true, false, not, if◌then◌else◌, List, [], ◌∷◌, length, map, filter, unwrap_or, Option, Some, None}
@@ -54,7 +54,7 @@ abbrev pub new_applier : List ℕ → Schema → List MapColumn → ℕ → ℕ 
 new_applier table new_schema map position batch =
     record { table = table; new_schema = new_schema; map = map; batch = batch; position = position; hint = 0; step = Reading }
 
--- the next call is A1
+-- next it reads the log
 abbrev pub is_reading : ApplyStep → Bool
 is_reading Reading = true
 is_reading step = false
@@ -150,7 +150,7 @@ batch_of turn applier events behind =
 abbrev pub moved : Applier → Batch → Applier
 moved applier batch = record applier { position = batch.next; hint = batch.hint; step = Reading }
 
--- behind A1: A2, unless there is nothing to apply
+-- behind the read: a transaction begins, unless there is nothing to apply
 abbrev pub read_batch : Applier → Batch → Applier
 read_batch applier batch = if batch.statements == 0 then moved applier batch else record applier { step = Beginning batch }
 

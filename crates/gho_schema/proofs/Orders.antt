@@ -20,7 +20,7 @@ all_placed P Less row first rows placed r f others p = (r, (f, others))
 all_placed P Equal row first rows placed r f others p = (r, (f, others))
 all_placed P Greater row first rows placed r f others p = (f, p)
 
-all-with_row : (P : Row → Type 0) (places : List ℕ) (row : Row) (rows : List Row) → P row → AllByRecursion P rows → AllByRecursion P (with_row places row rows)
+pub all-with_row : (P : Row → Type 0) (places : List ℕ) (row : Row) (rows : List Row) → P row → AllByRecursion P rows → AllByRecursion P (with_row places row rows)
 unfolding with_row
 all-with_row P places row [] r others = (r, tt)
 all-with_row P places row (first ∷ rows) r others =
@@ -49,7 +49,7 @@ ascends-with_row total places row (first ∷ rows) new ascends =
     placed_ascends total (compare_keys (key_of places row) (key_of places first)) places row first rows refl parts.0 ascends (ascends-with_row total places row rows parts.1 ascends.1)
 
 -- what is put has a new key
-some_put : (b : Bool) (rows new : List Row) → cond b None (Some rows) ≡ Some new → (b ≡ false) × (rows ≡ new)
+pub some_put : (b : Bool) (rows new : List Row) → cond b None (Some rows) ≡ Some new → (b ≡ false) × (rows ≡ new)
 some_put true rows new is = absurd (cc)
 some_put false rows new is = (refl, cc)
 

@@ -1,7 +1,7 @@
 -- BeginSpan's keys are those of the rows up to the chunk's end; and they stand as long as the span is held.
 use Rattle.std.proofs.Common.{◌≡◌, ℕ, zero, suc, ◌<◌, ◌≤◌, Bool, true, false, ◌&&◌, List, [], ◌∷◌, length, filter, take, find, cond, Some, Ok, Ordering, Less, Equal, Greater, refl, sym, ap, ◌∙◌, subst, arith}
 use Rattle.std.specs.Prelude.{nat_lt}
-use Rattle.std.proofs.lemmas.Bool.{false≢true}
+use Rattle.std.proofs.lemmas.Bool.{false≢true, and_parts}
 use Rattle.std.specs.List.{AllByRecursion}
 use Rattle.std.specs.Ordering.{is_le, ordering_reverse}
 use Rattle.gho_values.specs.Comparing.{compare_keys}
@@ -33,7 +33,7 @@ use Rattle.plain_server.specs.Chunks.{keys_of, last_of}
 use Rattle.plain_server.specs.Needing.{lock_on}
 use Rattle.plain_server.specs.Rows.{lies_under}
 use Rattle.statement_laws.proofs.Standing.{same-filter, same-within}
-use Rattle.statement_laws.proofs.Tests.{and_right, same_bytes}
+use Rattle.statement_laws.proofs.Tests.{same_bytes}
 use Rattle.statement_laws.specs.Agreeing.{Among, SameWhere, covers, is_under}
 
 -- whether a row's key isn't above a key
@@ -125,7 +125,7 @@ take_all (suc n) (key ∷ keys) within = ap (λ (ks : List Row). key ∷ ks) (ta
 
 pub below_end : (low : Bound) (end key : Row) → has (record { low = low; high = Closed end }) key ≡ true → is_le (compare_keys key end) ≡ true
 unfolding has
-below_end low end key is = and_right (above low key) (is_le (compare_keys key end)) is
+below_end low end key is = (and_parts (above low key) (is_le (compare_keys key end)) is).1
 
 -- a chunk that is cut behind so many keys
 cut_span : (places : List ℕ) (low : Bound) (end : Row) (n : ℕ) (rows xs : List Row) → Ascends places rows → filter (λ row. has (record { low = low; high = Closed end }) (key_of places row)) rows ≡ xs → suc n < length xs

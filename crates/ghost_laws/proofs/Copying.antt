@@ -1,4 +1,4 @@
--- The copier's steps by what it was told: C2, C3 key by key, C4; and what its share lock gives.
+-- The copier's steps by what it was told: the chunk's begin, its rows key by key, its COMMIT; and what its share lock gives.
 use Rattle.std.proofs.Common.{◌≡◌, ℕ, zero, suc, Bool, true, false, ◌||◌, List, [], ◌∷◌, ◌++◌, length, filter, take, find, Option, Some, None, Ok, refl, sym, ap, ◌∙◌, subst}
 use Rattle.std.specs.Prelude.{◌==◌}
 use Rattle.std.proofs.lemmas.Bool.{false≢true, true≢false}
@@ -17,6 +17,7 @@ use Rattle.event_codec.specs.declared.event.RowEvent.{RowEvent}
 use Rattle.row_locks.specs.declared.lock.Lock.{Lock}
 use Rattle.row_store.specs.Databases.{TableRows, Database, find_table}
 use Rattle.row_store.specs.RowLists.{is_at}
+use Rattle.row_store.proofs.Orders.{is_Equal}
 use Rattle.plain_server.specs.declared.work.Work.TheVariants as works
 use Rattle.ghost_laws.proofs.Applying.{ext}
 use Rattle.ghost_laws.proofs.Chunks.{copied_by_key, span_same}
@@ -44,7 +45,6 @@ use Rattle.plain_server.specs.Chunks.{keys_of}
 use Rattle.plain_server.specs.Jobs.{Job, after_events}
 use Rattle.plain_server.specs.Saying.{tells}
 use Rattle.statement_laws.proofs.Stables.{others_agree}
-use Rattle.statement_laws.proofs.Standing.{is_Equal}
 use Rattle.statement_laws.specs.Agreeing.{Agree, SameWhere, TablesAgree, Within, is_under}
 use Rattle.statement_laws.specs.Covering.{Apart}
 
@@ -80,7 +80,7 @@ among_next (first ∷ keys) (suc n) key other at =
     or_first (is_eq (compare_keys other key)) (is_eq (compare_keys other first)) (list_any (λ k. is_eq (compare_keys other k)) (take n keys))
     ∙ ap (λ (b : Bool). is_eq (compare_keys other first) || b) (among_next keys n key other at)
 
--- *C3*: CopyRow of the next key told
+-- *A row*: CopyRow of the next key told
 pub copies_next : (m : Migration) (rows : List Row) (done half : Row → Bool) (keys : List Row) (n : ℕ) (progress : Progress Row) (ghost : GhostRows) (copier applier : ℕ) (now : Stored) (hold holds : ℕ → SessionHold) (own : SessionHold) (task : Job) (key row made : Row) → IsPlanned m rows → IsServed now hold
     → GhostInvariant m rows done half (take n keys) progress ghost copier applier now hold → (applier == copier) ≡ false → slice_get keys n ≡ Some key → DoesWork m task (works.Copy made) → IsGiven now hold copier task own → Besides copier hold holds own
     → find (is_at (key_places m.schema) key) (rows_at m.name (key_places m.schema) rows now.log progress.end) ≡ Some row → image m.columns row ≡ Ok made
@@ -92,7 +92,7 @@ copies_next m rows done half keys n progress ghost copier applier now hold holds
     (subst (λ (k : Row). GhostInvariant m rows done half (k ∷ take n keys) (record progress { copier_holds = is_among (k ∷ take n keys) }) (record ghost { chunk = ghost.chunk ++ (tells m.new (chunk_view m ghost) (works.Copy made)).changes }) copier applier now holds) copied.0
     (copy_keeps m rows done half (take n keys) progress ghost copier applier now hold holds own task row made planned served kept differ is given besides copied.1))
 
--- *C2*: BeginSpan
+-- *The chunk's begin*: BeginSpan
 pub begins_span : (m : Migration) (rows : List Row) (half : Row → Bool) (progress : Progress Row) (ghost : GhostRows) (copier applier : ℕ) (now : Stored) (hold holds : ℕ → SessionHold) (own : SessionHold) (keys : List Row) (low : Bound) (high top : Row) → GhostInvariant m rows (is_done (Some (record { low = low; high = Closed top }))) half [] progress ghost copier applier now hold
     → (applier == copier) ≡ false → Besides copier hold holds own → Within (hold copier).locks own.locks → Apart own.locks (hold applier).locks → own.writes ≡ (hold copier).writes
     → keys ≡ keys_of (key_places m.schema) (filter (λ row. has (record { low = low; high = Closed high }) (key_of (key_places m.schema) row)) (rows_at m.name (key_places m.schema) rows now.log progress.end))
@@ -107,7 +107,7 @@ take_whole : (keys : List Row) → take (length keys) keys ≡ keys
 take_whole [] = refl
 take_whole (key ∷ keys) = ap (λ (ks : List Row). key ∷ ks) (take_whole keys)
 
--- *C4*: COMMIT, when all keys told are taken
+-- *The chunk's COMMIT*, when all keys told are taken
 pub commits_chunk : (m : Migration) (rows : List Row) (left behind : Option Span) (keys : List Row) (half : Row → Bool) (progress : Progress Row) (ghost : GhostRows) (copier applier : ℕ) (now after : Stored) (hold holds : ℕ → SessionHold) → IsPlanned m rows → IsServed now hold
     → GhostInvariant m rows (is_done_in left behind keys) half (take (length keys) keys) progress ghost copier applier now hold → (applier == copier) ≡ false → Besides copier hold holds no_hold → after.tables ≡ after_events now.tables (hold copier).writes → after.log ≡ now.log ++ (hold copier).writes
     → GhostInvariant m rows (is_done behind) half [] (record progress { end = length after.log; copier_holds = λ _. false }) (record ghost { committed = rows_after_all (key_places m.new) ghost.chunk ghost.committed; chunk = [] }) copier applier after holds

@@ -111,7 +111,7 @@ walk_joins m rows log done own others taken progress ghost (suc steps) planned w
 
 -- ---- commits
 
--- *The batch's COMMIT*; also A1 where no event of the table was told, with an empty batch
+-- *The batch's COMMIT*; also a read of the log where no event of the table was told, with an empty batch
 pub batch_ends : (m : Migration) (rows : List Row) (log : List RowEvent) (done : Row → Bool) (own others : List Lock) (taken : List Row) (progress : Progress Row) (ghost : GhostRows) → IsPlanned m rows → IsJoined m rows log done (λ _. false) own others taken progress ghost
     → IsJoined m rows log done (λ _. false) [] others taken (record progress { position = progress.reached; applier_holds = λ _. false }) (record ghost { committed = rows_after_all (key_places m.new) ghost.batch ghost.committed; batch = [] })
 batch_ends m rows log done own others taken progress ghost planned now =

@@ -33,7 +33,7 @@ use Rattle.ghost_rows.proofs.Replacing.{after_both, deleted}
 use Rattle.ghost_rows.proofs.Resting.{copy_rests, half_goes_on}
 use Rattle.ghost_rows.proofs.Steps.{left_key, misses, under_way_timeline, view_table}
 use Rattle.ghost_rows.proofs.TimelineLaws.{each_table, keys_stay}
-use Rattle.ghost_rows.proofs.Writing.{both, copy_goes_on, event_goes_on}
+use Rattle.ghost_rows.proofs.Writing.{copy_goes_on, event_goes_on}
 use Rattle.ghost_rows.specs.Changes.{NamesHeld, deleting, new_key, old_key, row_left, updating}
 use Rattle.ghost_rows.specs.Disjoint.{AllDisjoint, Disjoint}
 use Rattle.ghost_rows.specs.Moments.{Fits, Row, rows_after_all, rows_at}
@@ -48,6 +48,7 @@ use Rattle.statement_laws.proofs.Finding.{covered_more}
 use Rattle.statement_laws.proofs.Points.{within-parts}
 use Rattle.statement_laws.specs.Agreeing.{Within}
 use Rattle.statement_laws.specs.Covering.{rows_of, RowsCovered, Apart, Covered, IsSound}
+use Rattle.least_session.proofs.Kept.{both}
 
 pub none_locked : (schema : Schema) → is_locked schema [] ≡ (λ _. false)
 unfolding is_locked

@@ -1,6 +1,6 @@
 -- Keys that are held, and keys that aren't.
 use Rattle.std.proofs.Common.{◌≡◌, ℕ, ◌==◌, ◌<◌, arith, Bool, true, false, ◌&&◌, ◌||◌, List, [], ◌∷◌, length, Option, Some, None, refl, sym, ap, ◌∙◌, subst, inl, inr}
-use Rattle.std.proofs.lemmas.Bool.{false≢true, true≢false}
+use Rattle.std.proofs.lemmas.Bool.{false≢true, true≢false, and_parts}
 use Rattle.std.specs.List.{list_any, slice_get}
 use Rattle.std.specs.Str.{bytes_eq}
 use Rattle.gho_values.specs.Spans.{has, meets, point}
@@ -15,12 +15,12 @@ use Rattle.row_locks.specs.Granting.{conflict}
 use Rattle.row_store.specs.ClusteredKeys.{HasClusteredKey}
 use Rattle.row_store.proofs.Orders.{Row}
 use Rattle.plain_server.specs.declared.work.Reach.{Reach}
-use Rattle.server_laws.proofs.Spans.{key_no_null}
+use Rattle.row_store.proofs.TableLaws.{key_no_null}
 use Rattle.ghost_laws.specs.Holding.{Clustered, is_locked, is_place, locks_key}
 use Rattle.plain_server.specs.Needing.{lock_on, points}
 use Rattle.statement_laws.proofs.Orderly.{nulls}
 use Rattle.statement_laws.proofs.Points.{among-within, point_of}
-use Rattle.statement_laws.proofs.Tests.{and_left, and_right, are_one, are_same, or_true, same_bytes, same_number}
+use Rattle.statement_laws.proofs.Tests.{are_one, are_same, or_true, same_bytes, same_number}
 use Rattle.statement_laws.specs.Agreeing.{Among, Within}
 use Rattle.statement_laws.specs.Covering.{Apart}
 
@@ -92,16 +92,16 @@ both_conflict : (schema : Schema) (key : Row) (a b : Lock) → locks_key schema 
 unfolding conflict
 both_conflict schema key a b one two =
     let place = is_place (clustered_place schema) in
-    let a1 = and_right (bytes_eq a.table schema.name) (place a.key && (a.exclusive && has a.span key)) one in
-    let b1 = and_right (bytes_eq b.table schema.name) (place b.key && (b.exclusive && has b.span key)) two in
-    let a2 = and_right (place a.key) (a.exclusive && has a.span key) a1 in
-    let b2 = and_right (place b.key) (b.exclusive && has b.span key) b1 in
-    let name : a.table ≡ b.table = are_same a.table schema.name (and_left (bytes_eq a.table schema.name) (place a.key && (a.exclusive && has a.span key)) one) ∙ sym (are_same b.table schema.name (and_left (bytes_eq b.table schema.name) (place b.key && (b.exclusive && has b.span key)) two)) in
-    let number : a.key ≡ b.key = place_one (clustered_place schema) a.key b.key (and_left (place a.key) (a.exclusive && has a.span key) a1) (and_left (place b.key) (b.exclusive && has b.span key) b1) in
+    let a1 = (and_parts (bytes_eq a.table schema.name) (place a.key && (a.exclusive && has a.span key)) one).1 in
+    let b1 = (and_parts (bytes_eq b.table schema.name) (place b.key && (b.exclusive && has b.span key)) two).1 in
+    let a2 = (and_parts (place a.key) (a.exclusive && has a.span key) a1).1 in
+    let b2 = (and_parts (place b.key) (b.exclusive && has b.span key) b1).1 in
+    let name : a.table ≡ b.table = are_same a.table schema.name ((and_parts (bytes_eq a.table schema.name) (place a.key && (a.exclusive && has a.span key)) one).0) ∙ sym (are_same b.table schema.name ((and_parts (bytes_eq b.table schema.name) (place b.key && (b.exclusive && has b.span key)) two).0)) in
+    let number : a.key ≡ b.key = place_one (clustered_place schema) a.key b.key ((and_parts (place a.key) (a.exclusive && has a.span key) a1).0) ((and_parts (place b.key) (b.exclusive && has b.span key) b1).0) in
     let names : bytes_eq a.table b.table ≡ true = ap (bytes_eq a.table) (sym name) ∙ same_bytes a.table in
     let numbers : (a.key == b.key) ≡ true = ap (λ (n : ℕ). a.key == n) (sym number) ∙ same_number a.key in
-    let strong : a.exclusive ≡ true = and_left a.exclusive (has a.span key) a2 in
-    let spans : meets a.span b.span ≡ true = common_key a.span b.span key (and_right a.exclusive (has a.span key) a2) (and_right b.exclusive (has b.span key) b2) in
+    let strong : a.exclusive ≡ true = (and_parts a.exclusive (has a.span key) a2).0 in
+    let spans : meets a.span b.span ≡ true = common_key a.span b.span key ((and_parts a.exclusive (has a.span key) a2).1) ((and_parts b.exclusive (has b.span key) b2).1) in
     rw (names, numbers, strong, spans) refl
 
 -- *No key is held by two sessions.*

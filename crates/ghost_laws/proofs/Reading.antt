@@ -133,11 +133,11 @@ reads name tables log limit position named within = at (length (take (suc limit)
       let all : length (take (suc limit) (read_from tables position (drop position log))) ≤ suc limit = taken_length (suc limit) (read_from tables position (drop position log)) in
       short_told name tables log (drop position log) position named (part_of log position within) (suc limit) (grind (arith, nat_tests, all, is))
 
--- *A1*: what is planned for the events told is what is to be done up to the next position.
+-- *The log is read*: what is planned for the events told is what is to be done up to the next position.
 pub read_whole : (m : Migration) (log : List RowEvent) (position : ℕ) (told : EventsTold) → IsTold m.name log position told → IsWhole m log position (length log) told.next (planned m (own_changes m.name told.events))
 read_whole m log position told is = record { steps = is.steps; sum = is.sum; within = is.within; are = ap (planned m) is.are }
 
--- *A1 with no event of the table*: the position moves.
+-- *The log is read with no event of the table*: the position moves.
 pub position_moves : (m : Migration) (rows : List Row) (done : Row → Bool) (taken : List Row) (progress : Progress Row) (ghost : GhostRows) (copier applier : ℕ) (now : Stored) (hold : ℕ → SessionHold) (next : ℕ) → IsPlanned m rows → GhostInvariant m rows done (λ _. false) taken progress (record ghost { batch = [] }) copier applier now hold
     → hold applier ≡ no_hold → IsWhole m now.log progress.reached progress.end next [] → GhostInvariant m rows done (λ _. false) taken (record progress { position = next; reached = next; applier_holds = λ _. false }) (record ghost { batch = [] }) copier applier now hold
 unfolding rows_after_all

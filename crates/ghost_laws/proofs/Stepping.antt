@@ -48,7 +48,7 @@ pub given_wrote : (m : Migration) (rows : List Row) (done half : Row → Bool) (
 given_wrote m rows done half taken progress ghost copier applier now hold own task work served kept is given =
     given.wrote ∙ ap (λ (s : StatementResult). (hold applier).writes ++ s.events) (applier_says m rows done half taken progress ghost copier applier now hold task work served kept is.table is.does).said
 
--- *A3: REPLACE*, of a WRITE or as the second half of an UPDATE
+-- *a batch's REPLACE*, of a WRITE or as the second half of an UPDATE
 pub replace_keeps : (m : Migration) (rows : List Row) (done half : Row → Bool) (taken : List Row) (progress : Progress Row) (ghost : GhostRows) (copier applier : ℕ) (now : Stored) (hold holds : ℕ → SessionHold) (own : SessionHold) (task : Job) (change : Change) (row made : Row) → IsPlanned m rows → IsServed now hold
     → GhostInvariant m rows done half taken progress ghost copier applier now hold → (copier == applier) ≡ false → DoesWork m task (works.Replace made) → IsGiven now hold applier task own → Besides applier hold holds own
     → progress.reached < progress.end → IsDue m rows now.log progress.reached change → row_left change ≡ Some row → image m.columns row ≡ Ok made → is_locked m.new own.locks (old_key (key_places m.schema) change) ≡ true
@@ -62,7 +62,7 @@ replace_keeps m rows done half taken progress ghost copier applier now hold hold
     (replace_joins m rows now.log done half (hold applier).locks own.locks (hold copier).locks taken progress ghost change row made planned kept.joined
     (given_grant m rows done half taken progress ghost copier applier now hold own task (works.Replace made) served kept differ is given fits) more due left imaged old taken_out gone)
 
--- *A3: DELETE by key*
+-- *a batch's DELETE by key*
 pub delete_keeps : (m : Migration) (rows : List Row) (done : Row → Bool) (taken : List Row) (progress : Progress Row) (ghost : GhostRows) (copier applier : ℕ) (now : Stored) (hold holds : ℕ → SessionHold) (own : SessionHold) (task : Job) (row : Row) (planned : IsPlanned m rows) → IsServed now hold
     → GhostInvariant m rows done (λ _. false) taken progress ghost copier applier now hold → (copier == applier) ≡ false → DoesWork m task (delete_work m rows planned (key_of (key_places m.schema) row)) → IsGiven now hold applier task own → Besides applier hold holds own
     → progress.reached < progress.end → IsDue m rows now.log progress.reached (Delete row)
@@ -73,7 +73,7 @@ delete_keeps m rows done taken progress ghost copier applier now hold holds own 
     (given_wrote m rows done (λ _. false) taken progress ghost copier applier now hold own task work served kept is given)
     (delete_joins m rows now.log done (hold applier).locks own.locks (hold copier).locks taken progress ghost row planned kept.joined (given_grant m rows done (λ _. false) taken progress ghost copier applier now hold own task work served kept differ is given tt) more due)
 
--- *A3: UPDATE in place*, not refused
+-- *a batch's UPDATE in place*, not refused
 pub update_keeps : (m : Migration) (rows : List Row) (done : Row → Bool) (taken : List Row) (progress : Progress Row) (ghost : GhostRows) (copier applier : ℕ) (now : Stored) (hold holds : ℕ → SessionHold) (own : SessionHold) (task : Job) (before row made : Row) (planned : IsPlanned m rows) → IsServed now hold
     → GhostInvariant m rows done (λ _. false) taken progress ghost copier applier now hold → (copier == applier) ≡ false → DoesWork m task (update_work m rows planned (key_of (key_places m.schema) before) made) → IsGiven now hold applier task own → Besides applier hold holds own
     → progress.reached < progress.end → IsDue m rows now.log progress.reached (Update before row) → changes_key (kept m) before row ≡ false → image m.columns row ≡ Ok made
@@ -87,7 +87,7 @@ update_keeps m rows done taken progress ghost copier applier now hold holds own 
     (update_joins m rows now.log done (hold applier).locks own.locks (hold copier).locks taken progress ghost before row made planned kept.joined
     (given_grant m rows done (λ _. false) taken progress ghost copier applier now hold own task work served kept differ is given (sets_fit m.new.columns made fits)) more due stays imaged not_refused)
 
--- *A3: the first half of an UPDATE*
+-- *the first half of a batch's UPDATE*
 pub half_keeps : (m : Migration) (rows : List Row) (done : Row → Bool) (taken : List Row) (progress : Progress Row) (ghost : GhostRows) (copier applier : ℕ) (now : Stored) (hold holds : ℕ → SessionHold) (own : SessionHold) (task : Job) (key : Row) (planned : IsPlanned m rows) → IsServed now hold
     → GhostInvariant m rows done (λ _. false) taken progress ghost copier applier now hold → (copier == applier) ≡ false → DoesWork m task (delete_work m rows planned key) → IsGiven now hold applier task own → Besides applier hold holds own → no_null key ≡ true
     → GhostInvariant m rows done (is_key key) taken (record progress { applier_holds = is_locked m.new own.locks }) (record ghost { batch = ghost.batch ++ (tells m.new (view_of m ghost) (delete_work m rows planned key)).changes }) copier applier now holds
@@ -97,7 +97,7 @@ half_keeps m rows done taken progress ghost copier applier now hold holds own ta
     (given_wrote m rows done (λ _. false) taken progress ghost copier applier now hold own task work served kept is given)
     (half_joins m rows now.log done (hold applier).locks own.locks (hold copier).locks taken progress ghost key planned kept.joined (given_grant m rows done (λ _. false) taken progress ghost copier applier now hold own task work served kept differ is given tt) full)
 
--- *A3, refused*, as an UPDATE with 1062: the locks stay
+-- *a batch's statement that is refused*, as an UPDATE with 1062: the locks stay
 pub refused_keeps : (m : Migration) (rows : List Row) (done half : Row → Bool) (taken : List Row) (progress : Progress Row) (ghost : GhostRows) (copier applier : ℕ) (now : Stored) (hold holds : ℕ → SessionHold) (own : SessionHold) (task : Job) (work : Work) → IsServed now hold
     → GhostInvariant m rows done half taken progress ghost copier applier now hold → (copier == applier) ≡ false → DoesWork m task work → IsGiven now hold applier task own → Besides applier hold holds own → (tells m.new (view_of m ghost) work).changes ≡ []
     → GhostInvariant m rows done half taken (record progress { applier_holds = is_locked m.new own.locks }) (record ghost { batch = ghost.batch ++ [] }) copier applier now holds
@@ -106,7 +106,7 @@ refused_keeps m rows done half taken progress ghost copier applier now hold hold
     (given_wrote m rows done half taken progress ghost copier applier now hold own task work served kept is given ∙ ap (λ (cs : List Change). (hold applier).writes ++ events_of m.new.name cs) none)
     (rw (append-nil ghost.batch) (applier_waits_no_more m rows now.log done half (hold applier).locks own.locks (hold copier).locks taken progress ghost kept.joined given.kept (given.apart copier differ)))
 
--- *C3: CopyRow*, Ok(1) and Ok(0)
+-- *CopyRow*, Ok(1) and Ok(0)
 pub copy_keeps : (m : Migration) (rows : List Row) (done half : Row → Bool) (taken : List Row) (progress : Progress Row) (ghost : GhostRows) (copier applier : ℕ) (now : Stored) (hold holds : ℕ → SessionHold) (own : SessionHold) (task : Job) (row made : Row) → IsPlanned m rows → IsServed now hold
     → GhostInvariant m rows done half taken progress ghost copier applier now hold → (applier == copier) ≡ false → DoesWork m task (works.Copy made) → IsGiven now hold copier task own → Besides copier hold holds own → IsCopied m rows now.log progress.end row made
     → GhostInvariant m rows done half (key_of (key_places m.new) made ∷ taken) (record progress { copier_holds = is_among (key_of (key_places m.new) made ∷ taken) }) (record ghost { chunk = ghost.chunk ++ (tells m.new (chunk_view m ghost) (works.Copy made)).changes }) copier applier now holds
@@ -117,7 +117,7 @@ copy_keeps m rows done half taken progress ghost copier applier now hold holds o
     (copy_joins m rows now.log done half (hold applier).locks (hold copier).locks own.locks taken progress ghost row made planned kept.joined copied given.kept (apart-turn own.locks (hold applier).locks (given.apart applier differ))
     (subst (λ (l : List Lock). Within l own.locks) says.needed given.needed))
 
--- *C2: BeginSpan*: the copier is granted locks, and writes nothing
+-- *BeginSpan*: the copier is granted locks, and writes nothing
 pub span_keeps : (m : Migration) (rows : List Row) (done half : Row → Bool) (taken : List Row) (progress : Progress Row) (ghost : GhostRows) (copier applier : ℕ) (now : Stored) (hold holds : ℕ → SessionHold) (own : SessionHold) → GhostInvariant m rows done half taken progress ghost copier applier now hold → (applier == copier) ≡ false
     → Besides copier hold holds own → Within (hold copier).locks own.locks → Apart own.locks (hold applier).locks → own.writes ≡ (hold copier).writes → GhostInvariant m rows done half taken progress ghost copier applier now holds
 span_keeps m rows done half taken progress ghost copier applier now hold holds own kept differ besides within apart wrote =
@@ -143,7 +143,7 @@ not_of name names locks tables [] covered free = tt
 not_of name names locks tables (event ∷ writes) covered free =
     (not_named name event.table names (bytes_eq event.table name) refl covered.0.named free, not_of name names locks tables writes covered.1 free)
 
--- *A3: UPDATE of a row that has no image*, where the new table has no row of its key
+-- *a batch's UPDATE of a row that has no image*, where the new table has no row of its key
 pub unfit_keeps : (m : Migration) (rows : List Row) (done : Row → Bool) (taken : List Row) (progress : Progress Row) (ghost : GhostRows) (copier applier : ℕ) (now : Stored) (hold holds : ℕ → SessionHold) (own : SessionHold) (task : Job) (before row : Row) (fault : _) (planned : IsPlanned m rows) → IsServed now hold
     → GhostInvariant m rows done (λ _. false) taken progress ghost copier applier now hold → (copier == applier) ≡ false → DoesWork m task (unfit_work m rows planned (key_of (key_places m.schema) before) fault) → IsGiven now hold applier task own → Besides applier hold holds own
     → progress.reached < progress.end → IsDue m rows now.log progress.reached (Update before row) → changes_key (kept m) before row ≡ false → ghost_row m (view_of m ghost) (key_of (key_places m.schema) before) ≡ None

@@ -120,7 +120,7 @@ client_commits m at rows copy apply progress ghost copier applier number now aft
 
 -- ---- the copier
 
--- *C2*
+-- *the chunk's begin*
 pub tool_begins : (m : Migration) (at : Clustered m.schema) (rows : List Row) (low : Bound) (high top : Row) (keys : List Row) (apply : ApplyState) (progress : Progress Row) (ghost : GhostRows) (copier applier : ℕ) (now : Stored) (hold holds : ℕ → SessionHold) (own : SessionHold) → ToolInvariant m at rows (Waiting (Some (record { low = low; high = Closed top }))) apply progress ghost copier applier now hold
     → Besides copier hold holds own → Within (hold copier).locks own.locks → Apart own.locks (hold applier).locks → own.writes ≡ (hold copier).writes → InChunk m at rows now own low high keys
     → ToolInvariant m at rows (Taking low high top keys 0) apply progress ghost copier applier now holds
@@ -135,7 +135,7 @@ tool_begins m at rows low high top keys apply progress ghost copier applier now 
       other = tool.other;
     }
 
--- *C3*
+-- *a row of the chunk*
 pub tool_copies : (m : Migration) (at : Clustered m.schema) (rows : List Row) (low : Bound) (high top : Row) (keys : List Row) (n : ℕ) (apply : ApplyState) (progress : Progress Row) (ghost : GhostRows) (copier applier : ℕ) (now : Stored) (hold holds : ℕ → SessionHold) (own : SessionHold) (task : Job) (key row made : Row) → IsPlanned m rows → IsServed now hold
     → ToolInvariant m at rows (Taking low high top keys n) apply progress ghost copier applier now hold → slice_get keys n ≡ Some key → DoesWork m task (works.Copy made) → IsGiven now hold copier task own → NamesWithin (hold copier).names own.names → Besides copier hold holds own
     → find (is_at (key_places m.schema) key) (rows_at m.name (key_places m.schema) rows now.log progress.end) ≡ Some row → image m.columns row ≡ Ok made
@@ -150,7 +150,7 @@ tool_copies m at rows low high top keys n apply progress ghost copier applier no
       other = tool.other;
     }
 
--- *C4*
+-- *the chunk's COMMIT*
 pub tool_commits_chunk : (m : Migration) (at : Clustered m.schema) (rows : List Row) (low : Bound) (high top : Row) (keys : List Row) (apply : ApplyState) (progress : Progress Row) (ghost : GhostRows) (copier applier : ℕ) (now after : Stored) (hold holds : ℕ → SessionHold) → IsPlanned m rows → IsServed now hold
     → ToolInvariant m at rows (Taking low high top keys (length keys)) apply progress ghost copier applier now hold → Besides copier hold holds no_hold → after.tables ≡ after_events now.tables (hold copier).writes → after.log ≡ now.log ++ (hold copier).writes
     → ToolInvariant m at rows (Waiting (Some (record { low = Open high; high = Closed top }))) apply (record progress { end = length after.log; copier_holds = λ _. false }) (record ghost { committed = rows_after_all (key_places m.new) ghost.chunk ghost.committed; chunk = [] }) copier applier after holds
@@ -182,7 +182,7 @@ tool_loses_chunk m at rows low high top keys n apply progress ghost copier appli
       other = tool.other;
     }
 
--- *C4 done and lost*: the chunk begins again
+-- *the chunk's COMMIT done and lost*: the chunk begins again
 pub tool_repeats_chunk : (m : Migration) (at : Clustered m.schema) (rows : List Row) (low : Bound) (high top : Row) (keys : List Row) (n : ℕ) (apply : ApplyState) (progress : Progress Row) (ghost : GhostRows) (copier applier : ℕ) (now after : Stored) (hold holds : ℕ → SessionHold) → IsPlanned m rows → IsServed now hold
     → ToolInvariant m at rows (Taking low high top keys n) apply progress ghost copier applier now hold → Besides copier hold holds no_hold → after.tables ≡ after_events now.tables (hold copier).writes → after.log ≡ now.log ++ (hold copier).writes
     → ToolInvariant m at rows (Waiting (Some (record { low = low; high = Closed top }))) apply (record progress { end = length after.log; copier_holds = λ _. false }) (record ghost { committed = rows_after_all (key_places m.new) ghost.chunk ghost.committed; chunk = [] }) copier applier after holds
@@ -198,7 +198,7 @@ tool_repeats_chunk m at rows low high top keys n apply progress ghost copier app
 
 -- ---- the applier
 
--- *A1 with events of the table*: what is to be done is planned
+-- *the log read with events of the table*: what is to be done is planned
 pub tool_reads : (m : Migration) (at : Clustered m.schema) (rows : List Row) (copy : CopyState) (progress : Progress Row) (ghost : GhostRows) (copier applier : ℕ) (now : Stored) (hold : ℕ → SessionHold) (told : EventsTold) → ToolInvariant m at rows copy Idle progress ghost copier applier now hold → IsTold m.name now.log progress.position told
     → ToolInvariant m at rows copy (Whole told.next (planned m (own_changes m.name told.events))) progress ghost copier applier now hold
 tool_reads m at rows copy progress ghost copier applier now hold told tool is =
@@ -212,7 +212,7 @@ tool_reads m at rows copy progress ghost copier applier now hold told tool is =
       other = tool.other;
     }
 
--- *A1 with none*: the position moves
+-- *the log read with none*: the position moves
 pub tool_passes : (m : Migration) (at : Clustered m.schema) (rows : List Row) (copy : CopyState) (progress : Progress Row) (ghost : GhostRows) (copier applier : ℕ) (now : Stored) (hold : ℕ → SessionHold) (told : EventsTold) → IsPlanned m rows → ToolInvariant m at rows copy Idle progress ghost copier applier now hold → IsTold m.name now.log progress.position told → planned m (own_changes m.name told.events) ≡ []
     → ToolInvariant m at rows copy Idle (record progress { position = told.next; reached = told.next; applier_holds = λ _. false }) (record ghost { batch = [] }) copier applier now hold
 tool_passes m at rows copy progress ghost copier applier now hold told plan tool is none =
@@ -250,7 +250,7 @@ after_half m at rows copy apply progress ghost changes copier applier now hold h
       };
     }
 
--- *A3: REPLACE of a row that was written*
+-- *REPLACE of a row that was written*
 pub tool_puts : (m : Migration) (at : Clustered m.schema) (rows : List Row) (copy : CopyState) (progress : Progress Row) (ghost : GhostRows) (copier applier : ℕ) (now : Stored) (hold holds : ℕ → SessionHold) (own : SessionHold) (task : Job) (next : ℕ) (row made : Row) (rest : List Doing) → IsPlanned m rows → IsServed now hold
     → ToolInvariant m at rows copy (Whole next (Putting row ∷ rest)) progress ghost copier applier now hold → image m.columns row ≡ Ok made → DoesWork m task (works.Replace made) → IsGiven now hold applier task own → Besides applier hold holds own
     → AfterStatement m at rows copy (Whole next rest) progress ghost (tells m.new (view_of m ghost) (works.Replace made)).changes copier applier now holds own
@@ -258,7 +258,7 @@ tool_puts m at rows copy progress ghost copier applier now hold holds own task n
     after_whole m at rows copy (Whole next (Putting row ∷ rest)) progress ghost (tells m.new (view_of m ghost) (works.Replace made)).changes copier applier now hold holds own next rest tool besides
     (put_does m rows (done_in copy) (taken_in copy) progress ghost copier applier now hold holds own task next row made rest plan served tool.kept tool.two tool.applying imaged is given besides)
 
--- *A3: UPDATE in place*, not refused
+-- *a batch's UPDATE in place*, not refused
 pub tool_changes : (m : Migration) (at : Clustered m.schema) (rows : List Row) (copy : CopyState) (progress : Progress Row) (ghost : GhostRows) (copier applier : ℕ) (now : Stored) (hold holds : ℕ → SessionHold) (own : SessionHold) (task : Job) (next : ℕ) (before row made : Row) (rest : List Doing) (plan : IsPlanned m rows) → IsServed now hold
     → ToolInvariant m at rows copy (Whole next (Changing before row ∷ rest)) progress ghost copier applier now hold → image m.columns row ≡ Ok made → DoesWork m task (update_work m rows plan (key_of (key_places m.schema) before) made) → IsGiven now hold applier task own → Besides applier hold holds own
     → (tells m.new (view_of m ghost) (update_work m rows plan (key_of (key_places m.schema) before) made) ≡ only (refuses 1062) → ⊥)
@@ -267,7 +267,7 @@ tool_changes m at rows copy progress ghost copier applier now hold holds own tas
     after_whole m at rows copy (Whole next (Changing before row ∷ rest)) progress ghost (tells m.new (view_of m ghost) (update_work m rows plan (key_of (key_places m.schema) before) made)).changes copier applier now hold holds own next rest tool besides
     (change_does m rows (done_in copy) (taken_in copy) progress ghost copier applier now hold holds own task next before row made rest plan served tool.kept tool.two tool.applying imaged is given besides done)
 
--- *A3: UPDATE of a row that has no image*, answered Ok(0)
+-- *a batch's UPDATE of a row that has no image*, answered Ok(0)
 pub tool_changes_none : (m : Migration) (at : Clustered m.schema) (rows : List Row) (copy : CopyState) (progress : Progress Row) (ghost : GhostRows) (copier applier : ℕ) (now : Stored) (hold holds : ℕ → SessionHold) (own : SessionHold) (task : Job) (next : ℕ) (before row : Row) (fault : _) (rest : List Doing) (plan : IsPlanned m rows) → IsServed now hold
     → ToolInvariant m at rows copy (Whole next (Changing before row ∷ rest)) progress ghost copier applier now hold → DoesWork m task (unfit_work m rows plan (key_of (key_places m.schema) before) fault) → IsGiven now hold applier task own → Besides applier hold holds own → ghost_row m (view_of m ghost) (key_of (key_places m.schema) before) ≡ None
     → AfterStatement m at rows copy (Whole next rest) progress ghost (tells m.new (view_of m ghost) (unfit_work m rows plan (key_of (key_places m.schema) before) fault)).changes copier applier now holds own
@@ -275,7 +275,7 @@ tool_changes_none m at rows copy progress ghost copier applier now hold holds ow
     after_whole m at rows copy (Whole next (Changing before row ∷ rest)) progress ghost (tells m.new (view_of m ghost) (unfit_work m rows plan (key_of (key_places m.schema) before) fault)).changes copier applier now hold holds own next rest tool besides
     (unfit_does m rows (done_in copy) (taken_in copy) progress ghost copier applier now hold holds own task next before row fault rest plan served tool.kept tool.two tool.applying is given besides none)
 
--- *A3: UPDATE refused with 1062*
+-- *UPDATE refused with 1062*
 pub tool_refused : (m : Migration) (at : Clustered m.schema) (rows : List Row) (copy : CopyState) (progress : Progress Row) (ghost : GhostRows) (copier applier : ℕ) (now : Stored) (hold holds : ℕ → SessionHold) (own : SessionHold) (task : Job) (work : Work) (next : ℕ) (todo : List Doing) → IsServed now hold
     → ToolInvariant m at rows copy (Whole next todo) progress ghost copier applier now hold → DoesWork m task work → IsGiven now hold applier task own → Besides applier hold holds own → (tells m.new (view_of m ghost) work).changes ≡ []
     → ToolInvariant m at rows copy (Whole next todo) (record progress { applier_holds = is_locked m.new own.locks }) (record ghost { batch = ghost.batch ++ [] }) copier applier now holds
@@ -288,7 +288,7 @@ tool_refused m at rows copy progress ghost copier applier now hold holds own tas
       other = tool.other;
     }
 
--- *A3: the DELETE behind it*
+-- *the DELETE behind it*
 pub tool_removes_again : (m : Migration) (at : Clustered m.schema) (rows : List Row) (copy : CopyState) (progress : Progress Row) (ghost : GhostRows) (copier applier : ℕ) (now : Stored) (hold holds : ℕ → SessionHold) (own : SessionHold) (task : Job) (next : ℕ) (before row : Row) (rest : List Doing) (plan : IsPlanned m rows) → IsServed now hold
     → ToolInvariant m at rows copy (Whole next (Changing before row ∷ rest)) progress ghost copier applier now hold → DoesWork m task (delete_work m rows plan (key_of (key_places m.schema) before)) → IsGiven now hold applier task own → Besides applier hold holds own
     → AfterStatement m at rows copy (Half next before row rest) progress ghost (tells m.new (view_of m ghost) (delete_work m rows plan (key_of (key_places m.schema) before))).changes copier applier now holds own
@@ -308,7 +308,7 @@ tool_removes m at rows copy progress ghost copier applier now hold holds own tas
     removed_then m at rows copy (Whole next (Removing row ∷ rest)) progress ghost (tells m.new (view_of m ghost) (delete_work m rows plan (key_of (key_places m.schema) row))).changes copier applier now hold holds own next row rest tool besides
     (remove_does m rows (done_in copy) (taken_in copy) progress ghost copier applier now hold holds own task next row rest plan served tool.kept tool.two tool.applying is given besides)
 
--- *A3: the REPLACE behind a DELETE*
+-- *the REPLACE behind a DELETE*
 pub tool_puts_second : (m : Migration) (at : Clustered m.schema) (rows : List Row) (copy : CopyState) (progress : Progress Row) (ghost : GhostRows) (copier applier : ℕ) (now : Stored) (hold holds : ℕ → SessionHold) (own : SessionHold) (task : Job) (next : ℕ) (before row made : Row) (rest : List Doing) → IsPlanned m rows → IsServed now hold
     → ToolInvariant m at rows copy (Half next before row rest) progress ghost copier applier now hold → image m.columns row ≡ Ok made → DoesWork m task (works.Replace made) → IsGiven now hold applier task own → Besides applier hold holds own
     → AfterStatement m at rows copy (Whole next rest) progress ghost (tells m.new (view_of m ghost) (works.Replace made)).changes copier applier now holds own
@@ -317,7 +317,7 @@ tool_puts_second m at rows copy progress ghost copier applier now hold holds own
     after_whole m at rows copy (Half next before row rest) progress ghost (tells m.new (view_of m ghost) (works.Replace made)).changes copier applier now hold holds own next rest tool besides
     (second_does m rows (done_in copy) (taken_in copy) progress ghost copier applier now hold holds own task next before row made rest plan served tool.kept tool.two half.half half.locked half.empty imaged is given besides)
 
--- *A4*
+-- *the batch's COMMIT*
 pub tool_commits_batch : (m : Migration) (at : Clustered m.schema) (rows : List Row) (copy : CopyState) (progress : Progress Row) (ghost : GhostRows) (copier applier : ℕ) (now after : Stored) (hold holds : ℕ → SessionHold) (next : ℕ) → IsPlanned m rows → IsServed now hold → ToolInvariant m at rows copy (Whole next []) progress ghost copier applier now hold
     → Besides applier hold holds no_hold → after.tables ≡ after_events now.tables (hold applier).writes → after.log ≡ now.log ++ (hold applier).writes
     → ToolInvariant m at rows copy Idle (record progress { position = next; reached = next; end = length after.log; applier_holds = λ _. false }) (record ghost { committed = rows_after_all (key_places m.new) ghost.batch ghost.committed; batch = [] }) copier applier after holds
@@ -332,7 +332,7 @@ tool_commits_batch m at rows copy progress ghost copier applier now after hold h
       other = tool.other;
     }
 
--- *A4 done and lost*: the batch begins again
+-- *the batch's COMMIT done and lost*: the batch begins again
 pub tool_repeats_batch : (m : Migration) (at : Clustered m.schema) (rows : List Row) (copy : CopyState) (progress : Progress Row) (ghost : GhostRows) (copier applier : ℕ) (now after : Stored) (hold holds : ℕ → SessionHold) (next : ℕ) → IsPlanned m rows → IsServed now hold → ToolInvariant m at rows copy (Whole next []) progress ghost copier applier now hold
     → Besides applier hold holds no_hold → after.tables ≡ after_events now.tables (hold applier).writes → after.log ≡ now.log ++ (hold applier).writes
     → ToolInvariant m at rows copy Idle (record progress { reached = progress.position; end = length after.log; applier_holds = λ _. false }) (record ghost { committed = rows_after_all (key_places m.new) ghost.batch ghost.committed; batch = [] }) copier applier after holds

@@ -4,11 +4,12 @@ use Rattle.std.specs.List.{AllByRecursion}
 use Rattle.gho_schema.specs.declared.schema.Schema.{Schema}
 use Rattle.gho_schema.specs.Rows.{key_of, key_places, has_key, with_row}
 use Rattle.gho_schema.specs.Tables.{IsTable, clash}
+use Rattle.gho_schema.proofs.Orders.{all-with_row}
 use Rattle.event_codec.specs.declared.event.Change.{Change}
 use Rattle.event_codec.specs.declared.event.Change.TheVariants.{Write, Update, Delete}
 use Rattle.row_store.specs.ClusteredKeys.{HasClusteredKey}
 use Rattle.row_store.specs.RowLists.{is_at, without_key}
-use Rattle.row_store.proofs.Ascending.{all-filter, all-with_row}
+use Rattle.row_store.proofs.Ascending.{all-filter}
 use Rattle.ghost_relation.proofs.Tests.{true_false}
 use Rattle.ghost_rows.proofs.Altering.{same_rows}
 use Rattle.ghost_rows.proofs.Events.{others_found}

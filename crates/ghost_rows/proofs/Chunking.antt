@@ -1,7 +1,8 @@
 -- The chunk's and the batch's ends, and the start, keep the ghost relation.
 use Rattle.std.proofs.Common.{◌≡◌, ℕ, Bool, true, false, not, ◌&&◌, ◌||◌, List, [], ◌∷◌, map, find, filter, cond, Option, Some, None, Ordering, Less, Equal, Greater, refl, sym, ap, ◌∙◌, subst, ◌⊎◌, inl, inr}
 use Rattle.std.specs.Ordering.{is_lt, is_le, ordering_reverse}
-use Rattle.std.proofs.lemmas.Bool.{and_parts}
+use Rattle.std.proofs.lemmas.Bool.{and_parts, or_left}
+use Rattle.std.specs.Cmp.Derive.{both_true}
 use Rattle.gho_values.specs.declared.span.Bound.{Bound}
 use Rattle.gho_values.specs.declared.span.Bound.TheVariants.{Open, Closed}
 use Rattle.gho_values.specs.declared.span.Span.{Span}
@@ -21,16 +22,12 @@ use Rattle.ghost_rows.specs.Changes.{NamesHeld}
 use Rattle.ghost_rows.specs.Moments.{Row, rows_after_all, rows_at}
 use Rattle.ghost_rows.specs.Timelines.{Migration, timeline_of}
 use Rattle.ghost_rows.specs.Views.{GhostRows, is_among, is_done, is_done_in, is_left, views_of}
-use Rattle.statement_laws.proofs.Tests.{or_left}
 
 -- ---- keys left to copy
 
 and_not : (a b : Bool) → a ≡ true → (a && b) ≡ false → b ≡ false
 and_not true b is none = none
 and_not false b is none = absurd (let no : false ≡ true = is in cc)
-
-both_true : (a b : Bool) → a ≡ true → b ≡ true → (a && b) ≡ true
-both_true a b is too = rw (is, too) refl
 
 not_less : (o : Ordering) → is_lt o ≡ false → is_le (ordering_reverse o) ≡ true
 not_less Less fails = absurd (let no : true ≡ false = fails in cc)
@@ -47,7 +44,7 @@ unfolding has
 in_chunk low high top key was gone =
     let parts = and_parts (above low key) (below (Closed top) key) was in
     let fails : is_lt (compare_keys high key) ≡ false = not_and (is_lt (compare_keys high key)) (below (Closed top) key) gone parts.1 in
-    both_true (above low key) (is_le (compare_keys key high)) parts.0 (ap is_le (turned key high) ∙ not_less (compare_keys high key) fails)
+    both_true parts.0 (ap is_le (turned key high) ∙ not_less (compare_keys high key) fails)
 
 -- a row whose key is in a span has its key among those of the span's rows
 among_here : (test : Row → Bool) (places : List ℕ) (key row found : Row) (rows : List Row) (at t : Bool) → is_at places key row ≡ at → test row ≡ t → (at ≡ true → t ≡ true)

@@ -16,6 +16,7 @@ use Rattle.row_store.specs.ClusteredKeys.{HasClusteredKey}
 use Rattle.row_store.specs.Databases.{clashing}
 use Rattle.row_store.specs.RowLists.{is_at}
 use Rattle.row_store.proofs.TableLaws.{put_keeps}
+use Rattle.row_store.proofs.Orders.{is_Equal}
 use Rattle.statement_laws.proofs.Orderly.{nulls}
 use Rattle.ghost_relation.proofs.AllViews.{copies_new, copies_none}
 use Rattle.ghost_relation.specs.Timelines.{IsTimeline}
@@ -27,7 +28,6 @@ use Rattle.ghost_rows.proofs.StayingKeys.{or_false, put_is_found}
 use Rattle.ghost_rows.specs.Moments.{Row, put_in, rows_after_all, rows_at}
 use Rattle.ghost_rows.specs.Timelines.{Migration, timeline_of}
 use Rattle.ghost_rows.specs.Views.{GhostRows, is_among, views_of}
-use Rattle.statement_laws.proofs.Standing.{is_Equal}
 
 -- what a test finds is found by its own key
 found_by_test : (test : Row → Bool) (places : List ℕ) (row was : Row) (rows : List Row) (b : Bool) → AllByRecursion (λ other. is_at places (key_of places other) row ≡ false) rows → cond b (Some row) (find test rows) ≡ Some was

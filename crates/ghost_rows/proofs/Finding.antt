@@ -1,6 +1,6 @@
 -- Rows found by their keys.
 use Rattle.std.proofs.Common.{◌≡◌, ℕ, Bool, true, false, ◌&&◌, List, [], ◌∷◌, find, cond, Option, Some, None, Equal, refl, sym, ap, ◌∙◌, subst, unwrap_or, ◌⊎◌, inl, inr}
-use Rattle.std.proofs.lemmas.Bool.{false≢true, and_parts, or_cases}
+use Rattle.std.proofs.lemmas.Bool.{false≢true, and_parts, or_cases, or_left, or_right}
 use Rattle.std.proofs.lemmas.Cmp.{tied_itself}
 use Rattle.std.specs.Ordering.{is_eq}
 use Rattle.std.specs.List.{AllByRecursion}
@@ -11,11 +11,10 @@ use Rattle.gho_schema.specs.Rows.{key_of, has_key, with_row}
 use Rattle.gho_schema.specs.Tables.{Apart, clash, no_null}
 use Rattle.row_store.specs.RowLists.{is_at, without_key}
 use Rattle.row_store.proofs.RowLaws.{key_is, put_other, others_stay}
+use Rattle.row_store.proofs.Orders.{is_Equal}
 use Rattle.ghost_relation.proofs.Tests.{true_false}
 use Rattle.ghost_rows.specs.Moments.{Row, put_in}
 use Rattle.ghost_rows.specs.Views.{is_key}
-use Rattle.statement_laws.proofs.Standing.{is_Equal}
-use Rattle.statement_laws.proofs.Tests.{or_left, or_right}
 
 pub at_itself : (places : List ℕ) (row : Row) → is_at places (key_of places row) row ≡ true
 at_itself places row = ap is_eq (tied_itself keys_total (key_of places row))

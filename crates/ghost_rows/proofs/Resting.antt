@@ -22,13 +22,14 @@ use Rattle.ghost_rows.proofs.Committing.{disjoint_none, fits_none}
 use Rattle.ghost_rows.proofs.Copying.{found_clash, row_not_copied}
 use Rattle.ghost_rows.proofs.Finding.{found_at}
 use Rattle.ghost_rows.proofs.Removed.{beside_stays}
-use Rattle.ghost_rows.proofs.Writing.{both, covered_by, fits_more, wider_by}
+use Rattle.ghost_rows.proofs.Writing.{covered_by, fits_more, wider_by}
 use Rattle.ghost_rows.specs.Changes.{NamesHeld, NoneRemoved, deleting}
 use Rattle.ghost_rows.specs.Disjoint.{AllDisjoint, Disjoint}
 use Rattle.ghost_rows.specs.Moments.{FitsAll, Row, rows_after_all, rows_at}
 use Rattle.ghost_rows.specs.Timelines.{EventAt, Migration, timeline_of}
 use Rattle.ghost_rows.specs.UnderWay.{IsUnderWay}
 use Rattle.ghost_rows.specs.Views.{GhostRows, ghost_row, is_among, is_done, is_done_in, is_key, view_of, views_of}
+use Rattle.least_session.proofs.Kept.{both}
 
 -- *CopyRow, Ok(0).*
 pub copy_rests : (m : Migration) (rows : List Row) (log : List RowEvent) (done half : Row → Bool) (progress : Progress Row) (ghost : GhostRows) (keys : List Row) (row made was : Row) → HasClusteredKey m.new → IsTimeline (timeline_of m rows log) progress.end

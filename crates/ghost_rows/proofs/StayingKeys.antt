@@ -17,8 +17,8 @@ use Rattle.ghost_relation.proofs.Tests.{true_false}
 use Rattle.ghost_rows.proofs.Finding.{at_itself, put_elsewhere, removed_elsewhere}
 use Rattle.ghost_rows.specs.Moments.{Fits, Row, put_in, rows_after}
 use Rattle.ghost_rows.specs.Timelines.{changes_key, touches_row}
-use Rattle.statement_laws.proofs.Standing.{is_Equal}
 use Rattle.row_store.proofs.FoundRows.{put_new}
+use Rattle.row_store.proofs.Orders.{is_Equal}
 
 -- two rows that differ in no unique key meet the same rows
 pub or_false : (a b : Bool) → (a || b) ≡ false → (a ≡ false) × (b ≡ false)

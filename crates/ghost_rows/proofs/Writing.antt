@@ -14,6 +14,7 @@ use Rattle.row_store.specs.RowLists.{is_at, without_key}
 use Rattle.row_store.proofs.Ascending.{all-filter, ascends-filter}
 use Rattle.std.specs.Ordering.{is_eq}
 use Rattle.std.proofs.lemmas.Cmp.{tied_itself}
+use Rattle.std.proofs.lemmas.Bool.{or_right}
 use Rattle.gho_values.specs.Comparing.{compare_keys}
 use Rattle.gho_values.proofs.Orders.{keys_total}
 use Rattle.ghost_relation.specs.Applying.{AppliedAt}
@@ -32,7 +33,7 @@ use Rattle.ghost_rows.specs.Timelines.{IsDue, Migration, timeline_of}
 use Rattle.ghost_rows.specs.UnderWay.{IsUnderWay}
 use Rattle.ghost_rows.specs.Views.{GhostRows, ghost_row, is_among, view_of}
 use Rattle.plain_server.specs.Saying.{displaced}
-use Rattle.statement_laws.proofs.Tests.{or_right}
+use Rattle.least_session.proofs.Kept.{both}
 
 -- changes and then more
 pub fits_more : (schema : Schema) (changes more : List Change) (rows : List Row) → FitsAll schema rows changes → FitsAll schema (rows_after_all (key_places schema) changes rows) more → FitsAll schema rows (changes ++ more)
@@ -43,10 +44,6 @@ fits_more schema (change ∷ changes) more rows all others = (all.0, fits_more s
 pub fits_one : (schema : Schema) (change : Change) (rows : List Row) → Fits schema rows change → FitsAll schema rows (change ∷ [])
 unfolding FitsAll
 fits_one schema change rows fits = (fits, tt)
-
-pub both : {X : Type 0} (P : X → Type 0) (a b : List X) → AllByRecursion P a → AllByRecursion P b → AllByRecursion P (a ++ b)
-both P [] b front back = back
-both P (x ∷ a) b front back = (front.0, both P a b front.1 back)
 
 disjoint_one : (schema : Schema) (change : Change) (changes others : List Change) → AllDisjoint schema changes others → AllByRecursion (λ c. Disjoint schema c change) changes → AllDisjoint schema changes (others ++ (change ∷ []))
 disjoint_one schema change [] others all new = tt

@@ -11,7 +11,7 @@ use Rattle.gho_schema.specs.Tables.{Ascends}
 use Rattle.event_codec.specs.declared.event.RowEvent.{RowEvent}
 use Rattle.row_store.specs.Databases.{Database, with_change}
 use Rattle.row_store.specs.RowLists.{is_at, without_key}
-use Rattle.row_store.proofs.Orders.{Row}
+use Rattle.row_store.proofs.Orders.{Row, is_Equal}
 use Rattle.row_store.proofs.Ascending.{ascends-filter}
 use Rattle.script_text.specs.declared.script.ScriptWord.{ScriptWord}
 use Rattle.script_text.specs.declared.script.ScriptWord.TheVariants as words
@@ -20,7 +20,7 @@ use Rattle.plain_server.specs.Rows.{same_row, stands, without_row}
 use Rattle.plain_server.specs.Jobs.{table_of, job_says, after_events, change_table}
 use Rattle.history_laws.specs.Scenes.{FoundAlike, NamesTable}
 use Rattle.plain_server.specs.Alone.{line_says, Ran, lines_run}
-use Rattle.statement_laws.proofs.Standing.{is_Equal, one_row, same_itself, stands-filter, one_list}
+use Rattle.statement_laws.proofs.Standing.{one_row, same_itself, stands-filter, one_list}
 use Rattle.statement_laws.proofs.Finding.{found_after}
 use Rattle.statement_laws.proofs.Stables.{one_more, more_alike}
 

@@ -6,7 +6,8 @@ use Rattle.std.proofs.lemmas.Bool.Decides.{nat_tests}
 use Rattle.row_locks.specs.declared.lock.Lock.{Lock}
 use Rattle.row_locks.specs.declared.lock.HeldLock.{HeldLock}
 use Rattle.row_locks.specs.Holding.{held_by}
-use Rattle.row_locks.specs.Granting.{conflict, refusal, least, refuser_of_lock, refuser_of_set}
+use Rattle.row_locks.specs.Granting.{conflict, refusal, refuser_of_lock, refuser_of_set}
+use Rattle.least_session.proofs.Sessions.{none_of, not_refused}
 use Rattle.row_locks.proofs.HeldLocks.{conflict_both_ways}
 use Rattle.plain_server.specs.declared.session.Session.{Session}
 use Rattle.statement_laws.specs.Agreeing.{Among}
@@ -98,12 +99,6 @@ opened_live false tool number state is = at (is_some (session_of number state.se
   at true live = live
   at false live = joined_live tool number state.sessions
 
--- what a grant says
-pub none_of : (a b : Option ℕ) → least a b ≡ None → (a ≡ None) × (b ≡ None)
-none_of None b is = (refl, is)
-none_of (Some a) None is = absurd (cc)
-none_of (Some a) (Some b) is = absurd (cc)
-
 lock_parts : (a b : List HeldLock) (number : ℕ) (lock : Lock) → refuser_of_lock (a ++ b) number lock ≡ None → (refuser_of_lock a number lock ≡ None) × (refuser_of_lock b number lock ≡ None)
 unfolding refuser_of_lock
 lock_parts [] b number lock is = (refl, is)
@@ -111,11 +106,6 @@ lock_parts (x ∷ a) b number lock is =
     let both = none_of (refusal number lock x) (refuser_of_lock (a ++ b) number lock) is in
     let rest = lock_parts a b number lock both.1 in
     (rw (both.0, rest.0) refl, rest.1)
-
-not_refused : (own conflicts : Bool) (session : ℕ) → cond (not own && conflicts) (Some session) None ≡ None → own ≡ false → conflicts ≡ false
-not_refused true conflicts session e other = absurd (true≢false other)
-not_refused false true session e other = absurd (cc)
-not_refused false false session e other = refl
 
 own_apart : (holder : ℕ) (locks : List Lock) (number : ℕ) (lock other : Lock) → refuser_of_lock (map (held_by holder) locks) number lock ≡ None → (holder == number) ≡ false → Among other locks → conflict other lock ≡ false
 unfolding refuser_of_lock refusal

@@ -2,7 +2,7 @@
 -- what a grant tells.
 use Rattle.std.proofs.Common.{◌≡◌, ◌⊎◌, ℕ, Bool, true, false, not, ◌&&◌, ◌||◌, List, [], ◌∷◌, ◌++◌, map, filter, cond, Option, Some, None, refl, sym, ap, ◌∙◌, subst, inl, inr, arith}
 use Rattle.std.specs.Prelude.{◌==◌}
-use Rattle.std.proofs.lemmas.Bool.{false≢true, true≢false}
+use Rattle.std.proofs.lemmas.Bool.{false≢true, true≢false, or_right}
 use Rattle.std.proofs.lemmas.Bool.Decides.{nat_tests}
 use Rattle.std.specs.List.{list_any}
 use Rattle.std.specs.Str.{bytes_eq}
@@ -11,13 +11,15 @@ use Rattle.metadata_locks.specs.Granting as grants
 use Rattle.metadata_locks.specs.Granting.{holds, holding_session, least_holder, refuser_of_name, refuser_of_names, ahead_of, least_waiter}
 use Rattle.plain_server.specs.declared.session.Session.{Session}
 use Rattle.plain_server.specs.declared.session.HeldName.{HeldName}
+use Rattle.least_session.specs.Least.{least}
+use Rattle.least_session.proofs.Sessions.{none_of}
 use Rattle.history_laws.specs.Holdings.{face_of, face_in, names_of, IsHeld, OneHolder}
 use Rattle.std.specs.Prelude.{is_some}
 use Rattle.plain_server.specs.States.{connected, State, name_held, names_held, new_session, session_of, shared_names, with_session}
 use Rattle.plain_server.specs.declared.need.Need.{Need}
 use Rattle.plain_server.specs.Serving.{at_rest, counting, exclusive, holding, locking, shared, unlocking}
 use Rattle.journal_words.specs.Journals.{opens_if}
-use Rattle.statement_laws.proofs.Tests.{same_number, are_one, are_same, turned_bytes, or_right}
+use Rattle.statement_laws.proofs.Tests.{same_number, are_one, are_same, turned_bytes}
 
 -- a held name among two lists
 pub held_parts : (one : grants.HeldName) (a b : List grants.HeldName) → IsHeld one (a ++ b) → IsHeld one a ⊎ IsHeld one b
@@ -189,12 +191,6 @@ opened_one nothing tool number state is = at (nothing || is_some (session_of num
   at true = is
   at false = subst OneHolder (sym (held_joined state.sessions number tool)) is
 
--- what a grant of names tells
-none_of : (a b : Option ℕ) → grants.least a b ≡ None → (a ≡ None) × (b ≡ None)
-none_of None b is = (refl, is)
-none_of (Some a) None is = absurd (cc)
-none_of (Some a) (Some b) is = absurd (cc)
-
 not_on : (own same exclusive asked : Bool) (session : ℕ) → cond (not own && (same && (exclusive || not asked))) (Some session) None ≡ None → own ≡ false → (exclusive || not asked) ≡ true → same ≡ false
 not_on true same exclusive asked session e other may = absurd (true≢false other)
 not_on false false exclusive asked session e other may = refl
@@ -243,7 +239,7 @@ name_free held waiting number true name other is none there differ may = at (hol
   any true = refl
   any false = refl
 
-  at : (b : Bool) → holds held number name true ≡ b → cond b None (grants.least (least_holder held number name false) (least_waiter (ahead_of number waiting) number name)) ≡ None → bytes_eq other.name name ≡ false
+  at : (b : Bool) → holds held number name true ≡ b → cond b None (least (least_holder held number name false) (least_waiter (ahead_of number waiting) number name)) ≡ None → bytes_eq other.name name ≡ false
   at true own none =
       let mine : Holder held number name = holder_from held number name own in
       let off : bytes_eq other.name mine.one.name ≡ false = is mine.one other mine.is there mine.exclusive (ap (λ (n : ℕ). other.session == n) (are_one mine.one.session number mine.own) ∙ differ) in

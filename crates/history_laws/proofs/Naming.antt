@@ -5,7 +5,7 @@ use Rattle.std.specs.Prelude.{◌==◌, ◌-◌, codes, option_map, unwrap_or}
 use Rattle.std.specs.List.{AllByRecursion, list_any, flat_map, slice_get}
 use Rattle.std.specs.Option.{option_to_list}
 use Rattle.std.specs.Str.{bytes_eq}
-use Rattle.std.proofs.lemmas.Bool.{false≢true, true≢false}
+use Rattle.std.proofs.lemmas.Bool.{false≢true, true≢false, or_left, or_right}
 use Rattle.std.proofs.lemmas.List.Folds.{list_any-append}
 use Rattle.event_codec.specs.declared.event.RowEvent.{RowEvent}
 use Rattle.row_store.specs.Databases.{TableRows, Database, find_table, is_named, with_change}
@@ -22,7 +22,7 @@ use Rattle.journal_words.specs.Serials as serials
 use Rattle.std.proofs.Common.{append_assoc, append-nil}
 use Rattle.history_laws.specs.Scenes.{PlainItem, Txn, Alter, Stored, Scene, is_mine, NamesTable, Leads, Serial, tables_left}
 use Rattle.history_laws.specs.Plans.{client_tables, names_of, script_names, client_names, IsSerialPlan}
-use Rattle.statement_laws.proofs.Tests.{same_bytes, are_same, or_left, or_right, nor_right}
+use Rattle.statement_laws.proofs.Tests.{same_bytes, are_same, nor_right}
 
 -- A NAME AMONG OTHERS
 

@@ -27,7 +27,8 @@ use Rattle.history_laws.specs.Holdings.{face_of, stored}
 use Rattle.plain_server.specs.Alone.{line_says}
 use Rattle.history_laws.proofs.Replies.{given_so, done_so, line_replies_so}
 use Rattle.history_laws.proofs.Kept.{serial-more, serial-alike}
-use Rattle.history_laws.proofs.Faces.{granted_apart, none_of}
+use Rattle.least_session.proofs.Sessions.{none_of}
+use Rattle.history_laws.proofs.Faces.{granted_apart}
 use Rattle.history_laws.proofs.Held.{hold_in}
 use Rattle.history_laws.proofs.Names.{Free, OneIn, as_needed, granted_free, names_granted, one_goes, one_rests, one_locks, one_unlocks}
 use Rattle.history_laws.proofs.Moves.{Moved, create_moves, drop_moves, rename_moves}

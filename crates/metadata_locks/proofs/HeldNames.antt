@@ -8,7 +8,10 @@ use Rattle.std.proofs.lemmas.Cmp.{nat_list_eq_equiv}
 use Rattle.std.proofs.lemmas.List.Elements.{All-from_recursion}
 use Rattle.std.proofs.lemmas.List.Kept.{AllPairs-cons}
 use Rattle.metadata_locks.specs.declared.request.Waiter.{Waiter}
-use Rattle.metadata_locks.specs.Granting.{HeldName, Place, place_of, ahead_of, holds, is_on, least, holding_session, least_holder, least_waiter, refuser_of_name, refuser_of_names}
+use Rattle.metadata_locks.specs.Granting.{HeldName, Place, place_of, ahead_of, holds, is_on, holding_session, least_holder, least_waiter, refuser_of_name, refuser_of_names}
+use Rattle.least_session.specs.Least.{least}
+use Rattle.least_session.proofs.Kept.{both, kept}
+use Rattle.least_session.proofs.Sessions.{none_of, not_refused, others}
 use Rattle.metadata_locks.specs.Holding.{NameTable, LastAsk, held_by, added, asked_by, refuser_of, polled_by, polled_at, freed_if, is_known, undone_last, ended_at, held_before}
 use Rattle.metadata_locks.specs.Laws.{Call, called, no_names, Bear, HeldNamesBear}
 use Rattle.metadata_locks.specs.Laws.Call.{Ask, Poll, Free, Undo, End}
@@ -21,10 +24,6 @@ Apart (a ∷ held) = AllByRecursion (Bear a) held × Apart held
 pairs : (held : List HeldName) → Apart held → AllPairs Bear held
 pairs [] apart = λ i j d before within. absurd (omega arith)
 pairs (a ∷ held) apart = AllPairs-cons Bear a held (All-from_recursion (Bear a) held apart.0) (pairs held apart.1)
-
-both : {X : Type 0} (P : X → Type 0) (xs ys : List X) → AllByRecursion P xs → AllByRecursion P ys → AllByRecursion P (xs ++ ys)
-both P [] ys p q = q
-both P (x ∷ xs) ys p q = (p.0, both P xs ys p.1 q)
 
 -- each lock of the first list is compatible with all of the second
 abbrev Across : List HeldName → List HeldName → Type 0
@@ -43,22 +42,8 @@ alone : (session : ℕ) (exclusive : Bool) (names : List (List ℕ)) → Apart (
 alone session exclusive [] = tt
 alone session exclusive (name ∷ names) = (own session exclusive name names, alone session exclusive names)
 
-none_of : (a b : Option ℕ) → least a b ≡ None → (a ≡ None) × (b ≡ None)
-none_of None None e = (refl, refl)
-none_of None (Some b) e = absurd cc
-none_of (Some a) None e = absurd cc
-none_of (Some a) (Some b) e = absurd cc
-
-others : (m n : ℕ) → m ≢ n → nat_eq m n ≡ false
-others m n other = grind (arith, nat_tests)
-
 alike : (m n : ℕ) → nat_eq m n ≡ true → m ≡ n
 alike m n e = grind (arith, nat_tests)
-
-not_refused : (own on : Bool) (session : ℕ) → cond (not own && on) (Some session) None ≡ None → own ≡ false → on ≡ false
-not_refused true on session e other = absurd cc
-not_refused false true session e other = absurd cc
-not_refused false false session e other = refl
 
 -- no other session that holds the name refuses it
 abbrev Free_of : List HeldName → ℕ → List ℕ → Bool → Type 0
@@ -184,14 +169,6 @@ of_rest a held session exclusive (name ∷ names) bears = (bears.0.1, of_rest a 
 across : (held : List HeldName) (session : ℕ) (exclusive : Bool) (names : List (List ℕ)) → AllByRecursion (λ name. Bears held (held_by session exclusive name)) names → Across held (map (held_by session exclusive) names)
 across [] session exclusive names bears = tt
 across (a ∷ held) session exclusive names bears = (of_first a held session exclusive names bears, across held session exclusive names (of_rest a held session exclusive names bears))
-
-kept_if : {X : Type 0} (P : X → Type 0) (passes : Bool) (x : X) (xs : List X) → P x → AllByRecursion P xs → AllByRecursion P (cond passes (x ∷ xs) xs)
-kept_if P true x xs p ps = (p, ps)
-kept_if P false x xs p ps = ps
-
-kept : {X : Type 0} (P : X → Type 0) (passes : X → Bool) (xs : List X) → AllByRecursion P xs → AllByRecursion P (filter passes xs)
-kept P passes [] p = tt
-kept P passes (x ∷ xs) p = kept_if P (passes x) x (filter passes xs) p.0 (kept P passes xs p.1)
 
 thinned_if : (passes : Bool) (a : HeldName) (held : List HeldName) → AllByRecursion (Bear a) held → Apart held → Apart (cond passes (a ∷ held) held)
 thinned_if true a held p apart = (p, apart)

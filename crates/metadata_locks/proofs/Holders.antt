@@ -4,19 +4,11 @@ use Rattle.std.specs.Cmp.Lexicographic.{pointwise}
 use Rattle.std.proofs.lemmas.List.{drop_more, drop_all}
 use Rattle.std.proofs.lemmas.List.Folds.{list_any-append}
 use Rattle.metadata_locks.specs.declared.request.Request.{Request}
-use Rattle.metadata_locks.specs.Granting.{HeldName, has_name, is_on, holds, least, holding_session, least_holder, holder_of}
+use Rattle.metadata_locks.specs.Granting.{HeldName, has_name, is_on, holds, holding_session, least_holder, holder_of}
+use Rattle.least_session.specs.Least.{least}
+use Rattle.least_session.proofs.Sessions.{least-least, least-none}
 use Rattle.metadata_locks.specs.Holding.{held_by}
 use Rattle.metadata_locks.specs.Requests.{locks_of}
-
-pub least-least : (a b c : Option ℕ) → least (least a b) c ≡ least a (least b c)
-least-least None b c = refl
-least-least (Some a) None c = refl
-least-least (Some a) (Some b) None = refl
-least-least (Some a) (Some b) (Some c) = ap Some (omega arith)
-
-pub least-none : (a : Option ℕ) → least a None ≡ a
-least-none None = refl
-least-none (Some a) = refl
 
 no_name : (other strong : Bool) (s : ℕ) → None ≡ cond (other && (false && strong)) (Some s) None
 no_name true strong s = refl

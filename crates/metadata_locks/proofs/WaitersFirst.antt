@@ -2,37 +2,26 @@
 use Rattle.std.proofs.Common.{◌≡◌, ◌≢◌, ℕ, Bool, true, false, not, nat_eq, ◌&&◌, cond, List, [], ◌∷◌, ◌++◌, Option, Some, None, refl, sym, ap, ◌∙◌, arith}
 use Rattle.std.proofs.lemmas.Bool.Decides.{nat_tests}
 use Rattle.metadata_locks.specs.declared.request.Waiter.{Waiter}
-use Rattle.metadata_locks.specs.Granting.{has_name, holds, least, waiting_session, least_holder, least_waiter, refuser_of_name}
+use Rattle.metadata_locks.specs.Granting.{has_name, holds, waiting_session, least_holder, least_waiter, refuser_of_name}
+use Rattle.least_session.specs.Least.{least}
+use Rattle.least_session.proofs.Sessions.{none_of, others}
 use Rattle.metadata_locks.specs.Laws.{WaitersGoFirst}
-
-first_none : (a b : Option ℕ) → least a b ≡ None → a ≡ None
-first_none None b e = refl
-first_none (Some a) None e = absurd cc
-first_none (Some a) (Some b) e = absurd cc
-
-second_none : (a b : Option ℕ) → least a b ≡ None → b ≡ None
-second_none None b e = e
-second_none (Some a) None e = absurd cc
-second_none (Some a) (Some b) e = absurd cc
 
 refuses : (own named : Bool) (session : ℕ) → own ≡ false → named ≡ true → cond (not own && named) (Some session) None ≡ None → ⊥
 refuses true named session e f g = absurd cc
 refuses false true session e f g = cc
 refuses false false session e f g = absurd cc
 
-others : (m n : ℕ) → m ≢ n → nat_eq m n ≡ false
-others m n other = grind (arith, nat_tests)
-
 waits : (front behind : List Waiter) (waiter : Waiter) (session : ℕ) (name : List ℕ) → has_name waiter.names name ≡ true → waiter.session ≢ session → least_waiter (front ++ waiter ∷ behind) session name ≢ None
 unfolding least_waiter
 waits [] behind waiter session name named other e =
-    refuses (nat_eq waiter.session session) (has_name waiter.names name) waiter.session (others waiter.session session other) named (first_none (waiting_session session name waiter) (least_waiter behind session name) e)
+    refuses (nat_eq waiter.session session) (has_name waiter.names name) waiter.session (others waiter.session session other) named ((none_of (waiting_session session name waiter) (least_waiter behind session name) e).0)
 waits (first ∷ front) behind waiter session name named other e =
-    waits front behind waiter session name named other (second_none (waiting_session session name first) (least_waiter (front ++ waiter ∷ behind) session name) e)
+    waits front behind waiter session name named other ((none_of (waiting_session session name first) (least_waiter (front ++ waiter ∷ behind) session name) e).1)
 
 pub waiters_go_first : WaitersGoFirst
 unfolding refuser_of_name
 waiters_go_first held front behind waiter session name named other lacks e =
     let waiting : List Waiter = front ++ waiter ∷ behind in
-    let rest : cond (holds held session name false) None (least_waiter waiting session name) ≡ None = second_none (least_holder held session name true) (cond (holds held session name false) None (least_waiter waiting session name)) e in
+    let rest : cond (holds held session name false) None (least_waiter waiting session name) ≡ None = (none_of (least_holder held session name true) (cond (holds held session name false) None (least_waiter waiting session name)) e).1 in
     waits front behind waiter session name named other (sym (ap (λ holding. cond holding None (least_waiter waiting session name)) lacks) ∙ rest)

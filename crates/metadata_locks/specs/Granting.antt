@@ -1,8 +1,9 @@
 -- Which locks on names are granted. Shared and exclusive metadata locks are as MySQL's manual has them ("Metadata Locking"); that all locks of a call are granted whole, and that a waiting exclusive request goes ahead of whatever comes later, is this project's rule.
-use Rattle.std.specs.Prelude.{ℕ, Bool, true, false, ◌&&◌, ◌||◌, not, if◌then◌else◌, ◌==◌, nat_eq, min, List, [], ◌∷◌, Option, Some, None}
+use Rattle.std.specs.Prelude.{ℕ, Bool, true, false, ◌&&◌, ◌||◌, not, if◌then◌else◌, ◌==◌, nat_eq, List, [], ◌∷◌, Option, Some, None}
 use Rattle.std.specs.Cmp.Lexicographic.{pointwise}
 use Rattle.std.specs.List.{list_any}
 use Rattle.std.specs.Option.{option_map}
+use Rattle.least_session.specs.Least.{least}
 use Rattle.metadata_locks.specs.declared.request.Waiter.{Waiter}
 use Rattle.metadata_locks.specs.declared.request.Asked2.{Asked2}
 use Rattle.metadata_locks.specs.declared.request.Asked2.TheVariants as answers
@@ -24,12 +25,6 @@ is_on held name exclusive = pointwise nat_eq held.name name && (held.exclusive |
 -- The session holds the name, exclusively where that is asked.
 unfoldable pub holds : List HeldName → ℕ → List ℕ → Bool → Bool
 holds held session name exclusive = list_any (λ other. other.session == session && is_on other name exclusive) held
-
--- The lesser of two sessions, or the one that is there.
-abbrev pub least : Option ℕ → Option ℕ → Option ℕ
-least None b = b
-least (Some a) None = Some a
-least (Some a) (Some b) = Some (min a b)
 
 -- The session of the lock, where it is another one and the lock is on the name, exclusive where that is asked.
 abbrev pub holding_session : ℕ → List ℕ → Bool → HeldName → Option ℕ

@@ -202,10 +202,7 @@ impl MetaLocks {
             names: waiter.names,
             exclusive: true,
         };
-        match self.granted.push(request) {
-            Ok(()) => {}
-            Err(_) => unreachable!(),
-        }
+        self.granted.push_reserved(request);
         self.last = Some(Mark {
             session,
             exclusive: true,

@@ -1,23 +1,13 @@
 //! Who refuses a name.
 
 ghost use Rattle.std.specs.Prelude.{◌≡◌, true, false};
-ghost use Rattle.metadata_locks.specs.Granting.{least, holds, least_holder, least_waiter, waiting_session, holder_of, refuser_of_name, refuser_of_names};
+ghost use Rattle.metadata_locks.specs.Granting.{holds, least_holder, least_waiter, waiting_session, holder_of, refuser_of_name, refuser_of_names};
 ghost use Rattle.metadata_locks.specs.Requests.{all_locks};
 
 use crate::request::{Request, Waiter, has_name};
 use crate::waiting::ahead_of;
 use gho_values::Name;
-
-/// The lesser of two sessions, or the one that is there.
-fn least(a: Option<u32>, b: Option<u32>) -> Option<u32>
-    ensures { result ≡ least a b }
-{
-    match (a, b) {
-        (Some(a), Some(b)) => Some(a.min(b)),
-        (None, b) => b,
-        (a, None) => a,
-    }
-}
+use least_session::least;
 
 /// Whether the session holds the name, exclusively where that is asked.
 #[tactic(auto, using(crate::proofs::Holders::of_all))]

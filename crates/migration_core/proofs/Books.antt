@@ -16,6 +16,7 @@ use Rattle.tool_program.specs.declared.tool.Tool.{Tool}
 use Rattle.tool_program.specs.declared.tool.Tool.TheVariants.{Creating}
 use Rattle.tool_program.specs.Programs.{session_named, Progress, progress, after_turn}
 use Rattle.tool_program.specs.Orders.{actors, clients_from, last_actor}
+use Rattle.tool_program.proofs.Journals.{progress-more}
 use Rattle.migration_core.specs.declared.seat.ActorState.{ActorState}
 use Rattle.migration_core.specs.Books.{seat_at, marked, place_of, IsBook}
 
@@ -90,10 +91,6 @@ seats-more journal entry [] = refl
 seats-more journal entry (actor ∷ all) =
     ap (λ seat. seat ∷ map (marked entry.actor entry.session) (map (seat_at journal) all)) (seat-more actor journal entry (same_actor entry.actor actor) refl)
     ∙ ap (λ others. seat_at (journal ++ (entry ∷ [])) actor ∷ others) (seats-more journal entry all)
-
-pub progress-more : (plan : PlanData) (journal : List Entry) (entry : Entry) → progress plan (journal ++ (entry ∷ [])) ≡ after_turn plan (progress plan journal) entry
-unfolding progress
-progress-more plan journal entry = fold-append (after_turn plan) (record { turns = 0; tool = Creating }) journal (entry ∷ [])
 
 last-more : (journal : List Entry) (entry : Entry) → last_actor (journal ++ (entry ∷ [])) ≡ Some entry.actor
 unfolding last_actor

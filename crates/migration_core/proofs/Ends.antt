@@ -14,32 +14,13 @@ use Rattle.tool_program.specs.declared.tool.Tool.{Tool}
 use Rattle.tool_program.specs.declared.tool.Tool.TheVariants.{Creating, Reaching, Choosing, Spanning, Copying, Renaming, Done, Reverting, Reverted}
 use Rattle.tool_program.specs.Programs.{progress, tool_actor, tool_call, tool_asks, is_none, over_from, clients_over, given, is_over, has_ended}
 use Rattle.tool_program.specs.Orders.{actors, clients_from, behind_last, last_actor, is_some, is_ready, next_actor}
-use Rattle.migration_core.proofs.Givens.{given_to_tool}
-
-found_at : {X : Type 0} (b : Bool) (y x : X) (more : Option X) → cond b (Some y) more ≡ Some x → (P : X → Type 0) → (b ≡ true → P y) → (more ≡ Some x → P x) → P x
-found_at true y x more some P here there = let same : y ≡ x = cc in subst P same (here refl)
-found_at false y x more some P here there = there some
-
-found_passes : {X : Type 0} (test : X → Bool) (all : List X) (x : X) → find test all ≡ Some x → test x ≡ true
-found_passes test [] x some = absurd (cc)
-found_passes test (y ∷ all) x some = found_at (test y) y x (find test all) some (λ z. test z ≡ true) (λ e. e) (found_passes test all x)
+use Rattle.tool_program.proofs.Found.{all-back, none_at, none_found, some_at, some_found}
+use Rattle.tool_program.proofs.Journals.{given_to_tool}
 
 -- the next actor is ready
 pub next_is_ready : (plan : PlanData) (journal : List Entry) (actor : Actor) → next_actor plan journal ≡ Some actor → is_ready plan journal actor ≡ true
 unfolding next_actor
-next_is_ready plan journal actor some = found_passes (is_ready plan journal) (behind_last (last_actor journal) (actors plan) ++ actors plan) actor some
-
-none_at : {X : Type 0} (b : Bool) (y : X) (more : Option X) → cond b (Some y) more ≡ None → (b ≡ false) × (more ≡ None)
-none_at true y more none = absurd (cc)
-none_at false y more none = (refl, none)
-
-none_passes : {X : Type 0} (test : X → Bool) (all : List X) → find test all ≡ None → AllByRecursion (λ y. test y ≡ false) all
-none_passes test [] none = tt
-none_passes test (y ∷ all) none = let parts = none_at (test y) y (find test all) none in (parts.0, none_passes test all parts.1)
-
-all_back : {X : Type 0} (P : X → Type 0) (a b : List X) → AllByRecursion P (a ++ b) → AllByRecursion P b
-all_back P [] b all = all
-all_back P (x ∷ a) b all = all_back P a b all.1
+next_is_ready plan journal actor some = some_found (is_ready plan journal) (behind_last (last_actor journal) (actors plan) ++ actors plan) actor some
 
 -- nobody is ready
 abbrev Rests : PlanData → List Entry → List Actor → Type 0
@@ -48,8 +29,8 @@ Rests plan journal all = AllByRecursion (λ actor. is_ready plan journal actor �
 none_ready : (plan : PlanData) (journal : List Entry) → next_actor plan journal ≡ None → Rests plan journal (actors plan)
 unfolding next_actor
 none_ready plan journal none =
-    all_back (λ actor. is_ready plan journal actor ≡ false) (behind_last (last_actor journal) (actors plan)) (actors plan)
-    (none_passes (is_ready plan journal) (behind_last (last_actor journal) (actors plan) ++ actors plan) none)
+    all-back (λ actor. is_ready plan journal actor ≡ false) (behind_last (last_actor journal) (actors plan)) (actors plan)
+    (none_found (is_ready plan journal) (behind_last (last_actor journal) (actors plan) ++ actors plan) none)
 
 none_of : (asked : Option Asked) → is_some asked ≡ false → is_none asked ≡ true
 none_of None is = refl

@@ -11,22 +11,9 @@ use Rattle.plan_words.specs.PlanData.{PlanData, plan_altered}
 use Rattle.plan_words.specs.Journals.{same_actor, is_client, turns_of, script_of, script_asks, client_asks}
 use Rattle.tool_program.specs.Programs.{progress, tool_actor, tool_asks, clients_over, given}
 use Rattle.tool_program.specs.Orders.{actors}
+use Rattle.tool_program.proofs.Journals.{tool_given, given_to_tool}
 use Rattle.migration_core.specs.Books.{place_of}
 use Rattle.migration_core.proofs.Books.{client_stands}
-
--- what the tool is given: its next call, once the clients are over
-abbrev pub tool_given : PlanData → List Entry → Actor → Option Asked
-tool_given plan journal actor = cond (same_actor (tool_actor (progress plan journal).tool) actor && clients_over plan journal) (tool_asks plan (plan_altered plan) (progress plan journal).tool) None
-
-pub given_to_tool : (plan : PlanData) (journal : List Entry) (actor : Actor) → is_client actor ≡ false → given plan journal actor ≡ tool_given plan journal actor
-unfolding given
-given_to_tool plan journal Op is = refl
-given_to_tool plan journal Insp is = refl
-given_to_tool plan journal Copy is = refl
-given_to_tool plan journal Apply is = refl
-given_to_tool plan journal Lock is = refl
-given_to_tool plan journal Ren is = refl
-given_to_tool plan journal (Client client) is = absurd (true≢false is)
 
 asks_stands : (plan : PlanData) (client turns : ℕ) (asked : Asked) (script : Option (List ScriptLine)) → script_of client plan ≡ script → script_asks turns script ≡ Some asked → slice_get (actors plan) (place_of (Client client)) ≡ Some (Client client)
 asks_stands plan client turns asked None is asks = absurd (cc)

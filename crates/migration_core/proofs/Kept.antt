@@ -15,13 +15,10 @@ use Rattle.plan_words.specs.PlanData.{PlanData}
 use Rattle.plan_words.specs.Journals.{opening, is_client, same_actor, after_entry, state_at, IsAnswered, IsFaithful, TakesLine, IsPlanned, KeepsPlan}
 use Rattle.tool_program.specs.Programs.{given, session_named, session_for, IsGiven, Follows}
 use Rattle.tool_program.specs.Orders.{is_some}
+use Rattle.tool_program.proofs.Journals.{state-more}
 use Rattle.migration_core.specs.Runs.{opened_for, connected_for, served, turn_of, with_turn, journal_after, IsKept}
 use Rattle.migration_core.proofs.Books.{named-more}
 use Rattle.migration_core.proofs.Sessions.{live, SameSessions, asked_same, Opened, opened_before, opened_new}
-
-state-more : (plan : PlanData) (journal : List Entry) (entry : Entry) → state_at plan (journal ++ (entry ∷ [])) ≡ after_entry (state_at plan journal) entry
-unfolding state_at
-state-more plan journal entry = fold-append after_entry (opening plan) journal (entry ∷ [])
 
 pub state_none : (plan : PlanData) → state_at plan [] ≡ opening plan
 unfolding state_at

@@ -1,6 +1,5 @@
 -- *Online*: the clients' table is used while the migration goes on, and changed by two calls alone. (gh-ost, "Triggerless
--- design", "Throttle", "Cut-over".) Of the tool's steps these are named: C1 asks where a chunk ends, A1 reads the log, L1
--- makes the sentry, L2 locks the tables, M1 asks for the RENAME.
+-- design", "Throttle", "Cut-over".)
 use Rattle.std.specs.Prelude.{◌≡◌, ℕ, ◌+◌, nat_le, Bool, true, false, ◌&&◌, ◌||◌, not, if◌then◌else◌, List, [], fold, Option, Some, None}
 use Rattle.std.specs.List.{list_any, list_all}
 use Rattle.std.specs.Str.{bytes_eq}
@@ -49,7 +48,7 @@ abbrev pub sized : OperatorWord → ℕ → ℕ
 sized (ChunkSize size) old = size
 sized word old = old
 
--- since the last C1: the size that stood there, and how many rows were copied
+-- since the last call that asked where a chunk ends: the size that stood there, and how many rows were copied
 pub record Copied : Type 0 where
   pub standing : ℕ
   pub size : ℕ
@@ -64,7 +63,7 @@ copied_after asked copied = copied
 unfoldable pub copied_at : PlanData → List Entry → Copied
 copied_at plan journal = fold (λ copied entry. copied_after entry.asked copied) (record { standing = plan.options.chunk_size; size = 0; rows = 0 }) journal
 
--- *Chunks are small*: no chunk copies more rows than the size that stood at its C1
+-- *Chunks are small*: no chunk copies more rows than the size that stood when its end was asked for
 abbrev pub is_small : PlanData → List Entry → Request → Bool
 is_small plan before (requests.CopyRow from into map key) = nat_le ((copied_at plan before).rows + 1) (copied_at plan before).size
 is_small plan before request = true
@@ -73,7 +72,7 @@ is_small plan before request = true
 abbrev pub asked_exclusively : Request → List (List ℕ)
 asked_exclusively request = if is_exclusive request then names_in request else []
 
--- L2 and M1
+-- the lock on the tables, and the RENAME
 abbrev pub may_exclude : Actor → Request → Bool
 may_exclude Lock (requests.LockTables names) = true
 may_exclude Ren (requests.Rename pairs) = true
@@ -83,7 +82,7 @@ abbrev pub attempt_goes_on : Course → Bool
 attempt_goes_on (SettingUp setup tries) = false
 attempt_goes_on (Migrating work) = may_succeed work.cutover.phase
 
--- the migrated table is asked for exclusively by L2 and M1 alone, inside an attempt
+-- the migrated table is asked for exclusively by these two alone, inside an attempt
 abbrev pub excludes_well : PlanData → Moment → Actor → Request → Bool
 excludes_well plan now actor request =
     if list_any (bytes_eq plan.table) (asked_exclusively request) then may_exclude actor request && attempt_goes_on now.tool.course else true
@@ -93,7 +92,7 @@ abbrev pub is_near : PlanData → Moment → Course → Bool
 is_near plan now (SettingUp setup tries) = false
 is_near plan now (Migrating work) = work.copier.is_copied && nat_le (unread_in now.server work) plan.options.max_backlog
 
--- L1 comes only then
+-- the sentry is made only then
 abbrev pub guards_well : PlanData → Moment → Actor → Request → Bool
 guards_well plan now Lock (requests.Create schema) = is_near plan now now.tool.course
 guards_well plan now actor request = true
@@ -102,7 +101,7 @@ abbrev pub attempt_stands : Course → Bool
 attempt_stands (SettingUp setup tries) = false
 attempt_stands (Migrating work) = stands work.cutover.phase
 
--- C1, L1, and outside an attempt A1
+-- to ask where a chunk ends, to make the sentry, and outside an attempt to read the log
 abbrev pub is_throttleable : Moment → Actor → Request → Bool
 is_throttleable now Copy (requests.ChunkEnd table low top size) = true
 is_throttleable now Lock (requests.Create schema) = true

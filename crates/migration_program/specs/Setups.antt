@@ -1,6 +1,6 @@
--- *The setup*: what the inspector does before the copy begins. S1 lists the tables; S2 drops what an earlier migration
--- left; S3 and S4 make the changelog and the new table; S5 asks for the log's end, where the applier begins; and S6, after
--- it, for the range of keys that is copied.
+-- *The setup*: what the inspector does before the copy begins. It lists the tables; drops what an earlier migration left;
+-- makes the changelog and the new table; asks for the log's end, where the applier begins; and, after that, for the range
+-- of keys that is copied.
 use Rattle.std.specs.Prelude.{ℕ, if◌then◌else◌, List, Option, Some, None}
 use Rattle.plain_server.specs.declared.request.Request.{Request}
 use Rattle.plain_server.specs.declared.request.Request.TheVariants as requests
@@ -16,17 +16,17 @@ use Rattle.cutover_core.specs.Attempts.{has_name, first_name, without_first, is_
 use Rattle.cutover_core.specs.CutOvers.{is_bad}
 
 pub data Setup : Type 0 where
-  -- S1
+  -- the tables are listed
   Listing : Setup
-  -- S2, of the first that is left
+  -- the first table that is left is dropped
   Clearing : Leftovers → Setup
-  -- S3
+  -- the changelog is made
   MakingLog : Setup
-  -- S4
+  -- the new table is made
   MakingGhost : Setup
-  -- S5
+  -- the log's end is asked for
   Marking : Setup
-  -- S6; the log ended here
+  -- the range of keys is asked for; the log ended here
   Reaching : ℕ → Setup
   -- the applier begins here, and this range is copied
   Ready : ℕ → Option KeyRange → Setup

@@ -1,6 +1,7 @@
 -- Tests that fail from some entry on, and the place where they begin to.
-use Rattle.std.proofs.Common.{◌≡◌, ℕ, zero, suc, ◌+◌, ◌<◌, ◌≤◌, Bool, true, false, cond, List, [], ◌∷◌, ◌++◌, length, get_or, refl, arith}
-use Rattle.std.specs.List.{AllByRecursion, prefix_len}
+use Rattle.std.proofs.Common.{◌≡◌, ℕ, zero, suc, ◌+◌, ◌<◌, ◌≤◌, ◌-◌, Some, Bool, true, false, cond, List, [], ◌∷◌, ◌++◌, length, get_or, refl, arith}
+use Rattle.std.specs.List.{AllByRecursion, prefix_len, slice_get}
+use Rattle.std.proofs.lemmas.Option.{get_or_from_slice_get}
 use Rattle.std.specs.List.Sorted.{IsPartitionedBy, IsPartitionPoint}
 use Rattle.paged_list.specs.Pages.{FailsOn}
 
@@ -32,6 +33,15 @@ module _ {X : Type 0} where
       let passes : test x ≡ true = parts.0 0 x (omega arith) (omega arith) in
       let others : n ≡ prefix_len test xs = point_is test xs n (omega arith) (λ k d low high. parts.0 (suc k) d (omega arith) (omega arith), λ k d low high. parts.1 (suc k) d (omega arith) (omega arith)) in
       rw passes (omega (arith, others))
+
+  -- where the last one passes, all do
+  pub all_pass : (test : X → Bool) (xs : List X) (last : X) → FailsOn test xs → slice_get xs (length xs - 1) ≡ Some last → test last ≡ true → length xs ≡ prefix_len test xs
+  all_pass test [] last fails at passes = refl
+  all_pass test (x ∷ xs) last fails at passes =
+      let before : length (x ∷ xs) - 1 ≡ length xs = omega arith in
+      let there : slice_get (x ∷ xs) (length xs) ≡ Some last = rw (← before) at in
+      point_is test (x ∷ xs) (suc (length xs)) (omega arith)
+      (λ k d low high. partitioned test (x ∷ xs) fails k (length xs) d (omega (arith, high)) (omega arith) (rw (get_or_from_slice_get (x ∷ xs) (length xs) last d there) passes), λ k d low high. absurd (omega (arith, low, high)))
 
   pub all_left : (P : X → Type 0) (xs ys : List X) → AllByRecursion P (xs ++ ys) → AllByRecursion P xs
   all_left P [] ys all = tt

@@ -50,6 +50,12 @@ fn pages_before<T: Test>(pages: &[Page], test: &T) -> usize
     requires fails { FailsOn (T.on test.now) (flat pages.now) }
     ensures { result ≡ prefix_len (first_passes (T.on test.now)) pages.now }
 {
+    // Entries are mostly put behind all others: that is tried first.
+    if let Some(last) = pages.last() {
+        if starts(test, last) {
+            return pages.len();
+        }
+    }
     pages.partition_point(|page| starts(test, page))
 }
 
@@ -59,6 +65,11 @@ fn entries_before<T: Test>(entries: &[usize], test: &T) -> usize
     ensures count { result ≡ prefix_len (T.on test.now) entries.now }
     ensures bound { result ≤ length entries.now }
 {
+    if let Some(last) = entries.last() {
+        if test.passes(*last) {
+            return entries.len();
+        }
+    }
     entries.partition_point(|entry| test.passes(*entry))
 }
 

@@ -6,7 +6,8 @@ use Rattle.gho_values.specs.declared.span.Span.{Span}
 use Rattle.gho_schema.specs.declared.schema.Schema.{Schema}
 use Rattle.gho_schema.specs.Clustering.{clustered_place}
 use Rattle.row_locks.specs.declared.lock.Lock.{Lock}
-use Rattle.row_locks.specs.Granting.{refuser_of_set, least}
+use Rattle.row_locks.specs.Granting.{refuser_of_set}
+use Rattle.least_session.specs.Least.{least}
 use Rattle.metadata_locks.specs.Granting.{refuser_of_names}
 use Rattle.row_store.specs.Databases.{TableRows, Database, find_table}
 use Rattle.plain_server.specs.declared.need.Need.{Need}

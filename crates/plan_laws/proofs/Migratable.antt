@@ -13,6 +13,7 @@ use Rattle.row_store.specs.Databases.{TableRows}
 use Rattle.table_words.specs.declared.code.SchemaCode.{SchemaCode}
 use Rattle.schema_rules.specs.Results.{◌>>=◌}
 use Rattle.schema_rules.specs.Lawful.{IsLawful}
+use Rattle.schema_rules.proofs.Steps.{some_if}
 use Rattle.schema_text.specs.Reading.{schema_at}
 use Rattle.schema_text.specs.Laws.{ReadSchemasAreLawful}
 use Rattle.alter_schema.specs.Altering.{altered}
@@ -50,10 +51,6 @@ schema_was : (read : Result Schema SchemaCode) (x : Schema) → of_table 1 read 
 schema_was (Ok y) x is = cc
 schema_was (Err code) x is = absurd (cc)
 
-tested : {A : Type 0} (b : Bool) (x y : A) → cond b (Some x) None ≡ Some y → (b ≡ true) × (x ≡ y)
-tested true x y is = (refl, cc)
-tested false x y is = absurd (cc)
-
 -- what the laws say of ALTERs that are taken
 pub record Laws : Type 0 where
   pub lawful : ReadSchemasAreLawful
@@ -77,7 +74,7 @@ accepted_is laws keys schema clauses new plan lawful alters is =
     let clients = bound (clients_in schema keys.clients) _ plan rows.goes_on in
     let table : TableRows = record { schema = schema; rows = rows.x } in
     let made : PlanData = plan_of keys clauses (table ∷ []) clients.x in
-    let all = tested (bytes_eq schema.name keys.table) made plan clients.goes_on in
+    let all = some_if (bytes_eq schema.name keys.table) made plan clients.goes_on in
     subst IsMigratable all.1 (record {
       table = table;
       only = refl;

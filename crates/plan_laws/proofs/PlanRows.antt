@@ -16,35 +16,10 @@ use Rattle.gho_schema.specs.Laws.{PutKeepsOrder}
 use Rattle.toml.specs.Data.{Items}
 use Rattle.plan_text.specs.PlanRows.{some_clash, rows_in}
 use Rattle.plan_text.proofs.RowOrder.{rows_fit}
+use Rattle.row_store.proofs.TableLaws.{clash_both}
 
 abbrev pub Row : Type 0
 Row = List Value
-
--- clashes go both ways
-even : (o back : Ordering) → back ≡ ordering_reverse o → is_eq back ≡ is_eq o
-even Less back is = rw is refl
-even Equal back is = rw is refl
-even Greater back is = rw is refl
-
-eq_then : (b x y : Bool) → (b ≡ true → x ≡ y) → (b && x) ≡ (b && y)
-eq_then true x y same = same refl
-eq_then false x y same = refl
-
-is_Equal : (o : Ordering) → is_eq o ≡ true → o ≡ Equal
-is_Equal Less is = absurd cc
-is_Equal Equal is = refl
-is_Equal Greater is = absurd cc
-
-clash_both : (uniques : List Index) (row other : Row) → clash uniques row other ≡ clash uniques other row
-clash_both [] row other = refl
-clash_both (index ∷ uniques) row other =
-    let one = key_of index.places row in
-    let two = key_of index.places other in
-    let turned : is_eq (compare_keys two one) ≡ is_eq (compare_keys one two) = even (compare_keys one two) (compare_keys two one) (keys_total.antisymm two one) in
-    let first : (is_eq (compare_keys one two) && no_null one) ≡ (is_eq (compare_keys two one) && no_null two) =
-    rw turned (eq_then (is_eq (compare_keys one two)) (no_null one) (no_null two) (λ (tied : is_eq (compare_keys one two) ≡ true). ap no_null (tied_keys one two (is_Equal (compare_keys one two) tied))))
-    in
-    rw (first, clash_both uniques row other) refl
 
 -- a row that clashes with none before it, which don't clash with it either
 none_turned : (uniques : List Index) (row : Row) (before : List Row) → list_any (clash uniques row) before ≡ false → AllByRecursion (λ other. clash uniques other row ≡ false) before

@@ -10,7 +10,9 @@ use Rattle.gho_values.proofs.Orders.{tied_keys}
 use Rattle.gho_schema.specs.declared.schema.Index.{Index}
 use Rattle.gho_schema.specs.Rows.{key_of, has_key, with_row, put}
 use Rattle.gho_schema.specs.Tables.{no_null, clash}
+use Rattle.gho_schema.proofs.Orders.{some_put}
 use Rattle.plan_text.specs.PlanRows.{some_clash}
+use Rattle.row_store.proofs.Orders.{is_Equal}
 
 abbrev pub Row : Type 0
 Row = List Value
@@ -132,14 +134,9 @@ null_clashes index row (other ∷ before) null = rw (null, null_clashes index ro
     nothing true = refl
     nothing false = refl
 
-tied : (o : Ordering) → is_eq o ≡ true → o ≡ Equal
-tied Less is = absurd (cc)
-tied Equal is = refl
-tied Greater is = absurd (cc)
-
 -- keys of which one has a null and the other none differ
 differ : (a b : List Value) (e : Bool) → is_eq (compare_keys a b) ≡ e → no_null a ≡ true → no_null b ≡ false → e ≡ false
-differ a b true is full null = absurd (false≢true (sym null ∙ ap no_null (sym (tied_keys a b (tied (compare_keys a b) is))) ∙ full))
+differ a b true is full null = absurd (false≢true (sym null ∙ ap no_null (sym (tied_keys a b (is_Equal (compare_keys a b) is))) ∙ full))
 differ a b false is full null = refl
 
 seen_null : (index : Index) (kept before : List Row) (row : Row) → no_null (key_of index.places row) ≡ false → Seen index kept before → Seen index kept (before ++ row ∷ [])
@@ -150,11 +147,6 @@ seen_null index kept before row null seen other full =
     nothing : (b : Bool) → b ≡ (b || false)
     nothing true = refl
     nothing false = refl
-
--- a row that is put has a new key
-new_put : (b : Bool) (rows new : List Row) → cond b None (Some rows) ≡ Some new → (b ≡ false) × (rows ≡ new)
-new_put true rows new is = absurd (cc)
-new_put false rows new is = (refl, cc)
 
 old_put : (b : Bool) (rows : List Row) → cond b None (Some rows) ≡ None → b ≡ true
 old_put true rows is = refl
@@ -179,7 +171,7 @@ one_left index rows i row lt is apart = rw (row_here rows i row lt is, row_befor
 pub was_put : (index : Index) (kept new rows : List Row) (i : ℕ) (row : Row) → i < length rows → row ≡ get_or rows i row → no_null (key_of index.places row) ≡ true → put index.places row kept ≡ Some new
     → SoFar index kept rows i → SoFar index new rows (i + 1)
 was_put index kept new rows i row lt is full placed so_far =
-    let parts = new_put (has_key index.places kept (key_of index.places row)) (with_row index.places row kept) new placed in
+    let parts = some_put (has_key index.places kept (key_of index.places row)) (with_row index.places row kept) new placed in
     let apart : list_any (clash (index ∷ []) row) (take i rows) ≡ false = sym (so_far.seen row full) ∙ parts.0 in
     record {
       seen = rw (← parts.1, row_before rows i row lt is) (seen_more index kept (take i rows) row so_far.seen);

@@ -204,7 +204,7 @@ begins-null false rest end = (refl, refl, refl)
 closes-default : Closes (codes " DEFAULT ") (keyword (codes "DEFAULT") ∷ [])
 closes-default rest ts lex = lex-gap 32 (codes "DEFAULT " ++ rest) _ refl (lex-word class.Name (codes "DEFAULT") (codes " " ++ rest) _ (omega arith) (λ place. front-default place rest) (lex-gap 32 rest ts refl lex))
 
-writes-text : (text : List ℕ) → Writes (printed (Text text)) (record { class = class.Text; text = printed (Text text) } ∷ [])
+pub writes-text : (text : List ℕ) → Writes (printed (Text text)) (record { class = class.Text; text = printed (Text text) } ∷ [])
 unfolding printed
 writes-text text rest ts end lex = lex-word class.Text (printed_text text) rest ts (omega arith) (λ place. front_at-printed_text place text rest (end-quote rest end)) lex
 
@@ -215,9 +215,6 @@ writes-bytes bytes small rest ts end lex = lex-word class.Bytes (printed_bytes b
 writes-num : (number : ℤ) → unsigned_abs number < 10 ^ 38 → Writes (printed (Num number)) (number_word (printed (Num number)) ∷ [])
 unfolding printed
 writes-num number few = writes-number (signed_decimal number) number (number_value-printed number few)
-
-pub writes-comment : (text : List ℕ) → Writes (printed (Text text)) (record { class = class.Text; text = printed (Text text) } ∷ [])
-writes-comment text = writes-text text
 
 writes-value : (value : Value) → CanPrintValue value → Writes (written_default value) (written_words value)
 writes-value Null can = writes-nothing

@@ -17,7 +17,7 @@ use Rattle.schema_print.specs.Printing.{quoted, column_line, key_columns, unique
 use Rattle.print_laws.specs.Laws.{CanQuoteKey, CanPrintColumn, CanPrint, PrintedSchemasHaveWords}
 use Rattle.print_laws.specs.Words.{keyword, name_word, sign_word, column_words, places_words, unique_words, index_words, lines_words, joined_words, comment_words, schema_words}
 use Rattle.print_laws.proofs.Lexing.{Lexes, lex-end, lex-gap, lex-word, IsEnd, Writes, Closes, Begins, closes-writes, writes-then, closes-then, closes-both, writes-closed, closes-name}
-use Rattle.print_laws.proofs.Pieces.{closes-close, closes-comma, closes-open, writes-column, writes-comment, closes-key_columns, closes-unique_front, closes-index_front}
+use Rattle.print_laws.proofs.Pieces.{closes-close, closes-comma, closes-open, writes-column, writes-text, closes-key_columns, closes-unique_front, closes-index_front}
 
 -- ---- lines
 
@@ -132,7 +132,7 @@ closes-comment rest ts lex =
 
 writes-comments : (comment : List ℕ) → Writes (printed_comment comment) (comment_words comment)
 writes-comments [] = λ rest ts end lex. lex
-writes-comments (byte ∷ bytes) = closes-then (codes " COMMENT=") (printed (Text (byte ∷ bytes))) (keyword (codes "COMMENT") ∷ sign_word (codes "=") ∷ []) (record { class = class.Text; text = printed (Text (byte ∷ bytes)) } ∷ []) closes-comment (writes-comment (byte ∷ bytes))
+writes-comments (byte ∷ bytes) = closes-then (codes " COMMENT=") (printed (Text (byte ∷ bytes))) (keyword (codes "COMMENT") ∷ sign_word (codes "=") ∷ []) (record { class = class.Text; text = printed (Text (byte ∷ bytes)) } ∷ []) closes-comment (writes-text (byte ∷ bytes))
 
 closes-line : Closes (codes "\n") []
 closes-line rest ts lex = lex-gap 10 rest ts refl lex

@@ -12,7 +12,10 @@ use Rattle.gho_values.proofs.SpanLaws.{meets_both_ways}
 use Rattle.row_locks.specs.declared.lock.Lock.{Lock}
 use Rattle.row_locks.specs.declared.lock.HeldLock.{HeldLock}
 use Rattle.row_locks.specs.declared.lock.Asked2.TheVariants as answers
-use Rattle.row_locks.specs.Granting.{same_place, conflict, refusal, least, refuser_of_lock, refuser_of_set, answer_by}
+use Rattle.row_locks.specs.Granting.{same_place, conflict, refusal, refuser_of_lock, refuser_of_set, answer_by}
+use Rattle.least_session.specs.Least.{least}
+use Rattle.least_session.proofs.Kept.{both, kept}
+use Rattle.least_session.proofs.Sessions.{none_of, not_refused, others}
 use Rattle.row_locks.specs.Holding.{LockTable, LastAsk, held_by, granted_unless, freed_if, before_ask}
 use Rattle.row_locks.specs.Laws.{Call, called, no_locks, Bear, HeldLocksBear, ConflictBothWays, GrantsWhole}
 use Rattle.row_locks.specs.Laws.Call.{Ask, Free, Undo}
@@ -25,10 +28,6 @@ Apart (a ∷ held) = AllByRecursion (Bear a) held × Apart held
 pairs : (held : List HeldLock) → Apart held → AllPairs Bear held
 pairs [] apart = λ i j d before within. absurd (omega arith)
 pairs (a ∷ held) apart = AllPairs-cons Bear a held (All-from_recursion (Bear a) held apart.0) (pairs held apart.1)
-
-both : {X : Type 0} (P : X → Type 0) (xs ys : List X) → AllByRecursion P xs → AllByRecursion P ys → AllByRecursion P (xs ++ ys)
-both P [] ys p q = q
-both P (x ∷ xs) ys p q = (p.0, both P xs ys p.1 q)
 
 -- each lock of the first list is compatible with all of the second
 abbrev Across : List HeldLock → List HeldLock → Type 0
@@ -46,20 +45,6 @@ own session lock (next ∷ set) = ((λ other. absurd (other refl)), own session 
 alone : (session : ℕ) (set : List Lock) → Apart (map (held_by session) set)
 alone session [] = tt
 alone session (lock ∷ set) = (own session lock set, alone session set)
-
-none_of : (a b : Option ℕ) → least a b ≡ None → (a ≡ None) × (b ≡ None)
-none_of None None e = (refl, refl)
-none_of None (Some b) e = absurd cc
-none_of (Some a) None e = absurd cc
-none_of (Some a) (Some b) e = absurd cc
-
-not_refused : (own conflicts : Bool) (session : ℕ) → cond (not own && conflicts) (Some session) None ≡ None → own ≡ false → conflicts ≡ false
-not_refused true conflicts session e other = absurd cc
-not_refused false true session e other = absurd cc
-not_refused false false session e other = refl
-
-others : (m n : ℕ) → m ≢ n → nat_eq m n ≡ false
-others m n other = grind (arith, nat_tests)
 
 bears : (session : ℕ) (lock : Lock) (a : HeldLock) → refusal session lock a ≡ None → Bear a (held_by session lock)
 unfolding refusal
@@ -89,14 +74,6 @@ by_first a held session (lock ∷ set) borne = (bears session lock a (none_of (r
 across : (held : List HeldLock) (session : ℕ) (set : List Lock) → AllByRecursion (Borne held session) set → Across held (map (held_by session) set)
 across [] session set borne = tt
 across (a ∷ held) session set borne = (by_first a held session set borne, across held session set (by_rest a held session set borne))
-
-kept_if : {X : Type 0} (P : X → Type 0) (passes : Bool) (x : X) (xs : List X) → P x → AllByRecursion P xs → AllByRecursion P (cond passes (x ∷ xs) xs)
-kept_if P true x xs p ps = (p, ps)
-kept_if P false x xs p ps = ps
-
-kept : {X : Type 0} (P : X → Type 0) (passes : X → Bool) (xs : List X) → AllByRecursion P xs → AllByRecursion P (filter passes xs)
-kept P passes [] p = tt
-kept P passes (x ∷ xs) p = kept_if P (passes x) x (filter passes xs) p.0 (kept P passes xs p.1)
 
 thinned_if : (passes : Bool) (a : HeldLock) (held : List HeldLock) → AllByRecursion (Bear a) held → Apart held → Apart (cond passes (a ∷ held) held)
 thinned_if true a held p apart = (p, apart)

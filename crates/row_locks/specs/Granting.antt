@@ -1,6 +1,7 @@
 -- Which row locks are granted. Shared and exclusive locks are as MySQL's manual has them ("InnoDB Locking"); that spans refuse each other wherever their ends leave room, rows or none, is this project's rule.
-use Rattle.std.specs.Prelude.{ℕ, Bool, ◌&&◌, ◌||◌, not, if◌then◌else◌, ◌==◌, nat_eq, min, List, [], ◌∷◌, Option, Some, None}
+use Rattle.std.specs.Prelude.{ℕ, Bool, ◌&&◌, ◌||◌, not, if◌then◌else◌, ◌==◌, nat_eq, List, [], ◌∷◌, Option, Some, None}
 use Rattle.std.specs.Cmp.Lexicographic.{pointwise}
+use Rattle.least_session.specs.Least.{least}
 use Rattle.gho_values.specs.Spans.{meets}
 use Rattle.row_locks.specs.declared.lock.Lock.{Lock}
 use Rattle.row_locks.specs.declared.lock.HeldLock.{HeldLock}
@@ -18,12 +19,6 @@ conflict a b = same_place a b && (a.exclusive || b.exclusive) && meets a.span b.
 -- The session that holds the lock, where that refuses the session's.
 unfoldable pub refusal : ℕ → Lock → HeldLock → Option ℕ
 refusal session lock held = if not (held.session == session) && conflict held.lock lock then Some held.session else None
-
--- The lesser of two sessions, or the one that is there.
-abbrev pub least : Option ℕ → Option ℕ → Option ℕ
-least None b = b
-least (Some a) None = Some a
-least (Some a) (Some b) = Some (min a b)
 
 -- The least session that refuses the lock to the session.
 unfoldable pub refuser_of_lock : List HeldLock → ℕ → Lock → Option ℕ

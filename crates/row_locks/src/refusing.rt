@@ -2,20 +2,10 @@
 
 ghost use Rattle.std.specs.Prelude.{◌≡◌};
 ghost use Rattle.row_locks.specs.Holding.{LockFits, SetFits, PlacedFit};
-ghost use Rattle.row_locks.specs.Granting.{least, conflict, refusal, refuser_of_lock, refuser_of_set};
+ghost use Rattle.row_locks.specs.Granting.{conflict, refusal, refuser_of_lock, refuser_of_set};
 
 use crate::lock::{HeldLock, Lock};
-
-/// The lesser of two sessions, or the one that is there.
-fn least(a: Option<u32>, b: Option<u32>) -> Option<u32>
-    ensures { result ≡ least a b }
-{
-    match (a, b) {
-        (Some(a), Some(b)) => Some(a.min(b)),
-        (None, b) => b,
-        (a, None) => a,
-    }
-}
+use least_session::least;
 
 impl Lock {
     /// Whether the two locks can't be held by different sessions.

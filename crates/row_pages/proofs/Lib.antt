@@ -1,7 +1,9 @@
+pub mod ByKeys
 pub mod ClashTests
 pub mod FirstRows
 pub mod Indexing
 pub mod Ordered
+pub mod PutLast
 pub mod Reserving
 pub mod RowPlaces
 pub mod SpanPlaces

@@ -1,3 +1,4 @@
+pub mod ByKeys
 pub mod Clashing
 pub mod Indexes
 pub mod RowOrders

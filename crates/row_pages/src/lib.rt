@@ -1,8 +1,10 @@
 //! A table whose rows stand in pages: a look-up, a put and a removal look at few of them.
 #![tactic(auto)]
 
+mod by_key;
 mod clashing;
 mod comparing;
+mod copying;
 mod indexes;
 mod places;
 mod row_key;

@@ -1,25 +1,29 @@
 //! A table: rows in a slab, and their entries in order of each unique key.
 
-ghost use Rattle.std.specs.Prelude.{◌≡◌, ◌≤◌, ◌<◌, ◌+◌, ◌==◌, true, [], if◌then◌else◌, None, length, get_or, is_some, option_copied, OnOk};
+ghost use Rattle.std.specs.Prelude.{◌≡◌, ◌≤◌, ◌<◌, ◌+◌, ◌==◌, true, [], if◌then◌else◌, None, length, get_or, is_some, option_copied, IfOk, OnOk};
 ghost use Rattle.std.specs.List.{flat_map};
 ghost use Rattle.gho_schema.specs.Rows.{key_of, key_places, with_row};
 ghost use Rattle.gho_schema.specs.Tables.{Ascends};
 ghost use Rattle.paged_list.specs.Pages.{pages_made, last_page};
 ghost use Rattle.row_store.specs.RowLists.{comes_before, without_key};
-ghost use Rattle.row_store.specs.Databases.{row_at_key, clashing, rows_in};
+ghost use Rattle.row_store.specs.Databases.{row_at_key, clashing, rows_in, name_table};
+ghost use Rattle.row_pages.specs.ByKeys.{places_at, row_by, AreInSpan};
 ghost use Rattle.row_pages.specs.StoredRows.{ArePagesOfRows};
 
+use crate::by_key::{order_by, places_at};
 use crate::clashing::{clash_in, earlier, first_clash};
+use crate::copying::{copy_of, table_of};
 use crate::indexes::{KeyIndex, add_all, make_indexes, reserve_all, take_all};
 use crate::places::{Sought, found, place_of_row, row_with_key};
 use crate::span_rows::SpanRows;
 use crate::spans::entries_in_span;
 use gho_schema::{Schema, clustered_key};
-use gho_values::{Key, Row, Span};
+use gho_values::{Key, Name, Row, Span};
 use paged_list::PagedList;
 use slab::Slab;
 use std::alloc::{AllocError, Global};
 use std::marker::Model;
+use std::mem;
 
 /// A table with its rows, in pages of 1 to 64.
 #[derive(Debug, Drop)]
@@ -56,6 +60,22 @@ impl Table {
             order: PagedList::new(alloc),
             indexes: Vec::new(alloc),
         }
+    }
+
+    /// The table of rows that stand in order of the clustered key.
+    pub fn from_rows(alloc: Global, schema: Schema, rows: &[Row]) -> Result<Table, AllocError>
+        requires { Ascends (key_places schema) rows.now }
+        ensures schema { IfOk result (λ table. table.table.schema ≡ schema) }
+        ensures rows { IfOk result (λ table. table.table.rows ≡ rows.now) }
+    {
+        table_of(alloc, schema, rows)
+    }
+
+    /// A copy of the table, with what room it may have.
+    pub fn copy_table(&self, alloc: Global) -> Result<Table, AllocError>
+        ensures { IfOk result (λ copy. copy.table ≡ self.now.table) }
+    {
+        copy_of(alloc, self)
     }
 
     /// What its columns and keys are. The rows stand in order of the clustered key.
@@ -142,6 +162,40 @@ impl Table {
         let places = self.schema.key_places();
         let entries = entries_in_span(&self.rows, &self.order, places, span);
         SpanRows::new(&self.rows, entries)
+    }
+
+    /// Gives the table another name, and answers the one that it had. It takes no memory.
+    pub fn set_name(&mut self, name: Name) -> Name
+        ensures table { self.new.table ≡ name_table name self.old.table }
+        ensures pages { self.new.pages ≡ self.old.pages }
+        ensures spare { self.new.spare ≡ self.old.spare }
+        ensures name { result ≡ self.old.table.schema.name }
+    {
+        mem::replace(&mut self.schema.name, name)
+    }
+
+    /// The row with these values in the columns of a unique key, by the key's number among the schema's; that of least
+    /// clustered key, where there are several, as with nulls.
+    pub fn get_by(&self, n: usize, key: &Key) -> Option<&Row>
+        requires { n < length self.now.table.schema.uniques }
+        ensures { option_copied result ≡ row_by n self.now.table key.now }
+    {
+        let indexes = self.indexes.as_slice();
+        let entries = order_by(&self.schema, &self.rows, &self.order, indexes, n);
+        let sought = Sought::Key(key.as_slice());
+        row_with_key(&self.rows, entries, places_at(&self.schema, n), sought)
+    }
+
+    /// The rows whose values in the columns of a unique key lie in the span, in order of these; rows that tie, as those
+    /// with nulls may, in order of the clustered key.
+    pub fn in_span_by(&self, n: usize, span: &Span) -> SpanRows<'_>
+        requires { n < length self.now.table.schema.uniques }
+        ensures { AreInSpan self.now.table (places_at self.now.table.schema n) span.now result }
+    {
+        let indexes = self.indexes.as_slice();
+        let entries = order_by(&self.schema, &self.rows, &self.order, indexes, n);
+        let found = entries_in_span(&self.rows, entries, places_at(&self.schema, n), span);
+        SpanRows::new(&self.rows, found)
     }
 
     /// Makes room for so many more rows.

@@ -6,24 +6,12 @@ use Rattle.gho_values.specs.Comparing.{compare_keys}
 use Rattle.gho_values.proofs.Orders.{keys_total}
 use Rattle.gho_schema.specs.Rows.{key_of, with_row}
 use Rattle.gho_schema.specs.Tables.{Ascends}
+use Rattle.gho_schema.proofs.Orders.{all-with_row}
 use Rattle.row_store.specs.RowLists.{is_at}
 use Rattle.row_store.proofs.Orders.{Row}
 
--- whatever holds of the row and of the others holds of all
-all_placed : (P : Row → Type 0) (o : Ordering) (row first : Row) (rows placed : List Row) → P row → P first → AllByRecursion P rows → AllByRecursion P placed
-    → AllByRecursion P (match_ordering o (row ∷ first ∷ rows) (row ∷ first ∷ rows) (first ∷ placed))
-all_placed P Less row first rows placed r f others p = (r, (f, others))
-all_placed P Equal row first rows placed r f others p = (r, (f, others))
-all_placed P Greater row first rows placed r f others p = (f, p)
-
-pub all-with_row : (P : Row → Type 0) (places : List ℕ) (row : Row) (rows : List Row) → P row → AllByRecursion P rows → AllByRecursion P (with_row places row rows)
-unfolding with_row
-all-with_row P places row [] r others = (r, tt)
-all-with_row P places row (first ∷ rows) r others =
-    all_placed P (compare_keys (key_of places row) (key_of places first)) row first rows (with_row places row rows) r others.0 others.1 (all-with_row P places row rows r others.1)
-
 -- what comes before a row comes before those behind it
-before_all : (places : List ℕ) (row first : Row) (rows : List Row) → compare_keys (key_of places row) (key_of places first) ≡ Less
+pub before_all : (places : List ℕ) (row first : Row) (rows : List Row) → compare_keys (key_of places row) (key_of places first) ≡ Less
     → AllByRecursion (λ other. compare_keys (key_of places first) (key_of places other) ≡ Less) rows → AllByRecursion (λ other. compare_keys (key_of places row) (key_of places other) ≡ Less) rows
 before_all places row first [] less others = tt
 before_all places row first (next ∷ rows) less others =

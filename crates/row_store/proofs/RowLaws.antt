@@ -8,14 +8,9 @@ use Rattle.gho_values.proofs.Orders.{keys_total, tied_keys}
 use Rattle.gho_schema.specs.Rows.{key_of, with_row}
 use Rattle.gho_schema.specs.Tables.{Ascends}
 use Rattle.row_store.specs.RowLists.{is_at, without_key}
-use Rattle.row_store.proofs.Orders.{Row, not_greater}
+use Rattle.row_store.proofs.Orders.{Row, not_greater, is_Equal}
 use Rattle.row_store.proofs.Ascending.{all-filter}
 use Rattle.row_store.proofs.FoundRows.{none_to_remove, all_left, others_not_at}
-
-is_Equal : (o : Ordering) → is_eq o ≡ true → o ≡ Equal
-is_Equal Less is = absurd cc
-is_Equal Equal is = refl
-is_Equal Greater is = absurd cc
 
 -- the row of a key has that key
 pub key_is : (places : List ℕ) (key row : Row) → is_at places key row ≡ true → key ≡ key_of places row

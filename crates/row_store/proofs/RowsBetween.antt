@@ -10,7 +10,7 @@ ascends-drop places (suc n) [] ascends = tt
 ascends-drop places (suc n) (row ∷ rows) ascends = ascends-drop places n rows ascends.1
 
 -- no row passes
-none_pass : (test : Row → Bool) (rows : List Row) → AllByRecursion (λ row. test row ≡ false) rows → filter test rows ≡ []
+pub none_pass : (test : Row → Bool) (rows : List Row) → AllByRecursion (λ row. test row ≡ false) rows → filter test rows ≡ []
 none_pass test [] fail = refl
 none_pass test (row ∷ rows) fail = rw fail.0 (none_pass test rows fail.1)
 

@@ -15,11 +15,12 @@ use Rattle.gho_schema.specs.declared.schema.Index.{Index}
 use Rattle.gho_schema.specs.Clustering.{is_not_null, clustered_place, unique_at}
 use Rattle.gho_schema.specs.Rows.{key_of, key_places, places_of, with_row}
 use Rattle.gho_schema.specs.Tables.{IsRow, no_null, clash, Apart, IsTable}
+use Rattle.gho_schema.proofs.Orders.{all-with_row}
 use Rattle.row_store.specs.RowLists.{is_at, without_key}
 use Rattle.row_store.specs.ClusteredKeys.{HasClusteredKey}
 use Rattle.row_store.specs.Databases.{TableRows, clashing, IsNewIn}
-use Rattle.row_store.proofs.Orders.{Row}
-use Rattle.row_store.proofs.Ascending.{all-with_row, all-filter, ascends-with_row, ascends-filter}
+use Rattle.row_store.proofs.Orders.{Row, is_Equal}
+use Rattle.row_store.proofs.Ascending.{all-filter, ascends-with_row, ascends-filter}
 use Rattle.row_store.proofs.FoundRows.{none_found}
 
 -- clashes go both ways
@@ -32,12 +33,7 @@ eq_then : (b : Bool) (x y : Bool) → (b ≡ true → x ≡ y) → (b && x) ≡ 
 eq_then true x y same = same refl
 eq_then false x y same = refl
 
-is_Equal : (o : Ordering) → is_eq o ≡ true → o ≡ Equal
-is_Equal Less is = absurd cc
-is_Equal Equal is = refl
-is_Equal Greater is = absurd cc
-
-clash_both : (uniques : List Index) (row other : Row) → clash uniques row other ≡ clash uniques other row
+pub clash_both : (uniques : List Index) (row other : Row) → clash uniques row other ≡ clash uniques other row
 clash_both [] row other = refl
 clash_both (index ∷ uniques) row other =
     let one = key_of index.places row in
@@ -49,7 +45,7 @@ clash_both (index ∷ uniques) row other =
     rw (first, clash_both uniques row other) refl
 
 -- rows that don't clash with the row that is put
-apart_here : (uniques : List Index) (o : Ordering) (row first : Row) (rows placed : List Row) → AllByRecursion (λ other. clash uniques row other ≡ false) (first ∷ rows) → Apart uniques (first ∷ rows)
+pub apart_here : (uniques : List Index) (o : Ordering) (row first : Row) (rows placed : List Row) → AllByRecursion (λ other. clash uniques row other ≡ false) (first ∷ rows) → Apart uniques (first ∷ rows)
     → AllByRecursion (λ other. clash uniques first other ≡ false) placed → Apart uniques placed → Apart uniques (match_ordering o (row ∷ first ∷ rows) (row ∷ first ∷ rows) (first ∷ placed))
 apart_here uniques Less row first rows placed none apart all rest = (none, apart)
 apart_here uniques Equal row first rows placed none apart all rest = (none, apart)
@@ -66,10 +62,18 @@ kept_apart : (uniques : List Index) (b : Bool) (row : Row) (rows : List Row) →
 kept_apart uniques true row rows none apart = (none, apart)
 kept_apart uniques false row rows none apart = apart
 
-apart-filter : (uniques : List Index) (test : Row → Bool) (rows : List Row) → Apart uniques rows → Apart uniques (filter test rows)
+pub apart-filter : (uniques : List Index) (test : Row → Bool) (rows : List Row) → Apart uniques rows → Apart uniques (filter test rows)
 apart-filter uniques test [] apart = tt
 apart-filter uniques test (row ∷ rows) apart =
     kept_apart uniques (test row) row (filter test rows) (all-filter (λ other. clash uniques row other ≡ false) test rows apart.0) (apart-filter uniques test rows apart.1)
+
+-- some rows of a table are a table
+pub some_rows : (schema : Schema) (test : Row → Bool) (rows : List Row) → IsTable schema rows → IsTable schema (filter test rows)
+some_rows schema test rows are = record {
+  rows_fit = all-filter (IsRow schema.columns) test rows are.rows_fit;
+  ascends = ascends-filter (key_places schema) test rows are.ascends;
+  apart = apart-filter schema.uniques test rows are.apart;
+}
 
 -- a search that finds none
 none_parts : (b : Bool) (row : Row) (rest : Option Row) → cond (b && true) (Some row) rest ≡ None → (b ≡ false) × (rest ≡ None)
@@ -101,7 +105,7 @@ more_no_null (Num n) vs here others = others
 more_no_null (Text text) vs here others = others
 more_no_null (Blob blob) vs here others = others
 
-key_no_null : StoresNullWhereNullable → (columns : List Column) (row : Row) (places : List ℕ) → IsRow columns row → AllByRecursion (λ place. is_not_null (slice_get columns place) ≡ true) places → no_null (key_of places row) ≡ true
+pub key_no_null : StoresNullWhereNullable → (columns : List Column) (row : Row) (places : List ℕ) → IsRow columns row → AllByRecursion (λ place. is_not_null (slice_get columns place) ≡ true) places → no_null (key_of places row) ≡ true
 unfolding key_of
 key_no_null where_nullable columns row [] fits not_null = refl
 key_no_null where_nullable columns row (place ∷ places) fits not_null =

@@ -17,6 +17,7 @@ use Rattle.schema_laws.proofs.Columns.{Becomes, AllBecome, column-at}
 use Rattle.schema_laws.proofs.Grammar.{HasColumns}
 use Rattle.schema_rules.proofs.Lists.{All-filter_map, All-weaker, All-list_all, list_all-All, each-any, Found, position-some, position-found, slice_get-map-some, slice_get-within-some}
 use Rattle.schema_rules.proofs.Steps.{some_is, first_or, second_or}
+use Rattle.schema_rules.proofs.SameNames.{same_name-turned}
 
 -- ---- places
 
@@ -41,12 +42,6 @@ places-are names columns count name same has known = record {
   some = omega (arith, length-places names columns (list_all-All (is_among names) columns known));
   within = All-filter_map (λ (column : List ℕ). is_among names column ≡ true) (λ (place : ℕ). place < count) (place_of names) (λ column place e is. omega (arith, same, (place_of-found names column place is).within)) columns (list_all-All (is_among names) columns known);
 }
-
--- ---- names, turned round
-
-same_name-turned : (a b : List ℕ) → same_name a b ≡ true → same_name b a ≡ true
-unfolding same_name
-same_name-turned a b e = (bytes_eq-Decides (map to_ascii_lowercase b) (map to_ascii_lowercase a)).1 (sym ((bytes_eq-Decides (map to_ascii_lowercase a) (map to_ascii_lowercase b)).0 e))
 
 -- ---- the PRIMARY KEY
 

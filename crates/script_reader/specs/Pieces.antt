@@ -5,6 +5,7 @@ use Rattle.gho_values.specs.declared.value.Value.{Value}
 use Rattle.gho_values.specs.declared.value.Value.TheVariants as values
 use Rattle.table_words.specs.declared.code.SchemaCode.{SchemaCode}
 use Rattle.table_words.specs.declared.token.Token.{Token}
+use Rattle.table_words.specs.Keys as keys
 use Rattle.table_words.specs.Pieces as table
 use Rattle.table_words.specs.Reads.{◌>>=◌}
 use Rattle.script_reader.specs.declared.code.StatementCode.{StatementCode}
@@ -28,6 +29,10 @@ sign_at known words = fits (table.sign_at known words)
 -- a name with or without backquotes; no word is kept from being one
 abbrev pub name_at : List Token → Read (List ℕ)
 name_at words = fits (table.name_at words)
+
+-- names with commas between them, at least one
+abbrev pub names_at : List Token → Read (List (List ℕ))
+names_at words = fits (keys.names_at words)
 
 -- NULL, a number, a text or bytes
 abbrev pub literal_at : List Token → Read Value

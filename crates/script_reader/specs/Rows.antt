@@ -8,11 +8,7 @@ use Rattle.table_words.specs.Pieces.{behind_sign}
 use Rattle.table_words.specs.Reads.{◌>>=◌}
 use Rattle.script_reader.specs.declared.code.StatementCode.TheVariants.{Syntax}
 use Rattle.script_reader.specs.declared.rows.RowText.{RowText}
-use Rattle.script_reader.specs.Pieces.{Read, keyword_at, sign_at, name_at, literal_at}
-
--- names with commas between them, at least one
-unfoldable pub names_at : List Token → Read (List (List ℕ))
-names_at words = listed name_at Syntax (length words) words
+use Rattle.script_reader.specs.Pieces.{Read, keyword_at, sign_at, name_at, names_at, literal_at}
 
 -- literals with commas between them, at least one
 unfoldable pub literals_at : List Token → Read (List Value)

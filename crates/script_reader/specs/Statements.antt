@@ -14,8 +14,8 @@ use Rattle.table_words.specs.Tokens.{is_keyword, same_sign}
 use Rattle.script_reader.specs.declared.code.StatementCode.{StatementCode}
 use Rattle.script_reader.specs.declared.code.StatementCode.TheVariants.{Syntax, Scope}
 use Rattle.script_reader.specs.Conditions.{condition_at}
-use Rattle.script_reader.specs.Pieces.{Read, keyword_at, sign_at, name_at}
-use Rattle.script_reader.specs.Rows.{names_at, sets_at, row_at}
+use Rattle.script_reader.specs.Pieces.{Read, keyword_at, sign_at, name_at, names_at}
+use Rattle.script_reader.specs.Rows.{sets_at, row_at}
 use Rattle.script_reader.specs.Scope.{is_out_of_scope}
 
 unfoldable pub insert_at : List Token → Read ScriptWord

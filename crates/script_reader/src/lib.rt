@@ -13,6 +13,3 @@ mod statements;
 pub use code::{ScriptCode, ScriptFault, ScriptRefusal, StatementCode, StatementFault};
 pub use scripts::read_script;
 pub use statements::read_statement;
-
-#[cfg(test)]
-mod tests;

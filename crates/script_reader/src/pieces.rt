@@ -1,10 +1,10 @@
 //! Single words of a statement, at the front of what is left of its line.
 
 ghost use Rattle.script_reader.specs.Codes.{Reads};
-ghost use Rattle.script_reader.specs.Pieces.{keyword_at, sign_at, name_at, literal_at, unless_null, operand_at};
+ghost use Rattle.script_reader.specs.Pieces.{keyword_at, sign_at, name_at, names_at, literal_at, unless_null, operand_at};
 
 use crate::code::{StatementCode, StatementFault};
-use gho_values::{Name, Value};
+use gho_values::{Name, Names, Value};
 use std::alloc::Global;
 use table_words::{SchemaFault, Token};
 
@@ -38,6 +38,17 @@ pub fn name_at(alloc: Global, words: &[Token]) -> Result<(Name, &[Token]), State
     ensures { Reads (λ name. (name.0, name.1.now)) result (name_at words.now) }
 {
     match table_words::name_at(alloc, words) {
+        Ok(read) => Ok(read),
+        Err(SchemaFault::Refused(_)) => Err(MISTAKE),
+        Err(SchemaFault::Memory) => Err(StatementFault::Memory),
+    }
+}
+
+/// The names at the front, with commas between them, and what stands behind them.
+pub fn names_at(alloc: Global, words: &[Token]) -> Result<(Names, &[Token]), StatementFault>
+    ensures { Reads (λ names. (names.0, names.1.now)) result (names_at words.now) }
+{
+    match table_words::names_at(alloc, words) {
         Ok(read) => Ok(read),
         Err(SchemaFault::Refused(_)) => Err(MISTAKE),
         Err(SchemaFault::Memory) => Err(StatementFault::Memory),

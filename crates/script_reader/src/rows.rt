@@ -1,10 +1,10 @@
 //! The lists of INSERT, REPLACE, UPDATE and SELECT.
 
 ghost use Rattle.script_reader.specs.Codes.{Reads};
-ghost use Rattle.script_reader.specs.Rows.{names_at, literals_at, set_at, sets_at, columns_at, values_at, row_at};
+ghost use Rattle.script_reader.specs.Rows.{literals_at, set_at, sets_at, columns_at, values_at, row_at};
 
 use crate::code::StatementFault;
-use crate::pieces::{MISTAKE, keyword_at, literal_at, name_at, sign_at};
+use crate::pieces::{MISTAKE, keyword_at, literal_at, name_at, names_at, sign_at};
 use gho_values::{Name, Names, Row, Sequence};
 use script_text::{Set, Sets};
 use std::alloc::Global;
@@ -19,24 +19,6 @@ pub struct RowText {
     pub columns: Option<Names>,
     /// The row's values.
     pub values: Row,
-}
-
-/// The names at the front, with commas between them, and what stands behind them.
-#[tactic(auto, unfolding(crate::specs::Rows::names_at))]
-pub fn names_at(alloc: Global, words: &[Token]) -> Result<(Names, &[Token]), StatementFault>
-    ensures { Reads (λ names. (names.0, names.1.now)) result (names_at words.now) }
-{
-    let mut names = Sequence::new(alloc);
-    let mut rest = words;
-    for _ in 0..words.len() {
-        let (name, behind) = name_at(alloc, rest)?;
-        names.push(name)?;
-        match behind_sign(",", behind) {
-            None => return Ok((names, behind)),
-            Some(next) => rest = next,
-        }
-    }
-    Err(MISTAKE)
 }
 
 #[tactic(auto, unfolding(crate::specs::Rows::literals_at))]

@@ -6,8 +6,8 @@ ghost use Rattle.script_reader.specs.Statements.{insert_at, replace_at, delete_a
 
 use crate::code::{StatementCode, StatementFault};
 use crate::conditions::condition_at;
-use crate::pieces::{MISTAKE, keyword_at, name_at, sign_at};
-use crate::rows::{RowText, names_at, row_at, sets_at};
+use crate::pieces::{MISTAKE, keyword_at, name_at, names_at, sign_at};
+use crate::rows::{RowText, row_at, sets_at};
 use crate::scope::is_out_of_scope;
 use script_text::{ScriptWord, Shown, Statement};
 use std::alloc::Global;

@@ -5,18 +5,10 @@ use Rattle.std.proofs.lemmas.Bool.{and_parts, false≢true, or_left, or_right}
 use Rattle.std.proofs.lemmas.Bool.Decides.{nat_tests}
 use Rattle.std.specs.Cmp.Lexicographic.{pointwise}
 use Rattle.std.specs.List.{list_any}
-use Rattle.metadata_locks.specs.Granting.{HeldName, has_name, is_on, holds, least, holding_session, waiting_session, least_holder, least_waiter, refuser_of_name, refuser_of_names, ahead_of}
+use Rattle.metadata_locks.specs.Granting.{HeldName, has_name, is_on, holds, holding_session, waiting_session, least_holder, least_waiter, refuser_of_name, refuser_of_names, ahead_of}
+use Rattle.least_session.specs.Least.{least}
+use Rattle.least_session.proofs.Sessions.{none_of}
 use Rattle.metadata_locks.specs.declared.request.Waiter.{Waiter}
-
-pub first_none : (a b : Option ℕ) → least a b ≡ None → a ≡ None
-first_none None b e = refl
-first_none (Some a) None e = absurd cc
-first_none (Some a) (Some b) e = absurd cc
-
-pub second_none : (a b : Option ℕ) → least a b ≡ None → b ≡ None
-second_none None b e = e
-second_none (Some a) None e = absurd cc
-second_none (Some a) (Some b) e = absurd cc
 
 pub both_none : (a b : Option ℕ) → a ≡ None → b ≡ None → least a b ≡ None
 both_none a b e f = rw e f
@@ -52,10 +44,10 @@ pub not_alone : (held : List HeldName) (s l : ℕ) (t : List ℕ) (x : Bool) →
 unfolding holds least_holder
 not_alone [] s l t x apart h e = absurd cc
 not_alone (other ∷ held) s l t x apart h e =
-    by (nat_eq other.session s && is_on other t x) refl (λ more. not_alone held s l t x apart more (second_none (holding_session l t x other) (least_holder held l t x) e))
+    by (nat_eq other.session s && is_on other t x) refl (λ more. not_alone held s l t x apart more ((none_of (holding_session l t x other) (least_holder held l t x) e).1))
   where
     by : (b : Bool) → (nat_eq other.session s && is_on other t x) ≡ b → (holds held s t x ≡ true → ⊥) → ⊥
-    by true is again = one_other other s l t x apart is (first_none (holding_session l t x other) (least_holder held l t x) e)
+    by true is again = one_other other s l t x apart is ((none_of (holding_session l t x other) (least_holder held l t x) e).0)
     by false is again = again (either_true (nat_eq other.session s && is_on other t x) (holds held s t x) h is)
 
 -- who holds a name exclusively holds it
@@ -79,14 +71,14 @@ weaker (other ∷ held) s t h = by (nat_eq other.session s && is_on other t true
 -- what is granted whole is granted each
 pub granted_each : (held : List HeldName) (waiting : List Waiter) (s : ℕ) (x : Bool) (names : List (List ℕ)) (t : List ℕ) → refuser_of_names held waiting s x (t ∷ names) ≡ None → refuser_of_name held waiting s t x ≡ None
 unfolding refuser_of_names
-granted_each held waiting s x names t e = first_none (refuser_of_name held waiting s t x) (refuser_of_names held waiting s x names) e
+granted_each held waiting s x names t e = (none_of (refuser_of_name held waiting s t x) (refuser_of_names held waiting s x names) e).0
 
 -- what is granted exclusively nobody else holds
 pub granted_alone : (held : List HeldName) (waiting : List Waiter) (s other : ℕ) (t : List ℕ) → other ≢ s → holds held s t true ≡ false → refuser_of_name held waiting s t true ≡ None → holds held other t false ≡ false
 unfolding refuser_of_name
 granted_alone held waiting s other t apart lacks e =
     let both : least (least_holder held s t false) (least_waiter (ahead_of s waiting) s t) ≡ None = rw lacks at e in
-    not_true (holds held other t false) (λ has. not_alone held other s t false apart has (first_none (least_holder held s t false) (least_waiter (ahead_of s waiting) s t) both))
+    not_true (holds held other t false) (λ has. not_alone held other s t false apart has ((none_of (least_holder held s t false) (least_waiter (ahead_of s waiting) s t) both).0))
 
 -- a session is refused an exclusive lock on what another one holds
 pub refused_exclusive : (held : List HeldName) (waiting : List Waiter) (s l : ℕ) (t : List ℕ) → l ≢ s → holds held l t true ≡ true → holds held s t false ≡ false → refuser_of_name held waiting s t true ≡ None → ⊥
@@ -97,26 +89,26 @@ refused_exclusive held waiting s l t apart own lacks e =
 pub refused_shared : (held : List HeldName) (waiting : List Waiter) (s l : ℕ) (t : List ℕ) → l ≢ s → holds held l t true ≡ true → refuser_of_name held waiting s t false ≡ None → ⊥
 unfolding refuser_of_name
 refused_shared held waiting s l t apart own e =
-    not_alone held l s t true apart own (first_none (least_holder held s t true) (cond (holds held s t false) None (least_waiter waiting s t)) e)
+    not_alone held l s t true apart own ((none_of (least_holder held s t true) (cond (holds held s t false) None (least_waiter waiting s t)) e).0)
 
 -- a waiting request refuses whoever holds nothing yet
 waiter_refuses : (waiting : List Waiter) (r s : ℕ) (t : List ℕ) → r ≢ s → list_any (λ waiter. nat_eq waiter.session r && has_name waiter.names t) waiting ≡ true → least_waiter waiting s t ≡ None → ⊥
 unfolding least_waiter
 waiter_refuses [] r s t apart h e = absurd cc
 waiter_refuses (other ∷ waiting) r s t apart h e =
-    by (nat_eq other.session r && has_name other.names t) refl (λ more. waiter_refuses waiting r s t apart more (second_none (waiting_session s t other) (least_waiter waiting s t) e))
+    by (nat_eq other.session r && has_name other.names t) refl (λ more. waiter_refuses waiting r s t apart more ((none_of (waiting_session s t other) (least_waiter waiting s t) e).1))
   where
     by : (b : Bool) → (nat_eq other.session r && has_name other.names t) ≡ b → (list_any (λ waiter. nat_eq waiter.session r && has_name waiter.names t) waiting ≡ true → ⊥) → ⊥
     by true is again =
         let parts : (nat_eq other.session r ≡ true) × (has_name other.names t ≡ true) = and_parts (nat_eq other.session r) (has_name other.names t) is in
         refuses (nat_eq other.session s) (has_name other.names t) other.session (are_two other.session s (λ same. apart (sym (are_one other.session r parts.0) ∙ same))) parts.1
-        (first_none (waiting_session s t other) (least_waiter waiting s t) e)
+        ((none_of (waiting_session s t other) (least_waiter waiting s t) e).0)
     by false is again = again (either_true (nat_eq other.session r && has_name other.names t) (list_any (λ waiter. nat_eq waiter.session r && has_name waiter.names t) waiting) h is)
 
 pub waits_behind : (held : List HeldName) (waiting : List Waiter) (s r : ℕ) (t : List ℕ) → r ≢ s → holds held s t false ≡ false → list_any (λ waiter. nat_eq waiter.session r && has_name waiter.names t) waiting ≡ true → refuser_of_name held waiting s t false ≡ None → ⊥
 unfolding refuser_of_name
 waits_behind held waiting s r t other lacks waits e =
-    let second : cond (holds held s t false) None (least_waiter waiting s t) ≡ None = second_none (least_holder held s t true) (cond (holds held s t false) None (least_waiter waiting s t)) e in
+    let second : cond (holds held s t false) None (least_waiter waiting s t) ≡ None = (none_of (least_holder held s t true) (cond (holds held s t false) None (least_waiter waiting s t)) e).1 in
     let bare : least_waiter waiting s t ≡ None = rw lacks at second in
     waiter_refuses waiting r s t other waits bare
 

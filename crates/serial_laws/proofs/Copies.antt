@@ -35,8 +35,9 @@ use Rattle.plan_words.specs.Histories.{HistoryItem}
 use Rattle.tool_program.specs.ToolNames.{ghost_name}
 use Rattle.tool_program.specs.Programs.{after_answer, after_chunk_call, after_copy, after_commit, chunk_call}
 use Rattle.tool_program.specs.declared.tool.Tool.TheVariants.{Copying, Choosing, Renaming}
+use Rattle.tool_program.proofs.Found.{all-back}
 use Rattle.plan_words.specs.Migratable.{IsMigratable}
-use Rattle.serial_laws.proofs.Lists.{all-front, all-back, all-so, find_first, get_behind}
+use Rattle.serial_laws.proofs.Lists.{all-front, all-so, find_first, get_behind}
 use Rattle.serial_laws.proofs.Sorted.{Row, Total, Before, same_key, turned, front_before, behind_after}
 use Rattle.serial_laws.proofs.Names.{NamesApart}
 use Rattle.serial_laws.proofs.Sessions.{Calm, CalmBut, Busy, but-busy, writes_more, ends}

@@ -4,6 +4,7 @@ use Rattle.std.proofs.lemmas.List.{append_assoc, append-nil, map-append, length-
 use Rattle.std.specs.Option.{unwrap_or}
 use Rattle.std.specs.Ordering.{is_eq, is_lt, is_le}
 use Rattle.std.specs.List.{AllByRecursion, filter, slice_get}
+use Rattle.std.specs.Cmp.Derive.{both_true}
 use Rattle.gho_values.specs.declared.value.Value.{Value}
 use Rattle.gho_values.specs.declared.span.Bound.{Bound}
 use Rattle.gho_values.specs.declared.span.Bound.TheVariants.{Open, Closed}
@@ -13,8 +14,10 @@ use Rattle.gho_values.specs.Spans.{above, below, has}
 use Rattle.gho_schema.specs.Rows.{key_of}
 use Rattle.gho_schema.specs.Tables.{Ascends}
 use Rattle.server_words.specs.Chunks.{keys_of, last_of}
-use Rattle.serial_laws.proofs.Lists.{all-front, all-back, all-both, all-so, filter_middle}
+use Rattle.serial_laws.proofs.Lists.{all-front, all-so, filter_middle}
 use Rattle.serial_laws.proofs.Sorted.{Row, Total, Before, same_key, turned, ascends-front, ascends-back, front_before, behind_after}
+use Rattle.tool_program.proofs.Found.{all-back}
+use Rattle.least_session.proofs.Kept.{both}
 
 -- the last row of some, by its key
 pub record Last (places : List ℕ) (first : Row) (others : List Row) : Type 0 where
@@ -67,9 +70,6 @@ less_below o is = rw is refl
 greater_not_below : (o : Ordering) → o ≡ Greater → is_le o ≡ false
 greater_not_below o is = rw is refl
 
-both_hold : (a b : Bool) → a ≡ true → b ≡ true → (a && b) ≡ true
-both_hold a b first second = rw first second
-
 first_fails : (a b : Bool) → a ≡ false → (a && b) ≡ false
 first_fails a b first = rw first refl
 
@@ -86,7 +86,7 @@ pub record Cuts (places : List ℕ) (low : Bound) (done chunk : List Row) (row :
 within : (places : List ℕ) (low : Bound) (row other : Row) → above low (key_of places other) ≡ true → is_le (compare_keys (key_of places other) (key_of places row)) ≡ true
     → has (record { low = low; high = Closed (key_of places row) }) (key_of places other) ≡ true
 unfolding has
-within places low row other over under = both_hold (above low (key_of places other)) (is_le (compare_keys (key_of places other) (key_of places row))) over under
+within places low row other over under = both_true over under
 
 not_over : (places : List ℕ) (low : Bound) (row other : Row) → above low (key_of places other) ≡ false → has (record { low = low; high = Closed (key_of places row) }) (key_of places other) ≡ false
 unfolding has
@@ -115,7 +115,7 @@ rows_of_span total places low done chunk row more cuts =
     let own : is_le (compare_keys (key_of places row) (key_of places row)) ≡ true = rw (same_key total (key_of places row)) refl in
     filter_middle (λ other. has (record { low = low; high = Closed (key_of places row) }) (key_of places other)) done (chunk ++ (row ∷ [])) more
     (all-so (λ other. above low (key_of places other) ≡ false) (λ other. has (record { low = low; high = Closed (key_of places row) }) (key_of places other) ≡ false) (λ other. not_over places low row other) done cuts.under)
-    (all-both (λ other. has (record { low = low; high = Closed (key_of places row) }) (key_of places other) ≡ true) chunk (row ∷ [])
+    (both (λ other. has (record { low = low; high = Closed (key_of places row) }) (key_of places other) ≡ true) chunk (row ∷ [])
     (chunk_within places low row chunk (all-front (λ other. above low (key_of places other) ≡ true) chunk (row ∷ []) cuts.over) (all-back (λ other. Before places other row) done chunk before))
     (let last : AllByRecursion (λ other. above low (key_of places other) ≡ true) (row ∷ []) = all-back (λ other. above low (key_of places other) ≡ true) chunk (row ∷ []) cuts.over in (within places low row row last.0 own, tt)))
     (all-so (Before places row) (λ other. has (record { low = low; high = Closed (key_of places row) }) (key_of places other) ≡ false)
@@ -136,7 +136,7 @@ passed total places done chunk row more ascends =
     let own : is_lt (compare_keys (key_of places row) (key_of places row)) ≡ false = rw (same_key total (key_of places row)) refl in
     record {
       under = subst (AllByRecursion (λ other. above (Open (key_of places row)) (key_of places other) ≡ false)) (append_assoc done chunk (row ∷ []))
-          (all-both (λ other. above (Open (key_of places row)) (key_of places other) ≡ false) (done ++ chunk) (row ∷ [])
+          (both (λ other. above (Open (key_of places row)) (key_of places other) ≡ false) (done ++ chunk) (row ∷ [])
           (all-so (λ other. Before places other row) (λ other. above (Open (key_of places row)) (key_of places other) ≡ false) (λ other less. not_less (compare_keys (key_of places row) (key_of places other)) (turned total (key_of places other) (key_of places row) less)) (done ++ chunk) before)
           (own, tt));
       over = all-so (Before places row) (λ other. above (Open (key_of places row)) (key_of places other) ≡ true) (λ other less. rw less refl) more (behind_after places (done ++ chunk) row more all);

@@ -1,6 +1,6 @@
 -- The images of rows, one more at a time.
 use Rattle.std.proofs.Common.{◌≡◌, ℕ, ◌+◌, Bool, true, false, ◌&&◌, ◌||◌, not, List, [], ◌∷◌, ◌++◌, Option, Some, None, Result, Ok, Err, Ordering, Less, Equal, Greater, cond, refl, sym, ap, ◌∙◌, subst, inl, inr}
-use Rattle.std.proofs.lemmas.Bool.{false≢true, and_parts, or_cases}
+use Rattle.std.proofs.lemmas.Bool.{false≢true, and_parts, or_cases, or_left, or_right}
 use Rattle.std.specs.Ordering.{is_eq, match_ordering}
 use Rattle.std.specs.Option.{unwrap_or}
 use Rattle.std.specs.List.{AllByRecursion, find, list_any}
@@ -14,10 +14,12 @@ use Rattle.gho_schema.specs.Tables.{IsRow, Ascends, Apart, clash, no_null}
 use Rattle.alter_image.specs.declared.map.MapColumn.{MapColumn}
 use Rattle.alter_image.specs.Images.{image, images}
 use Rattle.row_store.specs.Databases.{TableRows, clashing}
+use Rattle.row_store.proofs.Orders.{is_Equal}
 use Rattle.plan_words.specs.PlanData.{Altered}
 use Rattle.plan_words.specs.Migratable.{KeepsRows}
-use Rattle.serial_laws.proofs.Lists.{all-front, all-back, all-so, find_none, any_none}
+use Rattle.serial_laws.proofs.Lists.{all-front, all-so, find_none, any_none}
 use Rattle.serial_laws.proofs.Sorted.{Row, Total, Before, same_key, turned, front_before}
+use Rattle.tool_program.proofs.Found.{all-back}
 
 abbrev pub Ties : Type 0
 Ties = (a b : List Value) → compare_keys a b ≡ Equal → a ≡ b
@@ -41,31 +43,18 @@ imaged-images map [] (x ∷ made) all = absurd all
 imaged-images map (row ∷ rows) [] all = absurd all
 imaged-images map (row ∷ rows) (x ∷ made) all = rw (all.0, imaged-images map rows made all.1) refl
 
--- two rows that clash do so both ways
-equal_at : (o : Ordering) → is_eq o ≡ true → o ≡ Equal
-equal_at Less is = absurd (false≢true is)
-equal_at Equal is = refl
-equal_at Greater is = absurd (false≢true is)
-
 one_turned : Total → Ties → (a b : List Value) → (is_eq (compare_keys a b) && no_null a) ≡ true → (is_eq (compare_keys b a) && no_null b) ≡ true
 one_turned total ties a b clashes =
     let parts = and_parts (is_eq (compare_keys a b)) (no_null a) clashes in
-    let are : a ≡ b = ties a b (equal_at (compare_keys a b) parts.0) in
+    let are : a ≡ b = ties a b (is_Equal (compare_keys a b) parts.0) in
     subst (λ k. (is_eq (compare_keys k a) && no_null k) ≡ true) are (rw (same_key total a) parts.1)
-
-either : (a b : Bool) → a ≡ true → (a || b) ≡ true
-either a b is = rw is refl
-
-or_other : (a b : Bool) → b ≡ true → (a || b) ≡ true
-or_other true b is = refl
-or_other false b is = is
 
 pub clash_turned : Total → Ties → (uniques : List Index) (row other : Row) → clash uniques row other ≡ true → clash uniques other row ≡ true
 clash_turned total ties [] row other clashes = absurd (false≢true clashes)
 clash_turned total ties (index ∷ uniques) row other clashes =
     elim (or_cases (is_eq (compare_keys (key_of index.places row) (key_of index.places other)) && no_null (key_of index.places row)) (clash uniques row other) clashes) [
-      | inl here ↦ either (is_eq (compare_keys (key_of index.places other) (key_of index.places row)) && no_null (key_of index.places other)) (clash uniques other row) (one_turned total ties (key_of index.places row) (key_of index.places other) here)
-      | inr there ↦ or_other (is_eq (compare_keys (key_of index.places other) (key_of index.places row)) && no_null (key_of index.places other)) (clash uniques other row) (clash_turned total ties uniques row other there)
+      | inl here ↦ or_left (is_eq (compare_keys (key_of index.places other) (key_of index.places row)) && no_null (key_of index.places other)) (clash uniques other row) (one_turned total ties (key_of index.places row) (key_of index.places other) here)
+      | inr there ↦ or_right (is_eq (compare_keys (key_of index.places other) (key_of index.places row)) && no_null (key_of index.places other)) (clash uniques other row) (clash_turned total ties uniques row other there)
     ]
 
 -- the rows in front of a row don't clash with it

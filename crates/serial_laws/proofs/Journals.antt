@@ -23,14 +23,7 @@ use Rattle.plan_words.specs.Histories.{HistoryItem, history, entry_adds}
 use Rattle.tool_program.specs.declared.tool.Tool.{Tool}
 use Rattle.tool_program.specs.declared.tool.Tool.TheVariants.{Creating}
 use Rattle.tool_program.specs.Programs.{Progress, progress, after_turn, given, tool_actor, tool_asks, clients_over, over_from, is_none, session_named}
-
-pub state-more : (plan : PlanData) (journal : List Entry) (entry : Entry) → state_at plan (journal ++ (entry ∷ [])) ≡ after_entry (state_at plan journal) entry
-unfolding state_at
-state-more plan journal entry = fold-append after_entry (opening plan) journal (entry ∷ [])
-
-pub progress-more : (plan : PlanData) (journal : List Entry) (entry : Entry) → progress plan (journal ++ (entry ∷ [])) ≡ after_turn plan (progress plan journal) entry
-unfolding progress
-progress-more plan journal entry = fold-append (after_turn plan) (record { turns = 0; tool = Creating }) journal (entry ∷ [])
+use Rattle.tool_program.proofs.Journals.{state-more, progress-more, tool_given, given_to_tool}
 
 pub history-more : (plan : PlanData) (journal : List Entry) (entry : Entry) → history plan (journal ++ (entry ∷ [])) ≡ history plan journal ++ entry_adds plan journal entry
 unfolding history
@@ -132,20 +125,6 @@ none_asks_over plan journal client asked over some =
     (λ place at found.
     let none : is_none (client_asks plan journal (1 + place)) ≡ true = each_over plan journal 1 place lines plan.clients over found in
     none_asks asked (client_asks plan journal client) (rw at none) some))
-
--- what the tool is given: its next call, once the clients are over
-abbrev pub tool_given : PlanData → List Entry → Actor → Option Asked
-tool_given plan journal actor = cond (same_actor (tool_actor (progress plan journal).tool) actor && clients_over plan journal) (tool_asks plan (plan_altered plan) (progress plan journal).tool) None
-
-given_to_tool : (plan : PlanData) (journal : List Entry) (actor : Actor) → is_client actor ≡ false → given plan journal actor ≡ tool_given plan journal actor
-unfolding given
-given_to_tool plan journal Op is = refl
-given_to_tool plan journal Insp is = refl
-given_to_tool plan journal Copy is = refl
-given_to_tool plan journal Apply is = refl
-given_to_tool plan journal Lock is = refl
-given_to_tool plan journal Ren is = refl
-given_to_tool plan journal (Client c) is = absurd (true≢false is)
 
 -- the call of the tool's turn
 pub record ToolTurn (plan : PlanData) (journal : List Entry) (actor : Actor) (asked : Asked) : Type 0 where

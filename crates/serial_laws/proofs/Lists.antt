@@ -3,18 +3,11 @@ use Rattle.std.proofs.Common.{◌≡◌, ℕ, ◌+◌, Bool, true, false, ◌&&�
 use Rattle.std.proofs.lemmas.List.{append_assoc, append-nil, map-append}
 use Rattle.std.proofs.lemmas.List.Elements.{filter-append}
 use Rattle.std.specs.List.{AllByRecursion, filter, find, slice_get, list_any}
+use Rattle.tool_program.proofs.Found.{some_at}
 
 pub all-front : {X : Type 0} (P : X → Type 0) (a b : List X) → AllByRecursion P (a ++ b) → AllByRecursion P a
 all-front P [] b all = tt
 all-front P (x ∷ a) b all = (all.0, all-front P a b all.1)
-
-pub all-back : {X : Type 0} (P : X → Type 0) (a b : List X) → AllByRecursion P (a ++ b) → AllByRecursion P b
-all-back P [] b all = all
-all-back P (x ∷ a) b all = all-back P a b all.1
-
-pub all-both : {X : Type 0} (P : X → Type 0) (a b : List X) → AllByRecursion P a → AllByRecursion P b → AllByRecursion P (a ++ b)
-all-both P [] b front back = back
-all-both P (x ∷ a) b front back = (front.0, all-both P a b front.1 back)
 
 pub all-so : {X : Type 0} (P Q : X → Type 0) → ((x : X) → P x → Q x) → (a : List X) → AllByRecursion P a → AllByRecursion Q a
 all-so P Q so [] all = tt
@@ -46,24 +39,6 @@ find_first test (y ∷ a) x c before passing = rw before.0 (find_first test a x 
 pub find_none : {X : Type 0} (test : X → Bool) (a : List X) → AllByRecursion (λ y. test y ≡ false) a → find test a ≡ None
 find_none test [] none = refl
 find_none test (y ∷ a) none = rw none.0 (find_none test a none.1)
-
-none_at : {X : Type 0} (b : Bool) (y : X) (more : Option X) → cond b (Some y) more ≡ None → (b ≡ false) × (more ≡ None)
-none_at true y more none = absurd (cc)
-none_at false y more none = (refl, none)
-
--- where none is found none passes
-pub none_found : {X : Type 0} (test : X → Bool) (a : List X) → find test a ≡ None → AllByRecursion (λ y. test y ≡ false) a
-none_found test [] none = tt
-none_found test (y ∷ a) none = let parts = none_at (test y) y (find test a) none in (parts.0, none_found test a parts.1)
-
--- what is found passes
-some_at : {X : Type 0} (b : Bool) (y x : X) (more : Option X) → cond b (Some y) more ≡ Some x → (P : X → Type 0) → (b ≡ true → P y) → (more ≡ Some x → P x) → P x
-some_at true y x more some P here there = let same : y ≡ x = cc in subst P same (here refl)
-some_at false y x more some P here there = there some
-
-pub some_found : {X : Type 0} (test : X → Bool) (a : List X) (x : X) → find test a ≡ Some x → test x ≡ true
-some_found test [] x some = absurd (cc)
-some_found test (y ∷ a) x some = some_at (test y) y x (find test a) some (λ z. test z ≡ true) (λ e. e) (some_found test a x)
 
 pub found_in : {X : Type 0} (test : X → Bool) (P : X → Type 0) (a : List X) (x : X) → AllByRecursion P a → find test a ≡ Some x → P x
 found_in test P [] x all some = absurd (cc)

@@ -22,10 +22,11 @@ use Rattle.server_words.specs.Serving.{answered, creates, begins, renames}
 use Rattle.plan_words.specs.PlanData.{PlanData}
 use Rattle.plan_words.specs.Journals.{is_live, is_client, same_actor, state_at, with_session_open, after_entry, serves_asked}
 use Rattle.tool_program.specs.Programs.{session_named, session_for}
-use Rattle.serial_laws.proofs.Lists.{all-both}
+use Rattle.tool_program.proofs.Journals.{state-more}
 use Rattle.serial_laws.proofs.Sessions.{Calm, CalmOne, KeepsLive, edits_keep_live, one_more_keeps, new_is_live}
 use Rattle.serial_laws.proofs.Stages.{OpenedTo}
-use Rattle.serial_laws.proofs.Journals.{state-more, named-more, named_after}
+use Rattle.serial_laws.proofs.Journals.{named-more, named_after}
+use Rattle.least_session.proofs.Kept.{both}
 
 -- the session of each actor is live
 abbrev pub Live : PlanData → List Entry → Type 0
@@ -45,7 +46,7 @@ opened_at plan journal entry false is live names =
     let next : entry.session ≡ (state_at plan journal).made + 1 = live_or_next plan journal entry.actor entry.session (session_named entry.actor journal) live refl names is in
     record {
       tables = refl;
-      calm = λ calm. all-both CalmOne (state_at plan journal).sessions (new_session ((state_at plan journal).made + 1) (not (is_client entry.actor)) ∷ []) calm ((refl, refl), tt);
+      calm = λ calm. both CalmOne (state_at plan journal).sessions (new_session ((state_at plan journal).made + 1) (not (is_client entry.actor)) ∷ []) calm ((refl, refl), tt);
       live = rw next (new_is_live ((state_at plan journal).made + 1) (not (is_client entry.actor)) (state_at plan journal).sessions);
       stays = λ there. absurd (false≢true (sym is ∙ there));
     }

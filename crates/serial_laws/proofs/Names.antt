@@ -10,15 +10,12 @@ use Rattle.tool_program.specs.ToolNames.{ghost_name, old_name}
 pub same : (a b : List ℕ) → a ≡ b → bytes_eq a b ≡ true
 same a b is = (bytes_eq-Decides a b).1 is
 
-pub are_same : (a b : List ℕ) → bytes_eq a b ≡ true → a ≡ b
-are_same a b is = (bytes_eq-Decides a b).0 is
-
 false_from : (b : Bool) → (b ≡ true → ⊥) → b ≡ false
 false_from true not = absurd (not refl)
 false_from false not = refl
 
 pub differ : (a b : List ℕ) → (a ≡ b → ⊥) → bytes_eq a b ≡ false
-differ a b not = false_from (bytes_eq a b) (λ is. not (are_same a b is))
+differ a b not = false_from (bytes_eq a b) (λ is. not ((bytes_eq-Decides a b).0 is))
 
 -- the migrated table's name, as its schema has it, among the tool's names
 pub record NamesApart (self name : List ℕ) : Type 0 where

@@ -6,7 +6,7 @@ use Rattle.event_codec.specs.declared.event.RowEvent.{RowEvent}
 use Rattle.server_words.specs.declared.session.Session.{Session}
 use Rattle.server_words.specs.States.{State, session_of, with_session, is_in_transaction, writes_of, new_session, connected, begun, at_rest, wrote}
 use Rattle.plan_words.specs.Journals.{is_live}
-use Rattle.serial_laws.proofs.Lists.{all-both}
+use Rattle.least_session.proofs.Kept.{both}
 
 -- a session outside a transaction
 abbrev pub CalmOne : Session → Type 0

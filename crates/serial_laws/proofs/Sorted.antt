@@ -7,7 +7,9 @@ use Rattle.gho_values.specs.declared.value.Value.{Value}
 use Rattle.gho_values.specs.Comparing.{compare_keys}
 use Rattle.gho_schema.specs.Rows.{key_of}
 use Rattle.gho_schema.specs.Tables.{Ascends}
-use Rattle.serial_laws.proofs.Lists.{all-front, all-back, all-both, all-so}
+use Rattle.serial_laws.proofs.Lists.{all-front, all-so}
+use Rattle.tool_program.proofs.Found.{all-back}
+use Rattle.least_session.proofs.Kept.{both}
 
 abbrev pub Row : Type 0
 Row = List Value

@@ -30,6 +30,7 @@ use Rattle.tool_program.specs.ToolNames.{ghost_name}
 use Rattle.tool_program.specs.declared.tool.Tool.{Tool}
 use Rattle.tool_program.specs.declared.tool.Tool.TheVariants.{Creating, Reaching, Choosing, Spanning, Copying, Renaming, Done, Reverting, Reverted}
 use Rattle.tool_program.specs.Programs.{Progress, progress, given, IsGiven, Follows, session_named, session_for, clients_over, tool_asks, tool_call, tool_actor, asks_request, after_answer, chunk_call, after_turn}
+use Rattle.tool_program.proofs.Journals.{state-more, progress-more}
 use Rattle.plan_words.specs.Migratable.{IsMigratable}
 use Rattle.serial_laws.specs.SerialLaws.{JournalsAreSerial}
 use Rattle.serial_laws.proofs.Sessions.{Calm, Quiet, calm-quiet, Busy, but-busy}
@@ -40,7 +41,7 @@ use Rattle.serial_laws.proofs.Early.{creates_ghost, reaches}
 use Rattle.serial_laws.proofs.Chunks.{chooses, spans}
 use Rattle.serial_laws.proofs.Copies.{copying}
 use Rattle.serial_laws.proofs.Late.{serial-more, renames, own_left, pairs}
-use Rattle.serial_laws.proofs.Journals.{state-more, progress-more, history-more, named-more, named_after, over-kept, AsksStatement, client_statement, none_asks_over, ToolTurn, tool_turn, is_copy}
+use Rattle.serial_laws.proofs.Journals.{history-more, named-more, named_after, over-kept, AsksStatement, client_statement, none_asks_over, ToolTurn, tool_turn, is_copy}
 use Rattle.serial_laws.proofs.Living.{Live, opened_to, live_more, live_none}
 
 -- the clients are over, unless they are still at work

@@ -16,12 +16,14 @@ use Rattle.gho_schema.specs.declared.schema.Index.{Index}
 use Rattle.gho_schema.specs.Rows.{key_of, key_places, has_key, with_row, put}
 use Rattle.gho_schema.specs.Tables.{IsRow, IsTable, Ascends, Apart, clash}
 use Rattle.gho_schema.specs.Laws.{PutKeepsOrder}
+use Rattle.gho_schema.proofs.Orders.{all-with_row}
 use Rattle.alter_image.specs.declared.image_fault.UnfitAt.{UnfitAt}
 use Rattle.alter_image.specs.Images.{value_first}
 use Rattle.event_codec.specs.declared.event.RowEvent.{RowEvent}
 use Rattle.event_codec.specs.declared.event.Change.TheVariants.{Write, Delete}
 use Rattle.row_store.specs.RowLists.{is_at, without_key}
 use Rattle.row_store.specs.Databases.{TableRows, Database, find_table, clashing, row_at_key}
+use Rattle.row_store.proofs.TableLaws.{apart_here, some_rows}
 use Rattle.script_text.specs.declared.statement.Statement.{Statement}
 use Rattle.script_text.specs.declared.statement.Statement.TheVariants as statements
 use Rattle.script_text.specs.declared.statement.Condition.{Condition}
@@ -33,9 +35,10 @@ use Rattle.server_words.specs.declared.said.Sought.{Sought}
 use Rattle.server_words.specs.declared.said.Sought.TheVariants as found_key
 use Rattle.server_words.specs.Statements.{only, stored_from, stored_row, written_unless, written_or, inserts, deletes, deletes_row, selects, sought, at_key, of_table, says, refuses, refuses_value}
 use Rattle.server_words.specs.States.{after_events, changed, without_row}
-use Rattle.serial_laws.proofs.Lists.{all-so, none_found}
+use Rattle.serial_laws.proofs.Lists.{all-so}
 use Rattle.serial_laws.proofs.Sorted.{Row, Total, Before}
 use Rattle.serial_laws.proofs.Images.{Ties, clash_turned, not_true}
+use Rattle.tool_program.proofs.Found.{none_found}
 
 -- what two results in a row make
 pub record Parts (stored : Result Value Unfit) (more : Result (List Value) UnfitAt) (row : Row) : Type 0 where
@@ -61,32 +64,12 @@ stored_fits again place (column ∷ columns) (value ∷ values) row long is =
     let fewer : length values ≡ length columns = omega arith in
     subst (IsRow (column ∷ columns)) (sym parts.is) (again value column.kind column.nullable parts.value parts.stored_is, stored_fits again (place + 1) columns values parts.values fewer parts.more_is)
 
--- whatever holds of a row and of others holds of all once it is in its place
-placed_all : (P : Row → Type 0) (o : Ordering) (row first : Row) (rows placed : List Row) → P row → P first → AllByRecursion P rows → AllByRecursion P placed
-    → AllByRecursion P (match_ordering o (row ∷ first ∷ rows) (row ∷ first ∷ rows) (first ∷ placed))
-placed_all P Less row first rows placed r f others p = (r, (f, others))
-placed_all P Equal row first rows placed r f others p = (r, (f, others))
-placed_all P Greater row first rows placed r f others p = (f, p)
-
-all-with_row : (P : Row → Type 0) (places : List ℕ) (row : Row) (rows : List Row) → P row → AllByRecursion P rows → AllByRecursion P (with_row places row rows)
-unfolding with_row
-all-with_row P places row [] r others = (r, tt)
-all-with_row P places row (first ∷ rows) r others =
-    placed_all P (compare_keys (key_of places row) (key_of places first)) row first rows (with_row places row rows) r others.0 others.1 (all-with_row P places row rows r others.1)
-
--- a row that clashes with none leaves rows apart
-placed_apart : (uniques : List Index) (o : Ordering) (row first : Row) (rows placed : List Row) → AllByRecursion (λ other. clash uniques row other ≡ false) (first ∷ rows) → Apart uniques (first ∷ rows)
-    → AllByRecursion (λ other. clash uniques first other ≡ false) placed → Apart uniques placed → Apart uniques (match_ordering o (row ∷ first ∷ rows) (row ∷ first ∷ rows) (first ∷ placed))
-placed_apart uniques Less row first rows placed none apart behind more = (none, apart)
-placed_apart uniques Equal row first rows placed none apart behind more = (none, apart)
-placed_apart uniques Greater row first rows placed none apart behind more = (behind, more)
-
 apart-with_row : Total → Ties → (uniques : List Index) (places : List ℕ) (row : Row) (rows : List Row) → AllByRecursion (λ other. clash uniques row other ≡ false) rows → Apart uniques rows → Apart uniques (with_row places row rows)
 unfolding with_row
 apart-with_row total ties uniques places row [] none apart = (tt, tt)
 apart-with_row total ties uniques places row (first ∷ rows) none apart =
     let first_row : clash uniques first row ≡ false = not_true (clash uniques first row) (λ clashes. false≢true (sym none.0 ∙ clash_turned total ties uniques first row clashes)) in
-    placed_apart uniques (compare_keys (key_of places row) (key_of places first)) row first rows (with_row places row rows) none apart
+    apart_here uniques (compare_keys (key_of places row) (key_of places first)) row first rows (with_row places row rows) none apart
     (all-with_row (λ other. clash uniques first other ≡ false) places row rows first_row apart.0) (apart-with_row total ties uniques places row rows none.1 apart.1)
 
 -- the table with a row more, where the row has a new key
@@ -101,39 +84,6 @@ put_at order total ties schema row rows false is table fits none =
 pub put_keeps_table : PutKeepsOrder → Total → Ties → (schema : Schema) (row : Row) (rows : List Row) → IsTable schema rows → IsRow schema.columns row → AllByRecursion (λ other. clash schema.uniques row other ≡ false) rows
     → IsTable schema (unwrap_or (put (key_places schema) row rows) rows)
 put_keeps_table order total ties schema row rows table fits none = put_at order total ties schema row rows (has_key (key_places schema) rows (key_of (key_places schema) row)) refl table fits none
-
--- some of a table's rows are a table
-all_kept_at : {X : Type 0} (P : X → Type 0) (b : Bool) (x : X) (kept : List X) → P x → AllByRecursion P kept → AllByRecursion P (cond b (x ∷ kept) kept)
-all_kept_at P true x kept here more = (here, more)
-all_kept_at P false x kept here more = more
-
-all_kept : {X : Type 0} (P : X → Type 0) (test : X → Bool) (xs : List X) → AllByRecursion P xs → AllByRecursion P (filter test xs)
-all_kept P test [] all = tt
-all_kept P test (x ∷ xs) all = all_kept_at P (test x) x (filter test xs) all.0 (all_kept P test xs all.1)
-
-ascends_kept_at : (places : List ℕ) (b : Bool) (row : Row) (kept : List Row) → AllByRecursion (Before places row) kept → Ascends places kept → Ascends places (cond b (row ∷ kept) kept)
-ascends_kept_at places true row kept here more = (here, more)
-ascends_kept_at places false row kept here more = more
-
-ascends_kept : (places : List ℕ) (test : Row → Bool) (rows : List Row) → Ascends places rows → Ascends places (filter test rows)
-ascends_kept places test [] ascends = tt
-ascends_kept places test (row ∷ rows) ascends = ascends_kept_at places (test row) row (filter test rows) (all_kept (Before places row) test rows ascends.0) (ascends_kept places test rows ascends.1)
-
-apart_kept_at : (uniques : List Index) (b : Bool) (row : Row) (kept : List Row) → AllByRecursion (λ other. clash uniques row other ≡ false) kept → Apart uniques kept → Apart uniques (cond b (row ∷ kept) kept)
-apart_kept_at uniques true row kept here more = (here, more)
-apart_kept_at uniques false row kept here more = more
-
-apart_kept : (uniques : List Index) (test : Row → Bool) (rows : List Row) → Apart uniques rows → Apart uniques (filter test rows)
-apart_kept uniques test [] apart = tt
-apart_kept uniques test (row ∷ rows) apart =
-    apart_kept_at uniques (test row) row (filter test rows) (all_kept (λ other. clash uniques row other ≡ false) test rows apart.0) (apart_kept uniques test rows apart.1)
-
-pub filter_keeps_table : (schema : Schema) (test : Row → Bool) (rows : List Row) → IsTable schema rows → IsTable schema (filter test rows)
-filter_keeps_table schema test rows table = record {
-  rows_fit = all_kept (IsRow schema.columns) test rows table.rows_fit;
-  ascends = ascends_kept (key_places schema) test rows table.ascends;
-  apart = apart_kept schema.uniques test rows table.apart;
-}
 
 -- what a statement leaves of the one table
 pub record Leaves (schema : Schema) (rows : List Row) (said : StatementResult) : Type 0 where
@@ -193,7 +143,7 @@ leaves_removed schema rows name (Some row) named table =
     record {
       left = without_key (key_places schema) (key_of (key_places schema) row) rows;
       tables = rw named (rw named refl);
-      is_table = filter_keeps_table schema (λ other. not (is_at (key_places schema) (key_of (key_places schema) row) other)) rows table;
+      is_table = some_rows schema (λ other. not (is_at (key_places schema) (key_of (key_places schema) row) other)) rows table;
     }
 
 leaves_sought : (schema : Schema) (rows : List Row) (name : List ℕ) (key : Sought) → bytes_eq schema.name name ≡ true → IsTable schema rows

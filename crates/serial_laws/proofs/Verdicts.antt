@@ -31,8 +31,9 @@ use Rattle.tool_program.specs.declared.tool.Tool.{Tool}
 use Rattle.tool_program.specs.declared.tool.Tool.TheVariants.{Creating, Reaching, Choosing, Spanning, Copying, Renaming, Done, Reverting, Reverted}
 use Rattle.tool_program.specs.ToolNames.{ghost_name, old_name}
 use Rattle.tool_program.specs.Programs.{Progress, progress, after_turn, after_answer, after_chunk_call, after_copy, after_commit, tool_asks, tool_call, asks_request, chunk_call, new_column, given, clients_over, has_ended, is_over, verdict_of, tool_verdict, IsGiven, Follows}
+use Rattle.tool_program.proofs.Journals.{progress-more}
 use Rattle.serial_laws.specs.VerdictLaws.{alter_count, TellsAlter, IsUnfitTurn, NamesTurn, VerdictsTellTheAlter, RevertsNameTurns}
-use Rattle.serial_laws.proofs.Journals.{progress-more, history-more, AsksStatement, client_statement, ToolTurn, tool_turn}
+use Rattle.serial_laws.proofs.Journals.{history-more, AsksStatement, client_statement, ToolTurn, tool_turn}
 
 -- ---- how often the ALTER was done, by how far the tool is
 

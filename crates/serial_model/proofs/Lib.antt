@@ -1,3 +1,1 @@
 mod CopiedTables
-mod Lists
-mod StoredRows

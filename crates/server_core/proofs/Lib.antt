@@ -1,6 +1,5 @@
 mod Cuts
 mod Edited
 mod Lists
-mod StoredRows
 mod Views
 mod Written

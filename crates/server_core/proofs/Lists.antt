@@ -2,12 +2,6 @@
 use Rattle.std.proofs.Common.{◌≡◌, ℕ, zero, suc, ◌+◌, ◌-◌, ◌<◌, ◌≤◌, List, [], ◌∷◌, length, map, get_or, Some, refl, sym, ap, ◌∙◌, arith}
 use Rattle.std.specs.List.{slice_get}
 
--- a list with one item
-pub only_one : {X : Type 0} (items : List X) (item : X) → 1 ≤ length items → length items < 2 → item ≡ get_or items 0 item → items ≡ item ∷ []
-only_one [] item some few is = absurd (omega arith)
-only_one (first ∷ []) item some few is = ap (λ x. x ∷ []) (sym is)
-only_one (first ∷ (next ∷ others)) item some few is = absurd (omega arith)
-
 -- the last item is at the last place
 last_place : (n : ℕ) → suc (suc n) - 1 ≡ suc (suc n - 1)
 last_place n = omega arith

@@ -29,7 +29,7 @@ use Rattle.plain_server.specs.declared.entry.Entry.{Entry}
 use Rattle.plain_server.specs.Entries.{is_command, is_client}
 use Rattle.history_laws.specs.Holdings.{face_of, IsHeld, Face, face_in}
 use Rattle.server_laws.specs.Others.{asks_exclusive, held_at, waiters_at, waits_on, is_waiting_on, IsGrantedName, MayWrite, TurnOf, EntriesAreTurns}
-use Rattle.history_laws.proofs.Faces.{none_of, faces_opened, changed_there, gone_there}
+use Rattle.history_laws.proofs.Faces.{faces_opened, changed_there, gone_there}
 use Rattle.history_laws.proofs.Names.{Among2, as_held, as_needed, held_with, held_less, held_joined, some_among, both_among, at_number, Holding, holding_of}
 use Rattle.std.specs.Option.{is_some}
 use Rattle.row_store.specs.declared.renaming.Pair.{Pair}
@@ -54,6 +54,7 @@ use Rattle.plain_server.specs.Locking.{need, need_within, blocker}
 use Rattle.plain_server.specs.declared.session.Waiting.{Waiting}
 use Rattle.journal_words.specs.Journals.{after_entry, opens, opens_if}
 use Rattle.statement_laws.proofs.Tests.{same_number, same_bytes, are_same, turned_bytes, or_true, nor_left}
+use Rattle.least_session.proofs.Sessions.{none_of}
 
 -- WHAT OTHERS HOLD
 

@@ -15,38 +15,13 @@ use Rattle.gho_schema.specs.Clustering.{is_not_null, clustered_place, unique_at}
 use Rattle.gho_schema.specs.Rows.{key_of, key_places, places_of}
 use Rattle.gho_schema.specs.Tables.{IsRow, no_null}
 use Rattle.row_store.specs.Databases.{TableRows, rows_in}
+use Rattle.row_store.proofs.TableLaws.{key_no_null}
 use Rattle.plain_server.specs.Rows.{reaches, rows_met, lies_under}
 use Rattle.statement_laws.specs.Covering.{IsOrderlyTable}
 use Rattle.statement_laws.specs.Databases.{WhereFound}
 use Rattle.server_laws.specs.Others.{SpanStays}
 use Rattle.statement_laws.proofs.Orderly.{nulls}
 use Rattle.server_laws.proofs.Agreements.{rows_stay}
-
--- a column that may not be null stores no null
-no_null_here : StoresNullWhereNullable → (column : Column) (v : Value) → stores v column.kind column.nullable ≡ Ok v → not column.nullable ≡ true → no_null (v ∷ []) ≡ true
-no_null_here where_nullable column Null fits not_null = let told = (where_nullable Null column.kind column.nullable fits).1 in absurd (cc (ap not told))
-no_null_here where_nullable column (Num n) fits not_null = refl
-no_null_here where_nullable column (Text text) fits not_null = refl
-no_null_here where_nullable column (Blob blob) fits not_null = refl
-
-value_there : StoresNullWhereNullable → (columns : List Column) (row : List Value) (place : ℕ) → IsRow columns row → is_not_null (slice_get columns place) ≡ true → (v : Value) × (slice_get row place ≡ Some v) × (no_null (v ∷ []) ≡ true)
-value_there where_nullable [] row place fits not_null = absurd cc
-value_there where_nullable (column ∷ columns) [] place fits not_null = absurd fits
-value_there where_nullable (column ∷ columns) (v ∷ vs) zero fits not_null = (v, refl, no_null_here where_nullable column v fits.0 not_null)
-value_there where_nullable (column ∷ columns) (v ∷ vs) (suc place) fits not_null = value_there where_nullable columns vs place fits.1 not_null
-
-more_no_null : (v : Value) (vs : List Value) → no_null (v ∷ []) ≡ true → no_null vs ≡ true → no_null (v ∷ vs) ≡ true
-more_no_null Null vs here others = absurd cc
-more_no_null (Num n) vs here others = others
-more_no_null (Text text) vs here others = others
-more_no_null (Blob blob) vs here others = others
-
-pub key_no_null : StoresNullWhereNullable → (columns : List Column) (row : List Value) (places : List ℕ) → IsRow columns row → AllByRecursion (λ place. is_not_null (slice_get columns place) ≡ true) places → no_null (key_of places row) ≡ true
-unfolding key_of
-key_no_null where_nullable columns row [] fits not_null = refl
-key_no_null where_nullable columns row (place ∷ places) fits not_null =
-    let there = value_there where_nullable columns row place fits not_null.0 in
-    rw there.1 (more_no_null there.0 (key_of places row) there.2 (key_no_null where_nullable columns row places fits not_null.1))
 
 -- the clustered key of a row is in the span where the row is reached
 index_there : (found : Option Index) → 0 < length (places_of found) → (index : Index) × (found ≡ Some index)

@@ -1,6 +1,6 @@
 -- What a statement writes lies under what it needs; and what one session writes lies under no lock of another.
 use Rattle.std.proofs.Common.{◌≡◌, ℕ, ◌==◌, arith, Bool, true, false, not, ◌&&◌, ◌||◌, List, [], ◌∷◌, ◌++◌, map, cond, Option, Some, None, Result, Ok, Err, refl, sym, ap, ◌∙◌}
-use Rattle.std.proofs.lemmas.Bool.{false≢true, true≢false}
+use Rattle.std.proofs.lemmas.Bool.{false≢true, true≢false, and_parts}
 use Rattle.std.proofs.lemmas.Bool.Decides.{nat_tests}
 use Rattle.std.specs.List.{AllByRecursion, list_any, slice_get}
 use Rattle.std.specs.Str.{bytes_eq}
@@ -28,7 +28,7 @@ use Rattle.statement_laws.specs.Agreeing.{covers, is_under, SameWhere, Among, Wi
 use Rattle.statement_laws.specs.Covering.{rows_of, RowsCovered, Covered, Apart}
 use Rattle.statement_laws.proofs.Standing.{one_row, stands-put, stands-filter}
 use Rattle.statement_laws.proofs.Points.{within-left, within-right, within-itself, within-parts, among-within, point_of}
-use Rattle.statement_laws.proofs.Tests.{same_number, same_bytes, are_same, and_left, and_right}
+use Rattle.statement_laws.proofs.Tests.{same_number, same_bytes, are_same}
 
 covered-both : (schema : Schema) (locks : List Lock) (a b : List Change) → Covered schema locks a → Covered schema locks b → Covered schema locks (a ++ b)
 covered-both schema locks [] b one two = two
@@ -114,12 +114,12 @@ found_key : (schema : Schema) (row : Row) (lock : Lock) (found : Option Index) �
 unfolding lies_under
 found_key schema row lock None stood named is = absurd (false≢true is)
 found_key schema row lock (Some index) stood named is =
-    record { index = index; stands = stood; named = named; full = and_left (no_null (key_of index.places row)) (has lock.span (key_of index.places row)) is; within = and_right (no_null (key_of index.places row)) (has lock.span (key_of index.places row)) is }
+    record { index = index; stands = stood; named = named; full = (and_parts (no_null (key_of index.places row)) (has lock.span (key_of index.places row)) is).0; within = (and_parts (no_null (key_of index.places row)) (has lock.span (key_of index.places row)) is).1 }
 
 found_lock : (schema : Schema) (row : Row) (lock : Lock) → covers schema row lock ≡ true → Found schema row lock
 found_lock schema row lock is =
-    found_key schema row lock (slice_get schema.uniques lock.key) refl (and_left (bytes_eq lock.table schema.name) (lies_under (slice_get schema.uniques lock.key) lock.span row) is)
-    (and_right (bytes_eq lock.table schema.name) (lies_under (slice_get schema.uniques lock.key) lock.span row) is)
+    found_key schema row lock (slice_get schema.uniques lock.key) refl ((and_parts (bytes_eq lock.table schema.name) (lies_under (slice_get schema.uniques lock.key) lock.span row) is).0)
+    ((and_parts (bytes_eq lock.table schema.name) (lies_under (slice_get schema.uniques lock.key) lock.span row) is).1)
 
 bytes_turn : (a b : List ℕ) → bytes_eq a b ≡ true → bytes_eq b a ≡ true
 bytes_turn a b is = ap (bytes_eq b) (are_same a b is) ∙ same_bytes b

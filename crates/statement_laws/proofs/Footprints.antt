@@ -1,6 +1,7 @@
 -- The footprint law: where two lists of rows agree under what a statement needs, it says and needs the same on both.
 use Rattle.std.proofs.Common.{◌≡◌, Bool, true, false, not, ◌&&◌, List, [], ◌∷◌, ◌++◌, map, Option, Ok, Err, refl, ap, ◌∙◌}
 use Rattle.std.specs.List.{AllByRecursion, list_any}
+use Rattle.std.proofs.lemmas.Bool.{and_parts}
 use Rattle.gho_values.specs.declared.value.Value.{Value}
 use Rattle.gho_schema.specs.declared.schema.Schema.{Schema}
 use Rattle.gho_schema.specs.Rows.{key_places}
@@ -18,7 +19,7 @@ use Rattle.plain_server.specs.Needing.{lock_on, points, points_of, needs}
 use Rattle.statement_laws.specs.Agreeing.{is_under, SameWhere}
 use Rattle.statement_laws.proofs.Standing.{same-filter, same-any, same-within, same-changed}
 use Rattle.statement_laws.proofs.Points.{under-append, clash_under}
-use Rattle.statement_laws.proofs.Tests.{same_bytes, and_left, or_true}
+use Rattle.statement_laws.proofs.Tests.{same_bytes, or_true}
 
 -- what is said and needed on the one list is said and needed on the other
 pub record AreAlike (schema : Schema) (work : Work) (a b : List Row) : Type 0 where
@@ -54,7 +55,7 @@ updates_alike schema sets test [] a b same within = refl
 updates_alike schema sets test (old ∷ met) a b same within =
     let clashes : clashes_besides schema (with_sets sets old) old a ≡ clashes_besides schema (with_sets sets old) old b =
     same-any (λ other. clash schema.uniques (with_sets sets old) other && not (same_row old other)) a b
-    (same-within (λ other. clash schema.uniques (with_sets sets old) other && not (same_row old other)) test a b (λ other is. within.0 other (and_left (clash schema.uniques (with_sets sets old) other) (not (same_row old other)) is)) same) in
+    (same-within (λ other. clash schema.uniques (with_sets sets old) other && not (same_row old other)) test a b (λ other is. within.0 other ((and_parts (clash schema.uniques (with_sets sets old) other) (not (same_row old other)) is).0)) same) in
     let change : Change = changes.Update old (with_sets sets old) in
     let later : updates schema sets met (change_rows (key_places schema) change a) ≡ updates schema sets met (change_rows (key_places schema) change b) =
     updates_alike schema sets test met (change_rows (key_places schema) change a) (change_rows (key_places schema) change b) (same-changed test (key_places schema) change a b same) within.1 in

@@ -1,6 +1,6 @@
 -- A statement leaves a table.
 use Rattle.std.proofs.Common.{◌≡◌, ℕ, Bool, true, false, not, ◌&&◌, ◌||◌, List, [], ◌∷◌, ◌++◌, map, filter, cond, Option, Some, None, Result, Ok, Err, refl, sym, ap, ◌∙◌}
-use Rattle.std.proofs.lemmas.Bool.{true≢false}
+use Rattle.std.proofs.lemmas.Bool.{true≢false, and_parts}
 use Rattle.std.specs.List.{AllByRecursion, list_any}
 use Rattle.gho_values.specs.declared.value.Value.{Value}
 use Rattle.gho_schema.specs.declared.schema.Schema.{Schema}
@@ -23,31 +23,14 @@ use Rattle.gho_values.specs.Laws.{StoresNullWhereNullable}
 use Rattle.gho_schema.specs.declared.schema.Column.{Column}
 use Rattle.row_store.specs.ClusteredKeys.{HasClusteredKey}
 use Rattle.row_store.specs.Databases.{clashing}
-use Rattle.row_store.proofs.TableLaws.{put_keeps}
+use Rattle.row_store.proofs.TableLaws.{put_keeps, apart-filter, some_rows}
 use Rattle.gho_values.proofs.StoredValues.{keeps}
 use Rattle.gho_values.specs.declared.value.Value.TheVariants.{Null}
 use Rattle.statement_laws.proofs.Standing.{one_row, same_itself, stands-filter, some_row, found_by}
-use Rattle.statement_laws.proofs.Tests.{and_left, and_right, nor_left, nor_right}
+use Rattle.statement_laws.proofs.Tests.{nor_left, nor_right}
 
 pub nulls : StoresNullWhereNullable
 nulls value kind nullable is = (keeps value kind nullable Null is).null refl
-
-kept_apart : (uniques : List Index) (b : Bool) (row : Row) (rows : List Row) → AllByRecursion (λ other. clash uniques row other ≡ false) rows → Apart uniques rows → Apart uniques (cond b (row ∷ rows) rows)
-kept_apart uniques true row rows none apart = (none, apart)
-kept_apart uniques false row rows none apart = apart
-
-apart-filter : (uniques : List Index) (test : Row → Bool) (rows : List Row) → Apart uniques rows → Apart uniques (filter test rows)
-apart-filter uniques test [] apart = tt
-apart-filter uniques test (row ∷ rows) apart =
-    kept_apart uniques (test row) row (filter test rows) (all-filter (λ other. clash uniques row other ≡ false) test rows apart.0) (apart-filter uniques test rows apart.1)
-
--- some rows of a table are a table
-pub some_rows : (schema : Schema) (test : Row → Bool) (rows : List Row) → IsTable schema rows → IsTable schema (filter test rows)
-some_rows schema test rows are = record {
-  rows_fit = all-filter (IsRow schema.columns) test rows are.rows_fit;
-  ascends = ascends-filter (key_places schema) test rows are.ascends;
-  apart = apart-filter schema.uniques test rows are.apart;
-}
 
 orderly_gone : (schema : Schema) (gone : Row) (rows : List Row) → IsTable schema rows → IsTable schema (without_row gone rows)
 orderly_gone schema gone rows are = some_rows schema (λ other. not (same_row gone other)) rows are
@@ -91,7 +74,7 @@ left_over places row [] rows stood = record { stood = stood; stays = refl }
 left_over places row (first ∷ gone) rows stood =
     let rest : Left row gone (without_row first rows) = left_over places row gone (without_row first rows) stood in
     let both : (stands row rows && not (same_row first row)) ≡ true = sym (stands-filter (λ other. not (same_row first other)) row rows) ∙ rest.stood in
-    record { stood = and_left (stands row rows) (not (same_row first row)) both; stays = rw rest.stays (apart (same_row row first) refl (and_right (stands row rows) (not (same_row first row)) both)) } where
+    record { stood = (and_parts (stands row rows) (not (same_row first row)) both).0; stays = rw rest.stays (apart (same_row row first) refl ((and_parts (stands row rows) (not (same_row first row)) both).1)) } where
       apart : (b : Bool) → same_row row first ≡ b → not (same_row first row) ≡ true → (b || false) ≡ false
       apart true same not_same =
           let yes : same_row first row ≡ true = ap (λ (r : Row). same_row first r) (one_row row first same) ∙ same_itself first in
@@ -131,8 +114,8 @@ none_besides schema new old rows none =
     false_unless (list_any (clash schema.uniques new) (without_row old rows)) (λ some.
     let one = some_row (clash schema.uniques new) (without_row old rows) some in
     let both : (stands one.row rows && not (same_row old one.row)) ≡ true = sym (stands-filter (λ other. not (same_row old other)) one.row rows) ∙ one.stands in
-    let other : not (same_row old one.row) ≡ true = and_right (stands one.row rows) (not (same_row old one.row)) both in
-    let yes : clashes_besides schema new old rows ≡ true = found_by (λ other. clash schema.uniques new other && not (same_row old other)) rows one.row (and_left (stands one.row rows) (not (same_row old one.row)) both) (rw (one.passes, other) refl) in
+    let other : not (same_row old one.row) ≡ true = (and_parts (stands one.row rows) (not (same_row old one.row)) both).1 in
+    let yes : clashes_besides schema new old rows ≡ true = found_by (λ other. clash schema.uniques new other && not (same_row old other)) rows one.row ((and_parts (stands one.row rows) (not (same_row old one.row)) both).0) (rw (one.passes, other) refl) in
     true≢false (sym yes ∙ none))
 
 updates_orderly : (schema : Schema) → HasClusteredKey schema → (sets : List (Option Value)) → SetsFit schema.columns sets → (met rows : List Row) → AllByRecursion (IsRow schema.columns) met → IsTable schema rows

@@ -15,11 +15,10 @@ use Rattle.gho_schema.specs.declared.schema.Index.{Index}
 use Rattle.gho_schema.specs.Rows.{key_of}
 use Rattle.gho_schema.specs.Tables.{clash, no_null}
 use Rattle.row_locks.specs.declared.lock.Lock.{Lock}
-use Rattle.row_store.proofs.Orders.{Row}
+use Rattle.row_store.proofs.Orders.{Row, is_Equal}
 use Rattle.plain_server.specs.Rows.{lies_under}
 use Rattle.plain_server.specs.Needing.{lock_on, point_lock, points_from, points}
 use Rattle.statement_laws.specs.Agreeing.{covers, is_under, Among, Within}
-use Rattle.statement_laws.proofs.Standing.{is_Equal}
 use Rattle.statement_laws.proofs.Tests.{same_bytes, or_true}
 
 pub under-append : (schema : Schema) (a b : List Lock) (row : Row) → is_under schema (a ++ b) row ≡ (is_under schema a row || is_under schema b row)

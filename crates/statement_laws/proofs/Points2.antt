@@ -4,6 +4,7 @@ use Rattle.std.specs.Prelude.{option_to_list}
 use Rattle.std.specs.Ordering.{is_eq, is_gt}
 use Rattle.std.specs.List.{AllByRecursion}
 use Rattle.std.proofs.lemmas.Cmp.{tied_itself}
+use Rattle.std.proofs.lemmas.Bool.{and_parts}
 use Rattle.gho_values.specs.Comparing.{compare_keys}
 use Rattle.gho_values.specs.Spans.{has, point}
 use Rattle.gho_values.proofs.Orders.{keys_total, tied_keys}
@@ -12,25 +13,21 @@ use Rattle.gho_schema.specs.declared.schema.Index.{Index}
 use Rattle.gho_schema.specs.Rows.{key_of}
 use Rattle.gho_schema.specs.Tables.{Ascends, no_null}
 use Rattle.row_store.specs.RowLists.{is_at}
-use Rattle.row_store.proofs.Orders.{Row}
+use Rattle.row_store.proofs.Orders.{Row, is_Equal}
 use Rattle.row_store.proofs.FoundRows.{others_not_at}
+use Rattle.row_store.proofs.RowsBetween.{none_pass}
 use Rattle.plain_server.specs.Rows.{lies_under}
-use Rattle.statement_laws.proofs.Standing.{is_Equal, both_ways}
-use Rattle.statement_laws.proofs.Tests.{and_right}
+use Rattle.statement_laws.proofs.Standing.{both_ways}
 
 -- a point is met where the key is just that
 pub under_point : (index : Index) (key row : Row) → no_null key ≡ true → lies_under (Some index) (point key) row ≡ is_at index.places key row
 unfolding lies_under
 under_point index key row full =
     both_ways (no_null (key_of index.places row) && has (point key) (key_of index.places row)) (is_at index.places key row)
-    (λ met. ap (λ (k : Row). is_eq (compare_keys key k)) (point_has_one key (key_of index.places row) (and_right (no_null (key_of index.places row)) (has (point key) (key_of index.places row)) met)) ∙ ap is_eq (tied_itself keys_total key))
+    (λ met. ap (λ (k : Row). is_eq (compare_keys key k)) (point_has_one key (key_of index.places row) ((and_parts (no_null (key_of index.places row)) (has (point key) (key_of index.places row)) met).1)) ∙ ap is_eq (tied_itself keys_total key))
     (λ at.
     let same : key ≡ key_of index.places row = tied_keys key (key_of index.places row) (is_Equal (compare_keys key (key_of index.places row)) at) in
     subst (λ (k : Row). (no_null k && has (point key) k) ≡ true) same (rw (full, point_has_key key) refl))
-
-none_pass : (test : Row → Bool) (rows : List Row) → AllByRecursion (λ row. test row ≡ false) rows → filter test rows ≡ []
-none_pass test [] none = refl
-none_pass test (row ∷ rows) none = rw none.0 (none_pass test rows none.1)
 
 not_greater : (o : Ordering) → is_eq o ≡ true → is_gt o ≡ false
 not_greater Less is = refl

@@ -10,16 +10,11 @@ use Rattle.gho_schema.specs.Rows.{key_of, with_row}
 use Rattle.gho_schema.specs.Tables.{Ascends}
 use Rattle.event_codec.specs.declared.event.Change.{Change}
 use Rattle.event_codec.specs.declared.event.Change.TheVariants.{Write, Update, Delete}
-use Rattle.row_store.proofs.Orders.{Row, not_greater, turned}
-use Rattle.row_store.proofs.Ascending.{ascends-filter}
+use Rattle.row_store.proofs.Orders.{Row, not_greater, turned, is_Equal}
+use Rattle.row_store.proofs.Ascending.{ascends-filter, before_all}
 use Rattle.plain_server.specs.Rows.{same_row, stands, without_row, change_rows, change_all}
 use Rattle.statement_laws.specs.Agreeing.{SameWhere}
 use Rattle.statement_laws.proofs.Tests.{or_true}
-
-pub is_Equal : (o : Ordering) → is_eq o ≡ true → o ≡ Equal
-is_Equal Less is = absurd cc
-is_Equal Equal is = refl
-is_Equal Greater is = absurd cc
 
 -- rows that compare equal are one row
 pub one_row : (row other : Row) → same_row row other ≡ true → row ≡ other
@@ -58,22 +53,16 @@ unfolding stands
 not_among places row [] less = refl
 not_among places row (first ∷ rows) less = not_first places row first (same_row row first) (stands row rows) refl less.0 (not_among places row rows less.1)
 
-less_behind : (places : List ℕ) (row first : Row) (rows : List Row) → compare_keys (key_of places row) (key_of places first) ≡ Less → AllByRecursion (λ other. compare_keys (key_of places first) (key_of places other) ≡ Less) rows
-    → AllByRecursion (λ other. compare_keys (key_of places row) (key_of places other) ≡ Less) rows
-less_behind places row first [] before less = tt
-less_behind places row first (other ∷ rows) before less =
-    (not_greater (key_of places row) (key_of places first) (key_of places other) (compare_keys (key_of places row) (key_of places first)) refl (rw before refl) less.0, less_behind places row first rows before less.1)
-
 -- rows in order are one list where the same rows stand
 heads : (places : List ℕ) (x y : Row) (xs ys : List Row) (o : Ordering) → compare_keys (key_of places x) (key_of places y) ≡ o → Ascends places (x ∷ xs) → Ascends places (y ∷ ys) → ((row : Row) → stands row (x ∷ xs) ≡ stands row (y ∷ ys)) → x ≡ y
 unfolding stands
 heads places x y xs ys Less is one two same =
-    let not : stands x (y ∷ ys) ≡ false = not_among places x (y ∷ ys) (is, less_behind places x y ys is two.0) in
+    let not : stands x (y ∷ ys) ≡ false = not_among places x (y ∷ ys) (is, before_all places x y ys is two.0) in
     let yes : stands x (x ∷ xs) ≡ true = rw (same_itself x) refl in
     absurd (true≢false (sym yes ∙ same x ∙ not))
 heads places x y xs ys Greater is one two same =
     let turn : compare_keys (key_of places y) (key_of places x) ≡ Less = turned (key_of places y) (key_of places x) ∙ rw is refl in
-    let not : stands y (x ∷ xs) ≡ false = not_among places y (x ∷ xs) (turn, less_behind places y x xs turn one.0) in
+    let not : stands y (x ∷ xs) ≡ false = not_among places y (x ∷ xs) (turn, before_all places y x xs turn one.0) in
     let yes : stands y (y ∷ ys) ≡ true = rw (same_itself y) refl in
     absurd (true≢false (sym yes ∙ sym (same y) ∙ not))
 heads places x y xs ys Equal is one two same =

@@ -27,25 +27,9 @@ turned_bytes a b is = at (bytes_eq b a) refl where
   at true back = let same : b ≡ a = are_same b a back in absurd (true≢false (sym (same_bytes a) ∙ ap (bytes_eq a) (sym same) ∙ is))
   at false back = refl
 
-pub and_left : (a b : Bool) → (a && b) ≡ true → a ≡ true
-and_left true b is = refl
-and_left false b is = absurd (false≢true is)
-
-pub and_right : (a b : Bool) → (a && b) ≡ true → b ≡ true
-and_right true b is = is
-and_right false b is = absurd (false≢true is)
-
 pub or_true : (b : Bool) → (b || true) ≡ true
 or_true true = refl
 or_true false = refl
-
-pub or_left : (a b : Bool) → a ≡ true → (a || b) ≡ true
-or_left true b is = refl
-or_left false b is = absurd (false≢true is)
-
-pub or_right : (a b : Bool) → b ≡ true → (a || b) ≡ true
-or_right true b is = refl
-or_right false b is = is
 
 pub nor_left : (a b : Bool) → (a || b) ≡ false → a ≡ false
 nor_left true b is = absurd (true≢false is)

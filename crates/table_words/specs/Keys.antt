@@ -44,6 +44,7 @@ abbrev pub closed : List (List ℕ) → List Token → Option (List Token) → R
 closed names words None = Err (key_mismatch words)
 closed names words (Some rest) = Ok (names, rest)
 
+-- names with commas between them, at least one
 unfoldable pub names_at : List Token → Read (List (List ℕ))
 names_at words = listed name_at Syntax (length words) words
 

@@ -42,8 +42,9 @@ fn key_mismatch(words: &[Token]) -> SchemaCode
     }
 }
 
+/// The names at the front, with commas between them, and what stands behind them.
 #[tactic(auto, unfolding(crate::specs::Keys::names_at))]
-fn names_at(alloc: Global, words: &[Token]) -> Result<(Names, &[Token]), SchemaFault>
+pub fn names_at(alloc: Global, words: &[Token]) -> Result<(Names, &[Token]), SchemaFault>
     ensures { Reads (λ names. (names.0, names.1.now)) result (names_at words.now) }
 {
     let mut names = Sequence::new(alloc);

@@ -13,7 +13,7 @@ mod tokens;
 
 pub use attributes::{Attribute, Attributes, attribute_at};
 pub use code::{SchemaCode, SchemaFault};
-pub use keys::{KeyText, key_at, key_columns_at};
+pub use keys::{KeyText, key_at, key_columns_at, names_at};
 pub use kinds::kind_at;
 pub use literals::{LiteralRef, read_literal};
 pub use pieces::{

@@ -1,5 +1,6 @@
 use Rattle.std.proofs.Common.{◌≡◌, drop}
-use Rattle.metadata_locks.specs.Granting.{least, least_holder}
+use Rattle.metadata_locks.specs.Granting.{least_holder}
+use Rattle.least_session.specs.Least.{least}
 use Rattle.metadata_locks.specs.Requests.{all_locks}
 use Rattle.metadata_locks.proofs.refusing.least_holder.Given as goal
 

@@ -1,5 +1,6 @@
 use Rattle.std.proofs.Common.{◌≡◌, drop}
-use Rattle.metadata_locks.specs.Granting.{least, least_waiter}
+use Rattle.metadata_locks.specs.Granting.{least_waiter}
+use Rattle.least_session.specs.Least.{least}
 use Rattle.metadata_locks.proofs.refusing.least_waiter.Given as goal
 
 -- what is found so far, with what the rest waits for, is what all wait for

@@ -1,5 +1,6 @@
 use Rattle.std.proofs.Common.{◌≡◌, drop}
-use Rattle.metadata_locks.specs.Granting.{least, refuser_of_names}
+use Rattle.metadata_locks.specs.Granting.{refuser_of_names}
+use Rattle.least_session.specs.Least.{least}
 use Rattle.metadata_locks.specs.Requests.{all_locks}
 use Rattle.metadata_locks.proofs.refusing.refuser_of_names.Given as goal
 

@@ -1,5 +1,6 @@
 use Rattle.std.proofs.Common.{◌≡◌, drop}
-use Rattle.row_locks.specs.Granting.{least, refuser_of_set}
+use Rattle.row_locks.specs.Granting.{refuser_of_set}
+use Rattle.least_session.specs.Least.{least}
 use Rattle.row_locks.proofs.refusing.refuser_of_set.Given as goal
 
 -- what is found so far, with what the rest refuses, is what all refuse

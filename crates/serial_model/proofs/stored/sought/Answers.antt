@@ -1,6 +1,6 @@
 use Rattle.std.proofs.Common.{◌≡◌, [], ◌∷◌, ◌∙◌, sym}
 use Rattle.server_words.specs.Statements.{sought}
-use Rattle.serial_model.proofs.Lists.{only_one}
+use Rattle.server_words.proofs.Lists.{only_one}
 use Rattle.serial_model.proofs.stored.sought.Goals as goal
 
 pub returns-in-len1 : goal.returns-in-len1

@@ -1,6 +1,6 @@
 use Rattle.std.proofs.Common.{◌≡◌, ◌<◌, ℕ, length, get_or, subst, arith}
 use Rattle.std.proofs.lemmas.Result.{err_from_is_err_and}
-use Rattle.serial_model.proofs.StoredRows.{goes_on, fails, is_full}
+use Rattle.server_words.proofs.StoredRows.{goes_on, fails, is_full}
 use Rattle.serial_model.proofs.stored.stored_row.Goals as goal
 
 pub returns-in_err-value : goal.returns-in_err-value

@@ -1,6 +1,6 @@
 use Rattle.std.proofs.Common.{◌≡◌, drop}
 use Rattle.server_words.specs.Statements.{stored_from}
-use Rattle.serial_model.proofs.StoredRows.{with_front}
+use Rattle.server_words.proofs.StoredRows.{with_front}
 use Rattle.serial_model.proofs.stored.stored_row.Given as goal
 
 -- the values so far, and those that are still made, are the row

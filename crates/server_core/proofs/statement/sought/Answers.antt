@@ -1,7 +1,7 @@
 use Rattle.std.proofs.Common.{◌≡◌, List, [], ◌∷◌, ◌∙◌, sym}
 use Rattle.script_text.specs.declared.statement.Set.{Set}
 use Rattle.server_words.specs.Statements.{sought}
-use Rattle.server_core.proofs.Lists.{only_one}
+use Rattle.server_words.proofs.Lists.{only_one}
 use Rattle.server_core.proofs.statement.sought.Goals as goal
 
 pub returns-in-len1 : goal.returns-in-len1

@@ -1,6 +1,6 @@
 use Rattle.std.proofs.Common.{◌≡◌, drop}
 use Rattle.server_words.specs.Statements.{stored_from}
-use Rattle.server_core.proofs.StoredRows.{with_front}
+use Rattle.server_words.proofs.StoredRows.{with_front}
 use Rattle.server_core.proofs.statement.stored_row.Given as goal
 
 -- the values so far, and those that are still made, are the row

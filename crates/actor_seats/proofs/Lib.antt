@@ -1,0 +1,3 @@
+pub mod Alters
+pub mod Marking
+pub mod More

@@ -1,0 +1,73 @@
+-- What one more turn does to what is kept of the actors.
+use Rattle.std.proofs.Common.{◌≡◌, ℕ, ◌+◌, ◌<◌, ◌≤◌, Bool, true, false, not, ◌&&◌, List, [], ◌∷◌, ◌++◌, map, length, Option, None, cond, refl, sym, ap, ◌∙◌, arith}
+use Rattle.std.proofs.lemmas.List.Sums.{fold-append, count_by-le-length}
+use Rattle.std.specs.List.{AllByRecursion}
+use Rattle.script_text.specs.declared.actor.Actor.{Actor}
+use Rattle.plain_server.specs.declared.answer.Answer.{Answer}
+use Rattle.plain_server.specs.declared.answer.Answer.TheVariants as answers
+use Rattle.plain_server.specs.declared.entry.Asked.{Asked}
+use Rattle.plain_server.specs.declared.entry.Asked.TheVariants.{Call, Poll}
+use Rattle.plain_server.specs.declared.entry.Entry.{Entry}
+use Rattle.plain_server.specs.declared.request.Request.{Request}
+use Rattle.plain_server.specs.Entries.{same_actor, is_cut}
+use Rattle.journal_words.specs.Journals.{turns_of}
+use Rattle.journal_words.specs.Sessions.{live_session, session_in, session_left}
+use Rattle.journal_words.specs.Histories.{request_waiting, waits_in, waits_behind, renames_away}
+use Rattle.actor_seats.specs.declared.seat.ActorSeat.{ActorSeat}
+use Rattle.actor_seats.specs.Seats.{seat_at, renames_behind, counted, seat_after}
+
+pub live_more : (journal : List Entry) (entry : Entry) (actor : Actor) → live_session (journal ++ entry ∷ []) actor ≡ session_in actor (live_session journal actor) entry
+unfolding live_session
+live_more journal entry actor = fold-append (session_in actor) None journal (entry ∷ [])
+
+waits_more : (journal : List Entry) (entry : Entry) (actor : Actor) → request_waiting (journal ++ entry ∷ []) actor ≡ waits_in actor (request_waiting journal actor) entry
+unfolding request_waiting
+waits_more journal entry actor = fold-append (waits_in actor) None journal (entry ∷ [])
+
+turns_more : (actor : Actor) (journal : List Entry) (entry : Entry) → turns_of actor (journal ++ entry ∷ []) ≡ turns_of actor journal + cond (same_actor entry.actor actor && not (is_cut entry.asked)) 1 0
+turns_more actor journal entry = fold-append (λ (n : ℕ) (e : Entry). n + cond (same_actor e.actor actor && not (is_cut e.asked)) 1 0) 0 journal (entry ∷ [])
+
+abbrev the_seat : Actor → Option ℕ → ℕ → Bool → ActorSeat
+the_seat actor session turns renames = record { actor = actor; session = session; turns = turns; renames = renames }
+
+seat_as : (actor : Actor) (a b : Option ℕ) (m n : ℕ) (x y : Bool) → a ≡ b → m ≡ n → x ≡ y → the_seat actor a m x ≡ the_seat actor b n y
+seat_as actor a b m n x y one two three = ap (λ s. the_seat actor s m x) one ∙ ap (λ t. the_seat actor b t x) two ∙ ap (the_seat actor b n) three
+
+renames_so : (table : List ℕ) (asked : Asked) (answer : Answer) (old : Option Request) → renames_behind table asked answer (renames_away table old) ≡ renames_away table (waits_behind asked answer old)
+renames_so table (Call request) (answers.Waits by) old = refl
+renames_so table Poll (answers.Waits by) old = refl
+renames_so table asked answer old = refl
+
+counted_so : (cut : Bool) (turns : ℕ) → counted cut turns ≡ turns + cond (true && not cut) 1 0
+counted_so true turns = omega arith
+counted_so false turns = refl
+
+-- the seat behind one turn more
+seat_more : (table : List ℕ) (journal : List Entry) (entry : Entry) (actor : Actor) (same : Bool) → same_actor entry.actor actor ≡ same → seat_after table entry (seat_at table journal actor) ≡ seat_at table (journal ++ entry ∷ []) actor
+seat_more table journal entry actor true is =
+    rw is (seat_as actor (session_left entry.asked entry.answer entry.session) (live_session (journal ++ entry ∷ []) actor) (counted (is_cut entry.asked) (turns_of actor journal)) (turns_of actor (journal ++ entry ∷ []))
+    (renames_behind table entry.asked entry.answer (renames_away table (request_waiting journal actor))) (renames_away table (request_waiting (journal ++ entry ∷ []) actor))
+    (sym (rw is at (live_more journal entry actor)))
+    (counted_so (is_cut entry.asked) (turns_of actor journal) ∙ sym (rw is at (turns_more actor journal entry)))
+    (renames_so table entry.asked entry.answer (request_waiting journal actor) ∙ ap (renames_away table) (sym (rw is at (waits_more journal entry actor)))))
+seat_more table journal entry actor false is =
+    let same_turns : turns_of actor (journal ++ entry ∷ []) ≡ turns_of actor journal + 0 = rw is at (turns_more actor journal entry) in
+    rw is (seat_as actor (live_session journal actor) (live_session (journal ++ entry ∷ []) actor) (turns_of actor journal) (turns_of actor (journal ++ entry ∷ []))
+    (renames_away table (request_waiting journal actor)) (renames_away table (request_waiting (journal ++ entry ∷ []) actor))
+    (sym (rw is at (live_more journal entry actor)))
+    (omega (arith, same_turns))
+    (ap (renames_away table) (sym (rw is at (waits_more journal entry actor)))))
+
+-- all seats behind one turn more
+pub seats_more : (table : List ℕ) (journal : List Entry) (entry : Entry) (all : List Actor) → map (seat_after table entry) (map (seat_at table journal) all) ≡ map (seat_at table (journal ++ entry ∷ [])) all
+seats_more table journal entry [] = refl
+seats_more table journal entry (actor ∷ all) =
+    ap (λ seat. seat ∷ map (seat_after table entry) (map (seat_at table journal) all)) (seat_more table journal entry actor (same_actor entry.actor actor) refl)
+    ∙ ap (λ others. seat_at table (journal ++ entry ∷ []) actor ∷ others) (seats_more table journal entry all)
+
+-- no actor took more turns than the journal has
+pub few_turns : (table : List ℕ) (journal : List Entry) (limit : ℕ) (all : List Actor) → length journal < limit → AllByRecursion (λ (seat : ActorSeat). seat.turns < limit) (map (seat_at table journal) all)
+few_turns table journal limit [] few = tt
+few_turns table journal limit (actor ∷ all) few =
+    let at_most : turns_of actor journal ≤ length journal = count_by-le-length (λ (e : Entry). same_actor e.actor actor && not (is_cut e.asked)) journal in
+    (omega (arith, at_most, few), few_turns table journal limit all few)

@@ -1,0 +1,7 @@
+use Rattle.std.proofs.Common.{◌≡◌, drop}
+use Rattle.journal_words.specs.Keeping.{struck_among}
+use Rattle.actor_seats.proofs.losses.struck_among.Given as goal
+
+-- none of the losses so far strikes
+abbrev pub invariant-loop-loss : goal.invariant-loop-loss
+invariant-loop-loss l = struck_among l.actor l.number (drop l.loss-index l.losses) ≡ struck_among l.actor l.number l.losses

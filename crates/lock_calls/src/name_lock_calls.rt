@@ -1,0 +1,194 @@
+//! Calls on a table of metadata locks, with semicolons between them. Names are letters in one word, as `tu`, and a dash stands
+//! for none. `S 1 tu` and `X 1 tu` ask for shared and for exclusive locks of session 1, and `test-S 1 t` and `test-X 1 t` test for
+//! them. `turn 1 t` asks for exclusive locks and ends the request where it is granted; `undo-S 1 t` and `undo-X 1 t` take an ask
+//! back. `poll 1`, `poll-end 1` and `poll-undo 1` are the same of a poll. `end 1` ends a request that waits, and `free 1` takes all
+//! away. These say `granted`, or who refuses. `holder t` says who holds it exclusively, and `waiting 1` whether the session waits.
+
+use case_lines::{CallFault, place_of, say};
+use gho_values::{Name, Names, Sequence, Text};
+use metadata_locks::{Asked2, MetaLocks};
+use std::alloc::{AllocError, Global};
+
+fn names_of(alloc: Global, letters: &str) -> Result<Names, AllocError> {
+    let mut names = Sequence::new(alloc);
+    let mut buffer = [0u8; 4];
+    for letter in letters.chars() {
+        if letter != '-' {
+            names.push(Name::new(alloc, letter.encode_utf8(&mut buffer))?)?;
+        }
+    }
+    Ok(names)
+}
+
+/// What is done with a request that was granted just now.
+#[derive(Clone, Copy, PartialEq, Eq)]
+enum Then {
+    /// It is kept.
+    Keep,
+    /// It is ended.
+    End,
+    /// It is taken back.
+    Undo,
+}
+
+/// An ask of a session that doesn't wait.
+fn ask(
+    locks: &mut MetaLocks,
+    session: u32,
+    names: &Names,
+    exclusive: bool,
+) -> Result<Asked2, CallFault> {
+    if locks.waiting(session) {
+        return Err(CallFault::Unread);
+    }
+    Ok(locks.ask(session, names, exclusive)?)
+}
+
+/// An ask for exclusive locks that is ended where it is granted.
+fn turn(locks: &mut MetaLocks, session: u32, names: &Names) -> Result<Asked2, CallFault> {
+    if locks.waiting(session) {
+        return Err(CallFault::Unread);
+    }
+    let answer = locks.ask(session, names, true)?;
+    if answer == Asked2::Granted {
+        locks.end(session);
+    }
+    Ok(answer)
+}
+
+/// An ask for shared locks that is taken back where it is granted.
+fn shared_undone(locks: &mut MetaLocks, session: u32, names: &Names) -> Result<Asked2, CallFault> {
+    if locks.waiting(session) {
+        return Err(CallFault::Unread);
+    }
+    let answer = locks.ask(session, names, false)?;
+    if answer == Asked2::Granted {
+        locks.undo(session);
+    }
+    Ok(answer)
+}
+
+/// An ask for exclusive locks that is taken back.
+fn exclusive_undone(
+    locks: &mut MetaLocks,
+    session: u32,
+    names: &Names,
+) -> Result<Asked2, CallFault> {
+    if locks.waiting(session) {
+        return Err(CallFault::Unread);
+    }
+    let answer = locks.ask(session, names, true)?;
+    locks.undo(session);
+    Ok(answer)
+}
+
+/// A poll of a session that waits.
+fn poll(locks: &mut MetaLocks, session: u32, then: Then) -> Result<Asked2, CallFault> {
+    if !locks.waiting(session) {
+        return Err(CallFault::Unread);
+    }
+    let answer = locks.poll(session);
+    if answer == Asked2::Granted {
+        match then {
+            Then::Keep => {}
+            Then::End => locks.end(session),
+            Then::Undo => locks.undo(session),
+        }
+    }
+    Ok(answer)
+}
+
+/// The end of a request that waits.
+fn end(locks: &mut MetaLocks, session: u32) -> Result<Asked2, CallFault> {
+    if !locks.waiting(session) {
+        return Err(CallFault::Unread);
+    }
+    locks.end(session);
+    Ok(Asked2::Granted)
+}
+
+/// A call that names locks.
+fn asked(
+    alloc: Global,
+    locks: &mut MetaLocks,
+    call: &str,
+    session: u32,
+    letters: &str,
+) -> Result<Asked2, CallFault> {
+    let names = names_of(alloc, letters)?;
+    match call {
+        "S" => ask(locks, session, &names, false),
+        "X" => ask(locks, session, &names, true),
+        "test-S" => Ok(locks.test(session, &names, false)),
+        "test-X" => Ok(locks.test(session, &names, true)),
+        "turn" => turn(locks, session, &names),
+        "undo-S" => shared_undone(locks, session, &names),
+        "undo-X" => exclusive_undone(locks, session, &names),
+        _ => Err(CallFault::Unread),
+    }
+}
+
+/// A call that names a session alone.
+fn called(locks: &mut MetaLocks, call: &str, session: u32) -> Result<Asked2, CallFault> {
+    match call {
+        "poll" => poll(locks, session, Then::Keep),
+        "poll-end" => poll(locks, session, Then::End),
+        "poll-undo" => poll(locks, session, Then::Undo),
+        "end" => end(locks, session),
+        "free" => {
+            locks.free(session);
+            Ok(Asked2::Granted)
+        }
+        _ => Err(CallFault::Unread),
+    }
+}
+
+fn say_answer(alloc: Global, told: &mut Text, answer: Asked2) -> Result<(), AllocError> {
+    match answer {
+        Asked2::Granted => say(told, "granted"),
+        Asked2::Waits { by } => say(told, format!(in alloc; "{by} refuses")?.as_str()),
+    }
+}
+
+fn say_holder(alloc: Global, told: &mut Text, holder: Option<u32>) -> Result<(), AllocError> {
+    match holder {
+        Some(session) => say(told, format!(in alloc; "{session} holds")?.as_str()),
+        None => say(told, "nobody"),
+    }
+}
+
+fn take(
+    alloc: Global,
+    locks: &mut MetaLocks,
+    call: &str,
+    told: &mut Text,
+) -> Result<(), CallFault> {
+    let words: Vec<&str> = call.split(' ').collect(alloc)?;
+    match words.as_slice() {
+        ["holder", name] => say_holder(alloc, told, locks.held_by(&Name::new(alloc, name)?))?,
+        ["waiting", session] => {
+            let waits = locks.waiting(place_of(session)?);
+            say(told, if waits { "yes" } else { "no" })?;
+        }
+        [call, session] => say_answer(alloc, told, called(locks, call, place_of(session)?)?)?,
+        [call, session, names] => {
+            say_answer(
+                alloc,
+                told,
+                asked(alloc, locks, call, place_of(session)?, names)?,
+            )?;
+        }
+        _ => return Err(CallFault::Unread),
+    }
+    Ok(())
+}
+
+/// What the calls answer.
+pub fn answers(alloc: Global, input: &str) -> Result<Text, CallFault> {
+    let mut locks = MetaLocks::new(alloc);
+    let mut told = Text::new(alloc);
+    for call in input.split("; ") {
+        take(alloc, &mut locks, call, &mut told)?;
+    }
+    Ok(told)
+}

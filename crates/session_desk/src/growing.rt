@@ -1,0 +1,83 @@
+//! What one session is granted, whole or not at all.
+
+ghost use Rattle.std.specs.Prelude.{◌≡◌, ◌++◌, take, true, OnOk, OnErr};
+
+use event_codec::Events;
+use gho_values::Sequence;
+use plain_server::{HeldNames, Session};
+use row_locks::LockSet;
+use std::alloc::{AllocError, Global};
+use std::mem;
+
+/// Adds items behind others; all is as before where there is no memory.
+pub fn append<T: Drop>(
+    alloc: Global,
+    into: &mut Sequence<T>,
+    more: Sequence<T>,
+) -> Result<(), AllocError>
+    ensures ok { OnOk result (into.new ≡ into.old ++ more) }
+    ensures err { OnErr result (into.new ≡ into.old) }
+{
+    let mut items = mem::replace(into, Sequence::new(alloc)).into_vec();
+    let mut more = more.into_vec();
+    let appended = items.append(&mut more);
+    *into = Sequence::from_vec(items);
+    appended
+}
+
+/// Leaves this many items, the first ones. It takes no memory.
+fn cut<T: Drop>(alloc: Global, items: &mut Sequence<T>, len: usize)
+    ensures { items.new ≡ take len items.old }
+{
+    let mut kept = mem::replace(items, Sequence::new(alloc)).into_vec();
+    kept.truncate(len);
+    *items = Sequence::from_vec(kept);
+}
+
+/// The session holds these names and locks too.
+fn hold_more(
+    alloc: Global,
+    session: &mut Session,
+    names: HeldNames,
+    locks: LockSet,
+) -> Result<(), AllocError>
+    ensures ok { OnOk result (session.new ≡ record session.old { names = session.old.names ++ names; row_locks = session.old.row_locks ++ locks }) }
+    ensures err { OnErr result (session.new ≡ session.old) }
+{
+    let held = session.names.len();
+    append(alloc, &mut session.names, names)?;
+    match append(alloc, &mut session.row_locks, locks) {
+        Ok(()) => Ok(()),
+        Err(error) => {
+            cut(alloc, &mut session.names, held);
+            Err(error)
+        }
+    }
+}
+
+/// The session is in a transaction, holds these names and locks too, and wrote these events.
+pub fn grow(
+    alloc: Global,
+    session: &mut Session,
+    names: HeldNames,
+    locks: LockSet,
+    events: Events,
+) -> Result<(), AllocError>
+    ensures ok { OnOk result (session.new ≡ record session.old { in_transaction = true; names = session.old.names ++ names; row_locks = session.old.row_locks ++ locks; writes = session.old.writes ++ events }) }
+    ensures err { OnErr result (session.new ≡ session.old) }
+{
+    let held = session.names.len();
+    let locked = session.row_locks.len();
+    hold_more(alloc, session, names, locks)?;
+    match append(alloc, &mut session.writes, events) {
+        Ok(()) => {
+            session.in_transaction = true;
+            Ok(())
+        }
+        Err(error) => {
+            cut(alloc, &mut session.names, held);
+            cut(alloc, &mut session.row_locks, locked);
+            Err(error)
+        }
+    }
+}

@@ -1,0 +1,14 @@
+//! What the server keeps of its sessions and of the requests that wait, and how each call changes it.
+#![tactic(auto)]
+
+mod finding;
+mod growing;
+mod names;
+mod sessions;
+mod waits;
+
+pub use finding::{
+    holds_tables, is_in_transaction, is_live, is_of_tool, polls_of, session_of, writes_of,
+};
+pub use sessions::{connect, count_polls, disconnect, hold, lock_tables, rest, unlock_tables};
+pub use waits::{begin_wait, end_wait, is_tool_busy, is_waiting, waiting_of};

@@ -1,0 +1,55 @@
+//! Keys of rows, and rows in order of their keys.
+
+use case_lines::{CallFault, place_of, row_of, text_of};
+use gho_schema::{KeyedRows, Places, PutFault, key_of};
+use gho_values::{Sequence, Text, print_row};
+use std::alloc::Global;
+
+/// Places with commas between them.
+fn places_of(alloc: Global, text: &str) -> Result<Places, CallFault> {
+    let mut places = Sequence::new(alloc);
+    for place in text.split(", ") {
+        places.push(place_of(place)?)?;
+    }
+    Ok(places)
+}
+
+/// A row's values at places, as `1, 0: 5, 2`.
+fn told_key(alloc: Global, input: &str) -> Result<Text, CallFault> {
+    let (places, row) = input.split_once(": ").ok_or(CallFault::Unread)?;
+    let places = places_of(alloc, places)?;
+    let row = row_of(alloc, row)?;
+    let mut told = Text::new(alloc);
+    print_row(
+        key_of(alloc, places.as_slice(), row.as_slice())?.as_slice(),
+        &mut told,
+    )?;
+    Ok(told)
+}
+
+/// Rows that are put among one another, as `1: 1, 10; 9, -3`, in order of their keys.
+fn put_rows(alloc: Global, input: &str) -> Result<Text, CallFault> {
+    let (places, rows) = input.split_once(": ").ok_or(CallFault::Unread)?;
+    let mut keyed = KeyedRows::new(alloc, places_of(alloc, places)?);
+    for row in rows.split("; ") {
+        match keyed.put(alloc, row_of(alloc, row)?) {
+            Ok(()) => {}
+            Err(PutFault::Repeated) => return text_of(alloc, "repeated"),
+            Err(PutFault::Memory) => return Err(CallFault::Memory),
+        }
+    }
+    let mut told = Text::new(alloc);
+    for row in keyed.into_rows(alloc)?.as_slice() {
+        print_row(row.as_slice(), &mut told)?;
+    }
+    Ok(told)
+}
+
+/// The answer of a call about keys.
+pub fn answer(alloc: Global, call: &str, input: &str) -> Result<Text, CallFault> {
+    match call {
+        "of" => told_key(alloc, input),
+        "order" => put_rows(alloc, input),
+        _ => Err(CallFault::Unread),
+    }
+}

@@ -1,0 +1,239 @@
+//! Calls on one table, with semicolons between them: first its text, then `put`, `rising`, `get`, `by`, `remove`, `clash`,
+//! `in`, `in-by`, `rows`, `pages`, `len` and `copy`. Each is made of a table in pages and of the same table as a plain list.
+//! What both answer is told once; where they differ, ` or not` stands behind it.
+
+use case_lines::{CallFault, place_of, row_of, say, span_of};
+use gho_schema::{Schema, key_of};
+use gho_values::{Duplicate, Key, Row, Sequence, Text, Value, print_row};
+use row_pages::{SpanRows, Table};
+use row_store::{SpanRows as ListedRows, Table as ListedTable};
+use schema_text::{SchemaFault, read_schema};
+use std::alloc::{AllocError, Global};
+
+/// A table in pages, and the same as a plain list.
+#[derive(Drop)]
+struct BothTables {
+    paged: Table,
+    listed: ListedTable,
+}
+
+/// The schema of a text of CREATE TABLE.
+pub fn schema_of(alloc: Global, text: &str) -> Result<Schema, CallFault> {
+    read_schema(alloc, text, "t").map_err(|fault| match fault {
+        SchemaFault::Refused(_) => CallFault::Unread,
+        SchemaFault::Memory => CallFault::Memory,
+    })
+}
+
+/// Says a row, or that there is none.
+pub fn say_row(told: &mut Text, row: Option<&Row>) -> Result<(), AllocError> {
+    match row {
+        Some(row) => {
+            say(told, "")?;
+            print_row(row.as_slice(), told)
+        }
+        None => say(told, "none"),
+    }
+}
+
+fn say_difference(told: &mut Text, same: bool) -> Result<(), AllocError> {
+    told.push_str(if same { "" } else { " or not" })
+}
+
+fn are_same(paged: Option<&Row>, listed: Option<&Row>) -> bool {
+    match (paged, listed) {
+        (None, None) => true,
+        (Some(row), Some(other)) => row.cmp(other).is_eq(),
+        _ => false,
+    }
+}
+
+/// Says the row that both found, or that there is none.
+fn say_found(told: &mut Text, paged: Option<&Row>, listed: Option<&Row>) -> Result<(), AllocError> {
+    say_row(told, paged)?;
+    say_difference(told, are_same(paged, listed))
+}
+
+/// Says the rows that both have.
+fn say_rows(
+    told: &mut Text,
+    paged: SpanRows<'_>,
+    listed: ListedRows<'_>,
+) -> Result<(), AllocError> {
+    say(told, "")?;
+    let mut others = listed;
+    for row in paged {
+        print_row(row.as_slice(), told)?;
+        say_difference(told, are_same(Some(row), others.next()))?;
+    }
+    say_difference(told, others.next().is_none())
+}
+
+/// Puts a row into the list, where none has its key; whether it did.
+fn put_listed(alloc: Global, table: &mut ListedTable, row: Row) -> Result<bool, AllocError> {
+    table.reserve(1)?;
+    let key = key_of(alloc, table.schema().key_places(), row.as_slice())?;
+    if table.get(&key).is_some() {
+        return Ok(false);
+    }
+    table.put(row);
+    Ok(true)
+}
+
+/// Puts a row into the pages, where none has its key; whether it did.
+fn put_paged(alloc: Global, table: &mut Table, row: Row) -> Result<bool, AllocError> {
+    table.reserve(1)?;
+    let key = key_of(alloc, table.schema().key_places(), row.as_slice())?;
+    if table.get(&key).is_some() {
+        return Ok(false);
+    }
+    table.put(row);
+    Ok(true)
+}
+
+fn put(alloc: Global, both: &mut BothTables, row: Row, told: &mut Text) -> Result<(), AllocError> {
+    let copy = row.copy()?;
+    let is_put = put_paged(alloc, &mut both.paged, row)?;
+    let is_listed = put_listed(alloc, &mut both.listed, copy)?;
+    if !is_put {
+        say(told, "there")?;
+    }
+    say_difference(told, is_put == is_listed)
+}
+
+/// Puts rows of two equal numbers, as `1 65`: from the first to below the last.
+fn put_rising(
+    alloc: Global,
+    both: &mut BothTables,
+    input: &str,
+    told: &mut Text,
+) -> Result<(), CallFault> {
+    let (first, end) = input.split_once(' ').ok_or(CallFault::Unread)?;
+    for n in place_of(first)?..place_of(end)? {
+        let mut row = Sequence::new(alloc);
+        row.push(Value::Num(i128::from(n)))?;
+        row.push(Value::Num(i128::from(n)))?;
+        put(alloc, both, row, told)?;
+    }
+    Ok(())
+}
+
+/// What clashes with a row, as `3, 5`, besides the row of a key, as `3, 5 besides 2`.
+fn clash(alloc: Global, both: &BothTables, input: &str, told: &mut Text) -> Result<(), CallFault> {
+    let (row, besides) = match input.split_once(" besides ") {
+        Some((row, key)) => (row, Some(row_of(alloc, key)?)),
+        None => (input, None),
+    };
+    let row = row_of(alloc, row)?;
+    let paged = both.paged.clash(&row, besides.as_ref());
+    let listed = both.listed.clash(&row, besides.as_ref());
+    say_found(told, paged, listed)?;
+    Ok(())
+}
+
+fn say_removed(both: &mut BothTables, key: &Key, told: &mut Text) -> Result<(), AllocError> {
+    let row = both.paged.remove(key);
+    let other = both.listed.remove(key);
+    say_found(told, row.as_ref(), other.as_ref())
+}
+
+/// Says how many rows each page has.
+fn say_pages(table: &Table, told: &mut Text) -> Result<(), AllocError> {
+    say(told, "")?;
+    for n in 0..table.pages() {
+        told.push_str(if n == 0 { "" } else { " " })?;
+        let (rows, _) = table.page(n).size_hint();
+        told.push_number(rows as i128)?;
+    }
+    Ok(())
+}
+
+/// Says the row with values of a unique key.
+fn by_key(alloc: Global, table: &Table, input: &str, told: &mut Text) -> Result<(), CallFault> {
+    let (number, sought) = input.split_once(' ').ok_or(CallFault::Unread)?;
+    let n = place_of(number)? as usize;
+    if n >= table.schema().uniques.len() {
+        return Err(CallFault::Unread);
+    }
+    say_row(told, table.get_by(n, &row_of(alloc, sought)?))?;
+    Ok(())
+}
+
+/// Says the rows whose values of a unique key lie in a span.
+fn in_span_by(alloc: Global, table: &Table, input: &str, told: &mut Text) -> Result<(), CallFault> {
+    let (number, sought) = input.split_once(' ').ok_or(CallFault::Unread)?;
+    let n = place_of(number)? as usize;
+    if n >= table.schema().uniques.len() {
+        return Err(CallFault::Unread);
+    }
+    say(told, "")?;
+    for row in table.in_span_by(n, &span_of(alloc, sought)?) {
+        print_row(row.as_slice(), told)?;
+    }
+    Ok(())
+}
+
+fn make_copies(alloc: Global, both: &mut BothTables) -> Result<(), AllocError> {
+    both.paged = both.paged.copy_table(alloc)?;
+    both.listed = both.listed.copy_table(alloc)?;
+    Ok(())
+}
+
+/// What both tables answer to calls that change nothing.
+fn ask(alloc: Global, both: &BothTables, call: &str, told: &mut Text) -> Result<(), CallFault> {
+    let (word, input) = call.split_once(' ').unwrap_or((call, ""));
+    match word {
+        "get" => {
+            let key = row_of(alloc, input)?;
+            say_found(told, both.paged.get(&key), both.listed.get(&key))?;
+        }
+        "by" => by_key(alloc, &both.paged, input, told)?,
+        "clash" => clash(alloc, both, input, told)?,
+        "in" => {
+            let span = span_of(alloc, input)?;
+            say_rows(told, both.paged.in_span(&span), both.listed.in_span(&span))?;
+        }
+        "in-by" => in_span_by(alloc, &both.paged, input, told)?,
+        "rows" => say_rows(told, both.paged.rows(), both.listed.rows())?,
+        "pages" => say_pages(&both.paged, told)?,
+        "len" => {
+            say(told, if both.paged.is_empty() { "empty " } else { "" })?;
+            told.push_number(both.paged.len() as i128)?;
+            say_difference(told, both.paged.len() == both.listed.len())?;
+        }
+        _ => return Err(CallFault::Unread),
+    }
+    Ok(())
+}
+
+fn take(
+    alloc: Global,
+    both: &mut BothTables,
+    call: &str,
+    told: &mut Text,
+) -> Result<(), CallFault> {
+    let (word, input) = call.split_once(' ').unwrap_or((call, ""));
+    match word {
+        "put" => put(alloc, both, row_of(alloc, input)?, told)?,
+        "rising" => put_rising(alloc, both, input, told)?,
+        "remove" => say_removed(both, &row_of(alloc, input)?, told)?,
+        "copy" => make_copies(alloc, both)?,
+        _ => ask(alloc, both, call, told)?,
+    }
+    Ok(())
+}
+
+/// What the calls say.
+pub fn answers(alloc: Global, input: &str) -> Result<Text, CallFault> {
+    let (text, calls) = input.split_once("; ").ok_or(CallFault::Unread)?;
+    let schema = schema_of(alloc, text)?;
+    let mut both = BothTables {
+        listed: ListedTable::new(alloc, schema.copy()?),
+        paged: Table::new(alloc, schema),
+    };
+    let mut told = Text::new(alloc);
+    for call in calls.split("; ") {
+        take(alloc, &mut both, call, &mut told)?;
+    }
+    Ok(told)
+}

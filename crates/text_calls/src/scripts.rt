@@ -1,0 +1,43 @@
+//! Clients' scripts, where the tool's table is `_t_gho`.
+
+use case_lines::CallFault;
+use gho_values::{Name, Text};
+use script_reader::{ScriptFault, ScriptRefusal, read_script};
+use script_text::Script;
+use std::alloc::{AllocError, Global};
+
+/// How many lines ask for something, and the number of the last of them.
+fn told_script(alloc: Global, script: &Script) -> Result<Text, AllocError> {
+    match script.as_slice().last() {
+        Some(last) => two_numbers(alloc, script.len(), " lines to line ", last.line),
+        None => two_numbers(alloc, script.len(), " lines to line ", 0),
+    }
+}
+
+/// The refusal's number and its line.
+fn told_refusal(alloc: Global, refusal: ScriptRefusal) -> Result<Text, AllocError> {
+    two_numbers(
+        alloc,
+        refusal.code.number() as usize,
+        " in line ",
+        refusal.line,
+    )
+}
+
+fn two_numbers(alloc: Global, first: usize, between: &str, last: u32) -> Result<Text, AllocError> {
+    let mut told = Text::new(alloc);
+    told.push_number(first as i128)?;
+    told.push_str(between)?;
+    told.push_number(i128::from(last))?;
+    Ok(told)
+}
+
+/// What a script has, or its first refusal.
+pub fn answer(alloc: Global, text: &str) -> Result<Text, CallFault> {
+    let tool = Name::new(alloc, "_t_gho")?;
+    match read_script(alloc, text, &[tool]) {
+        Ok(script) => Ok(told_script(alloc, &script)?),
+        Err(ScriptFault::Refused(refusal)) => Ok(told_refusal(alloc, refusal)?),
+        Err(ScriptFault::Memory) => Err(CallFault::Memory),
+    }
+}

@@ -1,0 +1,77 @@
+//! The words of statements, and what single words stand for.
+
+use case_lines::{CallFault, say, text_of};
+use gho_values::{Sequence, Text, Value, print_value};
+use sql_words::{Word, WordFault, Words, words};
+use std::alloc::{AllocError, Global};
+
+/// The words, each as its class, its place and its text.
+fn told_words(alloc: Global, words: &Words<'_>) -> Result<Text, AllocError> {
+    let mut told = Text::new(alloc);
+    for word in words.as_slice() {
+        let piece = format!(in alloc; "{:?} {} {}", word.class, word.place, word.text)?;
+        say(&mut told, piece.as_str())?;
+    }
+    Ok(told)
+}
+
+/// The words of a text, or its first fault and where it stands.
+fn cut(alloc: Global, text: &str) -> Result<Text, CallFault> {
+    let (fault, place) = match words(alloc, text) {
+        Ok(words) => return Ok(told_words(alloc, &words)?),
+        Err(WordFault::Unclosed { place }) => ("unclosed at ", place),
+        Err(WordFault::Odd { place }) => ("odd at ", place),
+        Err(WordFault::TooLong { place }) => ("too long at ", place),
+        Err(WordFault::Memory) => return Err(CallFault::Memory),
+    };
+    let mut told = text_of(alloc, fault)?;
+    told.push_number(place as i128)?;
+    Ok(told)
+}
+
+/// The literal of what the word stands for, if it is a text, bytes or a number.
+fn value(alloc: Global, word: &Word<'_>) -> Result<Text, CallFault> {
+    let mut told = Text::new(alloc);
+    if let Some(text) = word.text_value(alloc)? {
+        told.push_str("text ")?;
+        told.push_str(text.as_str())?;
+    }
+    if let Some(bytes) = word.bytes_value(alloc)? {
+        told.push_str("bytes ")?;
+        print_value(&Value::Blob(Sequence::from_vec(bytes)), &mut told)?;
+    }
+    if let Some(number) = word.number_value() {
+        told.push_str("number ")?;
+        told.push_number(number)?;
+    }
+    Ok(told)
+}
+
+/// What stands between the word's quotes, and the name that it is.
+fn written(alloc: Global, word: &Word<'_>) -> Result<Text, CallFault> {
+    let mut told = Text::new(alloc);
+    for (what, text) in [
+        ("text ", word.written_text()),
+        ("bytes ", word.written_bytes()),
+        ("name ", word.name()),
+    ] {
+        if let Some(text) = text {
+            told.push_str(what)?;
+            told.push_str(text)?;
+        }
+    }
+    Ok(told)
+}
+
+/// The answer of a call about words.
+pub fn answer(alloc: Global, call: &str, input: &str) -> Result<Text, CallFault> {
+    if call == "cut" {
+        return cut(alloc, input);
+    }
+    let words = words(alloc, input).map_err(|_| CallFault::Unread)?;
+    match (call, words.as_slice()) {
+        ("value", [word]) => value(alloc, word),
+        ("written", [word]) => written(alloc, word),
+        _ => Err(CallFault::Unread),
+    }
+}
