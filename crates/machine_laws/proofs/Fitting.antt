@@ -6,7 +6,6 @@ use Rattle.std.specs.Str.{bytes_eq}
 use Rattle.std.proofs.lemmas.Bool.{false≢true}
 use Rattle.gho_values.specs.declared.value.Value.{Value}
 use Rattle.gho_schema.specs.Rows.{key_places}
-use Rattle.metadata_locks.specs.Granting as names
 use Rattle.metadata_locks.specs.Granting.{holds, refuser_of_name, refuser_of_names}
 use Rattle.row_locks.specs.Granting.{refuser_of_set}
 use Rattle.row_store.specs.Databases.{TableRows, Database, find_table, has_table, rename_tables}

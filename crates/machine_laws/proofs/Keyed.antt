@@ -59,7 +59,7 @@ use Rattle.machine_laws.proofs.Lifting.{reverts_keeps, spends_keeps, attempt_kee
 use Rattle.machine_laws.proofs.Counting.{moment_more, operator_more, operator_commanded}
 use Rattle.machine_laws.proofs.Journals.{IsRun, all_runs, Asking, calls_so, polls_so, asking, client_commands, never_commands}
 use Rattle.machine_laws.proofs.Polling.{AllWaits, waits_more, waits_begin}
-use Rattle.machine_laws.proofs.Tabling.{IsTabled, tabled_more, tabled_begins, back_quiet}
+use Rattle.machine_laws.proofs.Tabling.{IsTabled, tabled_more, tabled_begins, back_quiet, next_uncopied}
 use Rattle.machine_laws.proofs.Answering.{own_keys}
 
 -- WHAT STAYS KNOWN
@@ -243,13 +243,6 @@ needs_keys actor = false
 abbrev pub KeyedAt : PlanData → Actor → Request → Type 0
 KeyedAt plan actor request = needs_keys actor ≡ true → IsKeyed plan request
 
-uncopied_next : (journal : List Entry) (copier : Copier) (request : Request) → copiers.next journal copier ≡ Some request → copier.is_copied ≡ false
-unfolding copiers.next
-uncopied_next journal copier request is = by copier.is_copied is where
-  by : (b : Bool) → cond b None (call_in journal copier copier.range) ≡ Some request → b ≡ false
-  by true is = absurd cc
-  by false is = refl
-
 -- what the copier calls is keyed
 pub copy_called : (plan : PlanData) (journal : List Entry) (request : Request) (course : Course) → CourseKeyed plan journal course → tool_call plan (moment plan journal).server journal (moment plan journal).tool course Copy ≡ Some request → IsKeyed plan request
 copy_called plan journal request (SettingUp setup tries) at call = absurd cc
@@ -264,7 +257,7 @@ pub copy_uncopied : (plan : PlanData) (journal : List Entry) (request : Request)
 copy_uncopied plan journal request work keys call =
     reverting_or (work.copier.is_copied ≡ false) (is_reverting (moment plan journal).tool.reason) (rolls_back (moment plan journal).server (live_session journal Copy)) (copy_call plan (moment plan journal).server journal (moment plan journal).tool work) request call
     (λ reverting back_so. absurd (true≢false (sym keys ∙ ap has_keys (back_quiet (in_transaction (moment plan journal).server (live_session journal Copy)) request back_so))))
-    (λ going asks. uncopied_next journal work.copier request (unless_called (copiers.starts work.copier && is_throttled plan (moment plan journal).server (moment plan journal).tool.operator) (copiers.next journal work.copier) request asks))
+    (λ going asks. next_uncopied journal work.copier request (unless_called (copiers.starts work.copier && is_throttled plan (moment plan journal).server (moment plan journal).tool.operator) (copiers.next journal work.copier) request asks))
 
 module _ (plan : PlanData) (journal : List Entry) (entry : Entry) (is : IsTabled plan journal) (keyed : AllWaits (KeyedAt plan) plan journal) (at : CourseKeyed plan journal (moment plan journal).tool.course) (sized : 1 ≤ (moment plan journal).tool.operator.size) (orderly : IsOrderly (state_at plan journal).tables) (run : IsRun plan journal entry) (fit : IsFitting plan) where
   abbrev now : Moment
@@ -323,7 +316,7 @@ module _ (plan : PlanData) (journal : List Entry) (entry : Entry) (is : IsTabled
       (ap (λ (b : Bool). cond b (rolls_back now.server (live_session journal Copy)) (copy_call plan now.server journal now.tool work)) (sym going) ∙ ap (λ (c : Course). tool_call plan now.server journal now.tool c Copy) (sym course) ∙ call) in
       let keyed_copier : CopierKeyed plan journal work.copier = subst (CourseKeyed plan journal) course at in
       then request (copier_next journal work.copier request next)
-      (own_keys plan journal entry is.all.tool.known served request (about Copy request same (is_called asks idle)) ((work_tables work course).going (uncopied_next journal work.copier request next)).tables.old orderly (next_keyed plan journal work.copier request keyed_copier next))
+      (own_keys plan journal entry is.all.tool.known served request (about Copy request same (is_called asks idle)) ((work_tables work course).going (next_uncopied journal work.copier request next)).tables.old orderly (next_keyed plan journal work.copier request keyed_copier next))
   copy_about work course going same (polls_so request asks some) P then =
       then request (waits_asks (copier_asks work.copier.step) (standing_of plan journal Copy).waits request (copier_stands_now work course going).waits some)
       (own_keys plan journal entry is.all.tool.known served request (about Copy request same (is_polled asks some)) ((work_tables work course).going (off work.copier.is_copied refl)).tables.old orderly (keyed Copy request some refl)) where

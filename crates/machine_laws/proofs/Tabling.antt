@@ -233,7 +233,7 @@ given_quiet plan journal Insp request is gives none = absurd (true≢false none)
 given_quiet plan journal Lock request is gives none = absurd (true≢false none)
 given_quiet plan journal Ren request is gives none = absurd (true≢false none)
 
-next_uncopied : (journal : List Entry) (copier : Copier) (request : Request) → copiers.next journal copier ≡ Some request → copier.is_copied ≡ false
+pub next_uncopied : (journal : List Entry) (copier : Copier) (request : Request) → copiers.next journal copier ≡ Some request → copier.is_copied ≡ false
 unfolding copiers.next
 next_uncopied journal copier request is = by copier.is_copied is where
   by : (b : Bool) → cond b None (copiers.call_in journal copier copier.range) ≡ Some request → b ≡ false

@@ -1,7 +1,7 @@
 -- The verdict tells the ALTER.
 use Rattle.std.proofs.Common.{◌≡◌, Bool, true, false, cond, ◌&&◌, not, List, Option, Some, None, refl, sym, ap, ◌∙◌}
 use Rattle.std.specs.List.{list_any}
-use Rattle.std.proofs.lemmas.Bool.{true≢false, false≢true}
+use Rattle.std.proofs.lemmas.Bool.{true≢false, false≢true, and_parts}
 use Rattle.plain_server.specs.declared.entry.Entry.{Entry}
 use Rattle.plain_server.specs.declared.outcome.Cause.{Cause}
 use Rattle.plain_server.specs.declared.outcome.Verdict.TheVariants as verdicts
@@ -24,10 +24,6 @@ reverts_for : (plan : PlanData) (journal : List Entry) (tool : Tool) (reason : O
 reverts_for plan journal tool None is = absurd (false≢true is)
 reverts_for plan journal tool (Some reason) is = (_, refl)
 
-both_first : (a b : Bool) → (a && b) ≡ true → a ≡ true
-both_first true b is = refl
-both_first false b is = absurd (false≢true is)
-
 -- *The verdict tells the ALTER*
 pub verdicts_tell : VerdictsTellTheAlter
 unfolding verdict_of has_ended
@@ -43,4 +39,4 @@ verdicts_tell plan journal fit stands faithful follows ended = record {
   reverting : list_any is_alter (history plan journal) ≡ false → is_reverting (moment plan journal).tool.reason ≡ true
   reverting unmarked =
       over_reverts (is_renamed (moment plan journal).tool.course) (is_finished (moment plan journal).tool.course) (is_reverting (moment plan journal).tool.reason) (is_calm (moment plan journal).tool.course) (is_tool_busy (moment plan journal).server)
-      (both_first (is_over (moment plan journal)) (clients_over plan journal) ended) (is_off unmarked (is_renamed (moment plan journal).tool.course) refl)
+      (and_parts (is_over (moment plan journal)) (clients_over plan journal) ended).0 (is_off unmarked (is_renamed (moment plan journal).tool.course) refl)
