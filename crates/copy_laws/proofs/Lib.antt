@@ -1,5 +1,5 @@
-mod Journals
-mod Served
+pub mod Journals
+pub mod Served
 mod Knowing
 mod Chunks
 mod Rows

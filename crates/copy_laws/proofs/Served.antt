@@ -37,7 +37,7 @@ writes_face : (found : Option Session) → writes_of found ≡ (face_in found).h
 writes_face None = refl
 writes_face (Some session) = refl
 
-busy_face : (found : Option Session) → is_in_transaction found ≡ (face_in found).busy
+pub busy_face : (found : Option Session) → is_in_transaction found ≡ (face_in found).busy
 busy_face None = refl
 busy_face (Some session) = refl
 

@@ -52,11 +52,11 @@ use Rattle.statement_laws.proofs.Tests.{same_number, turned}
 
 -- ONE TURN MORE
 
-waiting_more : (journal : List Entry) (entry : Entry) (a : Actor) → request_waiting (journal ++ entry ∷ []) a ≡ waits_in a (request_waiting journal a) entry
+pub waiting_more : (journal : List Entry) (entry : Entry) (a : Actor) → request_waiting (journal ++ entry ∷ []) a ≡ waits_in a (request_waiting journal a) entry
 unfolding request_waiting
 waiting_more journal entry a = fold-append (waits_in a) None journal (entry ∷ [])
 
-client_more : (plan : PlanData) (journal : List Entry) (entry : Entry) (c : ℕ) → client_at plan (journal ++ entry ∷ []) c ≡ after_turn c (client_at plan journal c) entry
+pub client_more : (plan : PlanData) (journal : List Entry) (entry : Entry) (c : ℕ) → client_at plan (journal ++ entry ∷ []) c ≡ after_turn c (client_at plan journal c) entry
 unfolding client_at
 client_more plan journal entry c = fold-append (after_turn c) (new_client (unwrap_or (script_of c plan) [])) journal (entry ∷ [])
 

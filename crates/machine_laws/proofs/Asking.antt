@@ -45,6 +45,7 @@ use Rattle.history_laws.proofs.Waiting.{none_waits}
 use Rattle.machine_laws.specs.Standings.{free, standing_in}
 use Rattle.machine_laws.specs.Machines.{waits_so, inspector_asks, copier_asks, applier_asks, BatchKnown, both_names, held, PhaseHolds, renaming}
 use Rattle.machine_laws.proofs.CuttingOver.{LockerAsks}
+use Rattle.copy_laws.proofs.Served.{busy_face}
 
 pub some_request : (P : Request → Type 0) (a b : Request) → Some a ≡ Some b → P a → P b
 some_request P a b same is = let one : a ≡ b = cc in subst P one is
@@ -71,10 +72,6 @@ busy_waits state None is = absurd cc
 busy_waits state (Some n) is = found_waits n state.waiting is
 
 -- A SESSION WITHOUT WORK
-
-pub face_busy : (found : Option Session) → is_in_transaction found ≡ (face_in found).busy
-face_busy None = refl
-face_busy (Some session) = refl
 
 none_kept : (held : List HeldName) → list_any (λ one. one.exclusive) held ≡ false → locked_names held ≡ []
 none_kept [] is = refl
@@ -120,7 +117,7 @@ or_first false false false is = (refl, refl, refl)
 pub idle_stands : (state : State) (n : ℕ) → has_work state n ≡ false → standing_in state (Some n) ≡ free
 idle_stands state n is =
     let parts = or_first (is_in_transaction (session_of n state.sessions)) (holds_tables (session_of n state.sessions)) (is_waiting state n) is in
-    let busy : (face_of state.sessions n).busy ≡ false = sym (face_busy (session_of n state.sessions)) ∙ parts.0 in
+    let busy : (face_of state.sessions n).busy ≡ false = sym (busy_face (session_of n state.sessions)) ∙ parts.0 in
     let locked : (face_of state.sessions n).locked ≡ [] = idle_face (session_of n state.sessions) parts.1 in
     let waits : request_of (waiting_of n state.waiting) ≡ None = ap request_of (none_waits n state.waiting parts.2) in
     λ i. record { busy = busy i; locked = locked i; waits = waits i }

@@ -46,10 +46,11 @@ use Rattle.machine_laws.specs.Scripts.{WordFits, LinesFit}
 use Rattle.machine_laws.specs.Laws.{AnswersTellStandings, MachinesStand, IsCalledWell, GivenCallsComeWell}
 use Rattle.machine_laws.proofs.Seated.{IsKnown, IsServed, all_known, IsOpened, is_opened, others_stand, own_stands, own_heard}
 use Rattle.machine_laws.proofs.CuttingOver.{LockerAsks}
-use Rattle.machine_laws.proofs.Asking.{some_request, face_busy, unlocked_holds, locked_holds, unless_called, copier_next, applier_next, setup_next, inspector_next, renamer_next, locker_next}
+use Rattle.machine_laws.proofs.Asking.{some_request, unlocked_holds, locked_holds, unless_called, copier_next, applier_next, setup_next, inspector_next, renamer_next, locker_next}
 use Rattle.machine_laws.proofs.Clients.{ClientStands, Next, calls_line, polls_line, client_next, line_comes}
 use Rattle.machine_laws.proofs.ClientJournals.{ClientsTogether, all_clients}
 use Rattle.machine_laws.proofs.Journals.{IsTogether, all_together, Asking, calls_so, polls_so, asking, apply_called}
+use Rattle.copy_laws.proofs.Served.{busy_face}
 
 -- *Answers tell standings*
 pub served_along : (plan : PlanData) (before journal : List Entry) → Along (λ some entry. IsAnswered (state_at plan some) entry) before journal → Along IsSeated before journal → Along (IsServed plan) before journal
@@ -158,7 +159,7 @@ module _ (plan : PlanData) (journal : List Entry) (is : IsTogether plan journal)
   back_comes actor request back locked none some = by (live_session journal actor) refl back where
     busy_is : (live : Option ℕ) → in_transaction now.server live ≡ (Rattle.machine_laws.specs.Standings.standing_in now.server live).busy
     busy_is None = refl
-    busy_is (Some n) = face_busy (session_of n now.server.sessions)
+    busy_is (Some n) = busy_face (session_of n now.server.sessions)
 
     by : (live : Option ℕ) → live_session journal actor ≡ live → cond (in_transaction now.server live) (Some requests.Rollback) None ≡ Some request → ComesWell (standing_of plan journal actor).busy locked request
     by live lives is_back = at (in_transaction now.server live) refl is_back where

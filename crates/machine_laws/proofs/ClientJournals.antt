@@ -14,10 +14,11 @@ use Rattle.journal_words.specs.Sessions.{live_session}
 use Rattle.journal_words.specs.Clients.{Reached, client_at, client_after, became, became_in, client_asks}
 use Rattle.migration_program.specs.Programs.{given, IsGiven, Follows}
 use Rattle.history_laws.proofs.Actors.{same_actor_is}
+use Rattle.history_laws.proofs.Linking.{client_more}
 use Rattle.machine_laws.specs.Standings.{Standing, free, standing_of, answered, IsAbout}
 use Rattle.machine_laws.specs.Scripts.{ScriptsFit}
 use Rattle.machine_laws.proofs.Seated.{IsKnown, IsServed, known_begins, known_more, others_stand, own_stands, own_heard, own_missed, own_lost}
-use Rattle.machine_laws.proofs.Clients.{ClientStands, client_next, line_stands, cut_stands, client_begins, client_more}
+use Rattle.machine_laws.proofs.Clients.{ClientStands, client_next, line_stands, cut_stands, client_begins}
 use Rattle.machine_laws.proofs.Journals.{IsRun, all_runs, client_commands}
 
 pub record ClientsTogether (plan : PlanData) (journal : List Entry) : Type 0 where

@@ -25,6 +25,7 @@ use Rattle.plan_words.specs.PlanData.{PlanData}
 use Rattle.journal_words.specs.Clients.{Reached, Waits, Marked, became_of, became_in, is_inside, ends_with, closes, behind_transaction, left_behind, kept_unless, with_line, marked, client_after, after_turn, script_of, client_at, new_client, client_asks, line_asks, word_asks}
 use Rattle.machine_laws.specs.Standings.{Standing, free, answered, serves_to, IsAbout, is_called, is_polled}
 use Rattle.machine_laws.specs.Scripts.{WordFits, inside_behind, LinesFit, ScriptsFit}
+use Rattle.history_laws.proofs.Linking.{client_more}
 
 -- what waits on the server is the client's next line, where the client waits
 pub record ClientStands (client : Reached) (standing : Standing) : Type 0 where
@@ -190,10 +191,6 @@ script_fits plan c all = at (c == 0) where
 
 pub client_begins : (plan : PlanData) (c : ℕ) → ScriptsFit plan → ClientStands (new_client (unwrap_or (script_of c plan) [])) free
 client_begins plan c all = record { busy = refl; locked = refl; free = λ off. refl; held = λ waiting. absurd cc; left = λ going. script_fits plan c all }
-
-pub client_more : (plan : PlanData) (journal : List Entry) (entry : Entry) (c : ℕ) → client_at plan (journal ++ entry ∷ []) c ≡ after_turn c (client_at plan journal c) entry
-unfolding client_at
-client_more plan journal entry c = fold-append (after_turn c) (new_client (unwrap_or (script_of c plan) [])) journal (entry ∷ [])
 
 -- HOW A LINE COMES
 

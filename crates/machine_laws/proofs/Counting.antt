@@ -30,12 +30,9 @@ use Rattle.migration_program.specs.Setups.{Setup, Listing, setup_after}
 use Rattle.plain_server.specs.Entries.{is_command}
 use Rattle.migration_program.specs.Operators.{Operator, commanded}
 use Rattle.migration_program.specs.Tools.{Work, Course, SettingUp, Migrating, Reason, CopyUnfit, ApplyUnfit, Spent, Panicked, Tool, Moment, new_tool, first_reason, stopped, is_renamed, reverts, spends, is_reverting, working, copy_after, apply_after, attempt_after, is_failure, drains, course_of, setup_took, copy_took, apply_took, actor_took, turn_counts, resizes, command_took, asked_took, took, after_turn, moment}
+use Rattle.sentry_laws.proofs.Inductions.{moment_more}
 
 -- ONE TURN MORE
-
-pub moment_more : (plan : PlanData) (journal : List Entry) (entry : Entry) → moment plan (journal ++ entry ∷ []) ≡ after_turn plan (moment plan journal) entry
-unfolding moment
-moment_more plan journal entry = fold-append (after_turn plan) (record { server = opening plan; tool = new_tool plan }) journal (entry ∷ [])
 
 -- THE TURNS AND THE OPERATOR
 

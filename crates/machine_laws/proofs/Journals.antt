@@ -39,12 +39,13 @@ use Rattle.machine_laws.specs.Standings.{Standing, free, standing_in, standing_o
 use Rattle.machine_laws.specs.Machines.{Stands, inspector_asks, inspector_waits, copier_asks, copier_busy, applier_asks, ApplierStands, both_names, held, WorkStands, CourseStands}
 use Rattle.machine_laws.proofs.Seated.{IsKnown, IsServed, known_begins, known_more, state_more, others_stand, own_stands, own_fits, own_prompt, own_lost, own_session}
 use Rattle.machine_laws.proofs.Fitting.{IsPrompt}
-use Rattle.machine_laws.proofs.Counting.{moment_more, turns_more, length_more}
+use Rattle.machine_laws.proofs.Counting.{turns_more, length_more}
 use Rattle.machine_laws.proofs.Copying.{copier_stands, copier_unfit}
 use Rattle.machine_laws.proofs.Applying.{applier_stands, applier_unfit}
 use Rattle.machine_laws.proofs.CuttingOver.{LockerAsks, ListsFree, locker_stands, locker_lost, renamer_has}
 use Rattle.machine_laws.proofs.Turns.{inspector_stands, free_stands, drained, still, copy_turn, apply_turn, lock_turn, ren_turn, insp_turn, setup_turn, command_turn}
 use Rattle.machine_laws.proofs.Asking.{idle_waits, WaitsWith, busy_waits, idle_stands, unless_called, copier_next, applier_next, setup_next, EndsFree, inspector_next, renamer_next, locker_next, locker_waits, renamer_waits, waits_asks}
+use Rattle.sentry_laws.proofs.Inductions.{moment_more}
 
 -- an entry of such a journal
 pub record IsRun (plan : PlanData) (journal : List Entry) (entry : Entry) : Type 0 where

@@ -53,14 +53,15 @@ use Rattle.machine_laws.specs.Keying.{kinds_of, IsKey, IsKeyed, AnswersKeys, IsE
 use Rattle.machine_laws.specs.Laws.{has_keys}
 use Rattle.machine_laws.proofs.Calling.{reverting_or}
 use Rattle.machine_laws.proofs.Seated.{IsServed}
-use Rattle.machine_laws.proofs.Applying.{answer_more, answer_here}
 use Rattle.machine_laws.proofs.Asking.{some_request, unless_called, copier_next, waits_asks}
 use Rattle.machine_laws.proofs.Lifting.{reverts_keeps, spends_keeps, attempt_keeps, copy_keeps, apply_keeps, drains_keeps}
-use Rattle.machine_laws.proofs.Counting.{moment_more, operator_more, operator_commanded}
+use Rattle.machine_laws.proofs.Counting.{operator_more, operator_commanded}
 use Rattle.machine_laws.proofs.Journals.{IsRun, all_runs, Asking, calls_so, polls_so, asking, client_commands, never_commands}
 use Rattle.machine_laws.proofs.Polling.{AllWaits, waits_more, waits_begin}
 use Rattle.machine_laws.proofs.Tabling.{IsTabled, tabled_more, tabled_begins, back_quiet, next_uncopied}
 use Rattle.machine_laws.proofs.Answering.{own_keys}
+use Rattle.copy_laws.proofs.Journals.{answer_more, answer_here}
+use Rattle.sentry_laws.proofs.Inductions.{moment_more}
 
 -- WHAT STAYS KNOWN
 

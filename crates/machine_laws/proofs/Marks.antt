@@ -53,13 +53,13 @@ use Rattle.migration_program.specs.Tools.{Work, Course, SettingUp, Migrating, Pa
 use Rattle.program_laws.proofs.Machines.{CourseIsNamed, named}
 use Rattle.history_laws.proofs.Actors.{live_more, same_actor_is, same_actor_itself}
 use Rattle.history_laws.proofs.Joined.{told_answer}
+use Rattle.history_laws.proofs.Linking.{waiting_more}
 use Rattle.statement_laws.proofs.Tests.{same_bytes, are_same, turned_bytes}
 use Rattle.machine_laws.specs.Standings.{Standing, free, standing_in, standing_of, answered, gives, serves_to, IsAbout, is_called, is_polled}
 use Rattle.machine_laws.specs.Machines.{inspector_waits, waits_so, CourseStands, WorkStands}
 use Rattle.machine_laws.specs.Forming.{IsFitting}
 use Rattle.machine_laws.specs.Tabling.{schema_of, ghost_schema, past_ghost, SetupTables, CourseTables, TableStands}
 use Rattle.machine_laws.proofs.Asking.{WaitsWith, some_request}
-use Rattle.machine_laws.proofs.Counting.{moment_more}
 use Rattle.machine_laws.proofs.CuttingOver.{LockerAsks}
 use Rattle.machine_laws.proofs.Journals.{IsRun, all_runs, Asking, calls_so, polls_so, asking, lock_about, ren_about}
 use Rattle.machine_laws.proofs.Lifting.{spends_keeps, reverts_keeps, drains_keeps}
@@ -69,6 +69,7 @@ use Rattle.machine_laws.proofs.Renaming.{renamed_or_stays, lists_found}
 use Rattle.machine_laws.proofs.Schemas.{keeps_table, schema_stays, schema_rests}
 use Rattle.machine_laws.proofs.Seated.{IsServed, others_stand, own_stands, own_heard, own_lost, own_given, own_missed, own_waiting}
 use Rattle.machine_laws.proofs.Tabling.{IsTabled, tabled_more, tabled_begins, quiet_stay, past_keeps, Passes, passed, makes, step_past, step_waits, Behind, waits_on, rests, behind}
+use Rattle.sentry_laws.proofs.Inductions.{moment_more}
 
 -- NAMES
 
@@ -224,10 +225,6 @@ poll_waits request answers.Lost old waited is = refl
 poll_waits request (answers.TimedOut time) old waited is = refl
 poll_waits request answer old waited is = refl
 
-request_more : (journal : List Entry) (entry : Entry) (a : Actor) → request_waiting (journal ++ entry ∷ []) a ≡ waits_in a (request_waiting journal a) entry
-unfolding request_waiting
-request_more journal entry a = fold-append (waits_in a) None journal (entry ∷ [])
-
 insp_given : (plan : PlanData) (journal : List Entry) (asked : Asked) → given plan journal Insp ≡ Some asked → tool_asks plan journal (moment plan journal) Insp ≡ Some asked
 unfolding given
 insp_given plan journal asked gives = gives
@@ -296,7 +293,7 @@ module _ (plan : PlanData) (journal : List Entry) (entry : Entry) (is : IsTabled
       ∙ ap (λ (s : Standing). s.waits) (sym (own_stands plan journal entry is.all.tool.known served with.request (is_polled asks with.is)))
 
   agree_more : Agrees plan more
-  agree_more a = request_more journal entry a ∙ by (same_actor entry.actor a) refl where
+  agree_more a = waiting_more journal entry a ∙ by (same_actor entry.actor a) refl where
     by : (b : Bool) → same_actor entry.actor a ≡ b → cond b (waits_behind entry.asked entry.answer (request_waiting journal a)) (request_waiting journal a) ≡ (now_has a).waits
     by false differ = agree a ∙ ap (λ (s : Standing). s.waits) (sym (others_stand plan journal entry is.all.tool.known served a differ))
     by true same =

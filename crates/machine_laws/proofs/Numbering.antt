@@ -22,6 +22,7 @@ use Rattle.history_laws.proofs.Actors.{Placed, Commands, GoesOn, Begins, placed}
 use Rattle.machine_laws.specs.Laws.{SessionsAreNumbered}
 use Rattle.machine_laws.proofs.Seated.{IsKnown, IsServed, known_begins, known_more, state_more}
 use Rattle.machine_laws.proofs.Calling.{served_along}
+use Rattle.sentry_laws.proofs.Sessions.{named_more}
 
 -- A TURN MAKES NO OTHER SESSION
 
@@ -66,10 +67,6 @@ left_made (Some Before) state number asked = refl
 left_made (Some After) state number asked = served_made state number asked
 
 -- ONE TURN MORE
-
-named_more : (journal : List Entry) (entry : Entry) → sessions_named (journal ++ entry ∷ []) ≡ cond (is_command entry.asked) (sessions_named journal) (max (sessions_named journal) entry.session)
-unfolding sessions_named
-named_more journal entry = fold-append (λ (most : ℕ) (one : Entry). cond (is_command one.asked) most (max most one.session)) 0 journal (entry ∷ [])
 
 pub record IsNumbered (plan : PlanData) (journal : List Entry) : Type 0 where
   pub known : IsKnown plan journal

@@ -51,7 +51,6 @@ use Rattle.machine_laws.specs.Standings.{Standing, standing_of}
 use Rattle.machine_laws.specs.Machines.{CourseStands, held, renaming}
 use Rattle.machine_laws.specs.Forming.{IsFitting}
 use Rattle.machine_laws.specs.Laws.{TablesStayTables}
-use Rattle.machine_laws.proofs.Asking.{face_busy}
 use Rattle.machine_laws.proofs.Clients.{Next, calls_line, polls_line, client_next}
 use Rattle.machine_laws.proofs.Journals.{IsRun, all_runs}
 use Rattle.machine_laws.proofs.Making.{given_formed}
@@ -60,6 +59,7 @@ use Rattle.machine_laws.proofs.Schemas.{is_quiet}
 use Rattle.machine_laws.proofs.Seated.{IsServed, IsOpen, is_open}
 use Rattle.machine_laws.proofs.Spare.{scene_for, spare_mine, client_far, far_other, known_others}
 use Rattle.machine_laws.proofs.Tabling.{may_define, QuietAt, given_quiet}
+use Rattle.copy_laws.proofs.Served.{busy_face}
 
 -- A NEW TABLE
 
@@ -193,7 +193,7 @@ module _ (plan : PlanData) (journal : List Entry) (entry : Entry) (fit : IsFitti
     open_one = is_open plan journal entry is.all.tool.known served called
 
     busy_is : is_busy entry.session (opens entry now) ≡ (standing_of plan journal entry.actor).busy
-    busy_is = ap is_in_transaction open_one.is ∙ face_busy (Some open_one.found) ∙ ap (λ (s : Standing). s.busy) (sym open_one.stands)
+    busy_is = ap is_in_transaction open_one.is ∙ busy_face (Some open_one.found) ∙ ap (λ (s : Standing). s.busy) (sym open_one.stands)
 
     by : is_quiet request ≡ false → (b : Bool) → may_define entry.actor ≡ b → (standing_of plan journal entry.actor).busy ≡ false
     by loud true may = defines_out plan journal (is_reverting (moment plan journal).tool.reason) (moment plan journal).tool.course entry.actor is.all.tool.stands may

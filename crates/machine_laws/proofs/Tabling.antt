@@ -57,11 +57,12 @@ use Rattle.machine_laws.proofs.Calling.{none_asked, reverting_or}
 use Rattle.machine_laws.proofs.Seated.{IsServed, others_stand, own_stands, own_fits, own_lost, own_session, own_waiting, own_given}
 use Rattle.machine_laws.proofs.Asking.{some_request, WaitsWith, unless_called, copier_next, applier_next}
 use Rattle.machine_laws.proofs.Lifting.{reverts_keeps, spends_keeps, attempt_keeps, copy_keeps, apply_keeps, drains_keeps}
-use Rattle.machine_laws.proofs.Counting.{moment_more}
 use Rattle.machine_laws.proofs.Journals.{IsRun, all_runs, Asking, calls_so, polls_so, asking, apply_called, client_commands, never_commands}
 use Rattle.machine_laws.proofs.Clients.{Next, calls_line, polls_line, client_next}
 use Rattle.machine_laws.proofs.Polling.{AllTogether, AllWaits, waits_more, waits_begin, together_more_all, together_begins_all, given_idle, given_waits, no_word}
 use Rattle.machine_laws.proofs.Schemas.{keeps_table, is_quiet, quiet_keeps, schema_stays, schema_rests, schema_made}
+use Rattle.sentry_laws.proofs.Inductions.{moment_more}
+use Rattle.copy_laws.proofs.Served.{busy_face}
 
 -- THE SETUP'S CALLS
 
@@ -143,7 +144,7 @@ lost_copied turn copier = refl
 -- who has nothing has no work
 free_idle : (state : State) (n : ℕ) → standing_in state (Some n) ≡ free → has_work state n ≡ false
 free_idle state n is =
-    let busy : is_in_transaction (session_of n state.sessions) ≡ false = Rattle.machine_laws.proofs.Asking.face_busy (session_of n state.sessions) ∙ ap (λ (s : Standing). s.busy) is in
+    let busy : is_in_transaction (session_of n state.sessions) ≡ false = busy_face (session_of n state.sessions) ∙ ap (λ (s : Standing). s.busy) is in
     let locked : holds_tables (session_of n state.sessions) ≡ false = Rattle.machine_laws.proofs.Asking.unlocked_holds (session_of n state.sessions) (ap (λ (s : Standing). s.locked) is) in
     let waits : is_waiting state n ≡ false = none_asked n state.waiting (ap (λ (s : Standing). s.waits) is) in
     rw (busy, locked, waits) refl

@@ -52,7 +52,7 @@ fresh journal c b s entry Cut at same cut None is inside numbered other e = absu
 
 -- ONE ENTRY
 
-named_more : (journal : List Entry) (entry : Entry) → sessions_named (journal ++ entry ∷ []) ≡ cond (is_command entry.asked) (sessions_named journal) (max (sessions_named journal) entry.session)
+pub named_more : (journal : List Entry) (entry : Entry) → sessions_named (journal ++ entry ∷ []) ≡ cond (is_command entry.asked) (sessions_named journal) (max (sessions_named journal) entry.session)
 unfolding sessions_named
 named_more journal entry = fold-append (λ (most : ℕ) (one : Entry). cond (is_command one.asked) most (max most one.session)) 0 journal (entry ∷ [])
 
