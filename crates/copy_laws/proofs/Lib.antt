@@ -1,6 +1,6 @@
 pub mod Journals
 pub mod Served
-mod Knowing
-mod Chunks
-mod Rows
-mod Copiers
+pub mod Knowing
+pub mod Chunks
+pub mod Rows
+pub mod Copiers
