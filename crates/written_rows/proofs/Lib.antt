@@ -1,0 +1,4 @@
+pub mod OneRow
+pub mod SeenChanges
+pub mod SeenRows
+pub mod TouchedKeys
