@@ -1,12 +1,14 @@
 -- The rows that are seen, and those of them that pass a test.
-use Rattle.std.proofs.Common.{◌≡◌, ℕ, Bool, true, false, not, ◌&&◌, ◌||◌, List, [], ◌∷◌, filter, cond, Less, refl, sym, ap, ◌∙◌}
+use Rattle.std.proofs.Common.{◌≡◌, ℕ, Bool, true, false, not, ◌&&◌, ◌||◌, List, [], ◌∷◌, filter, cond, Less, refl, sym, ap, ◌∙◌, subst}
 use Rattle.std.proofs.lemmas.Bool.{true≢false}
 use Rattle.std.specs.Ordering.{is_eq}
 use Rattle.std.specs.List.{AllByRecursion}
 use Rattle.gho_values.specs.Comparing.{compare_keys}
-use Rattle.gho_schema.specs.Rows.{key_of}
+use Rattle.gho_schema.specs.declared.schema.Schema.{Schema}
+use Rattle.gho_schema.specs.Rows.{key_of, key_places}
 use Rattle.gho_schema.specs.Tables.{Ascends}
 use Rattle.row_store.specs.RowLists.{is_at}
+use Rattle.row_store.specs.Databases.{TableRows}
 use Rattle.row_store.proofs.Orders.{Row}
 use Rattle.gho_schema.proofs.Orders.{all-with_row}
 use Rattle.row_store.proofs.Ascending.{all-filter, ascends-with_row, ascends-filter}
@@ -16,6 +18,7 @@ use Rattle.plain_server.specs.Rows.{same_row, stands}
 use Rattle.statement_laws.proofs.Standing.{stands-put, stands-filter, one_list}
 use Rattle.written_rows.specs.Written.{Written, nothing, is_touched, untouched, put_all, seen}
 use Rattle.written_rows.specs.Fitting.{IsNewAmong, IsWritten}
+use Rattle.written_rows.specs.Stored.{StoredWrites}
 use Rattle.written_rows.specs.Laws.{SeenRowsPass}
 
 -- which rows stand among rows with more of them
@@ -125,3 +128,15 @@ seen_pass test places written rows is ascends =
     ∙ passing (stands row written.rows) (stands row rows) (not (is_touched places written.keys row)) (test row)
     ∙ ap (λ (b : Bool). b || ((stands row rows && test row) && not (is_touched places written.keys row))) (sym (stands-filter test row written.rows))
     ∙ ap (λ (b : Bool). stands row (filter test written.rows) || (b && not (is_touched places written.keys row))) (sym (stands-filter test row rows)) ∙ sym (stands-seen places row some (filter test rows)))
+
+-- the rows of a table that pass a test of its schema, with those that were written
+pub tests_seen : (table : TableRows) (writes : StoredWrites) (test : Schema → Row → Bool) (mine below : List Row) → writes.schema ≡ table.schema → IsWritten (key_places writes.schema) writes.written → Ascends (key_places table.schema) table.rows
+    → mine ≡ filter (test writes.schema) writes.written.rows → below ≡ filter (test table.schema) table.rows
+    → put_all (key_places writes.schema) mine (untouched (key_places writes.schema) writes.written.keys below) ≡ filter (test table.schema) (seen (key_places table.schema) writes.written table.rows)
+tests_seen table writes test mine below same is ascends mine_is below_is =
+    let places : List ℕ = key_places table.schema in
+    let written : IsWritten (key_places table.schema) writes.written = subst (λ (s : Schema). IsWritten (key_places s) writes.written) same is in
+    ap (λ (s : Schema). put_all (key_places s) mine (untouched (key_places s) writes.written.keys below)) same
+    ∙ ap (λ (rs : List Row). put_all places rs (untouched places writes.written.keys below)) (mine_is ∙ ap (λ (s : Schema). filter (test s) writes.written.rows) same)
+    ∙ ap (λ (rs : List Row). put_all places (filter (test table.schema) writes.written.rows) (untouched places writes.written.keys rs)) below_is
+    ∙ sym (seen_pass (test table.schema) places writes.written table.rows written ascends)
