@@ -1,0 +1,9 @@
+pub mod KeyTables
+pub mod MergedRows
+pub mod MetRows
+pub mod MovedRows
+pub mod OneRow
+pub mod SeenChanges
+pub mod SeenRows
+pub mod StoredWrites
+pub mod TouchedKeys

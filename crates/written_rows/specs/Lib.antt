@@ -1,0 +1,5 @@
+pub mod Fitting
+pub mod Laws
+pub mod Merging
+pub mod Stored
+pub mod Written

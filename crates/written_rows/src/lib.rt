@@ -1,0 +1,13 @@
+//! What a transaction wrote to a table, laid over the table's committed rows.
+#![tactic(auto)]
+
+mod keys;
+pub mod laws;
+mod meeting;
+mod merging;
+mod moving;
+mod seen;
+mod written;
+
+pub use seen::SeenTable;
+pub use written::WrittenRows;
