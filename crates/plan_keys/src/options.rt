@@ -1,0 +1,186 @@
+//! The options of a plan: their types and ranges.
+
+ghost use Rattle.std.specs.Prelude.{◌≡◌, ◌<◌, ◌^◌, option_map};
+ghost use Rattle.toml.specs.View.{view, table_view};
+ghost use Rattle.plan_keys.specs.Options.{option_at, numbers_in, truths_in, within, options_within};
+ghost use Rattle.plan_keys.specs.Refusals.{Reads};
+
+use crate::documents::{member_at, number_or, truth_or};
+use crate::fault::{KeyFault, KeyRefusal};
+use plan_words::Options;
+use toml::{Table, Value};
+
+/// The options that are numbers, as they are written. Their meanings are those of `Options`.
+#[derive(Clone, Copy)]
+pub struct NumberKeys {
+    /// `chunk_size`.
+    pub chunk_size: i64,
+    /// `dml_batch_size`.
+    pub dml_batch_size: i64,
+    /// `default_retries`.
+    pub default_retries: i64,
+    /// `max_backlog`.
+    pub max_backlog: i64,
+    /// `drain_limit`.
+    pub drain_limit: i64,
+    /// `client_wait`.
+    pub client_wait: i64,
+    /// `tool_wait`.
+    pub tool_wait: i64,
+    /// `max_load`.
+    pub max_load: i64,
+    /// `turn_limit`.
+    pub turn_limit: i64,
+}
+
+/// The options that are true or false. Their meanings are those of `Options`.
+#[derive(Clone, Copy)]
+pub struct TruthKeys {
+    /// `approve_renamed_columns`.
+    pub approve_renamed_columns: bool,
+    /// `initially_drop_ghost_table`.
+    pub initially_drop_ghost_table: bool,
+    /// `initially_drop_old_table`.
+    pub initially_drop_old_table: bool,
+    /// `ok_to_drop_table`.
+    pub ok_to_drop_table: bool,
+    /// `postpone`.
+    pub postpone: bool,
+    /// `show_history`.
+    pub show_history: bool,
+    /// `show_turns`.
+    pub show_turns: bool,
+    /// `show_tables`.
+    pub show_tables: bool,
+    /// `show_replies`.
+    pub show_replies: bool,
+}
+
+/// What stands at a key of the options.
+fn option_at<'a>(options: Option<&'a Table>, key: &str) -> Option<&'a Value>
+    ensures { option_map (λ value. view value.now) result ≡ option_at key.now (option_map (λ table. table_view table.now) options.entry) }
+{
+    match options {
+        None => None,
+        Some(table) => member_at(table, key),
+    }
+}
+
+/// The options that are numbers.
+#[tactic(auto, unfolding(crate::specs::Options::numbers_in))]
+pub fn numbers_in(options: Option<&Table>) -> Result<NumberKeys, KeyFault>
+    ensures { Reads (λ numbers. numbers) result (numbers_in (option_map (λ table. table_view table.now) options.entry)) }
+{
+    let default = Options::default();
+    let chunk_size = number_or(default.chunk_size, option_at(options, "chunk_size"))?;
+    let dml_batch_size = number_or(default.dml_batch_size, option_at(options, "dml_batch_size"))?;
+    let default_retries = number_or(
+        default.default_retries,
+        option_at(options, "default_retries"),
+    )?;
+    let max_backlog = number_or(default.max_backlog, option_at(options, "max_backlog"))?;
+    let drain_limit = number_or(default.drain_limit, option_at(options, "drain_limit"))?;
+    let client_wait = number_or(default.client_wait, option_at(options, "client_wait"))?;
+    let tool_wait = number_or(default.tool_wait, option_at(options, "tool_wait"))?;
+    let max_load = number_or(default.max_load, option_at(options, "max_load"))?;
+    let turn_limit = number_or(default.turn_limit, option_at(options, "turn_limit"))?;
+    Ok(NumberKeys {
+        chunk_size,
+        dml_batch_size,
+        default_retries,
+        max_backlog,
+        drain_limit,
+        client_wait,
+        tool_wait,
+        max_load,
+        turn_limit,
+    })
+}
+
+/// The options that are true or false.
+#[tactic(auto, unfolding(crate::specs::Options::truths_in))]
+pub fn truths_in(options: Option<&Table>) -> Result<TruthKeys, KeyFault>
+    ensures { Reads (λ truths. truths) result (truths_in (option_map (λ table. table_view table.now) options.entry)) }
+{
+    let default = Options::default();
+    let approve_renamed_columns = truth_or(
+        default.approve_renamed_columns,
+        option_at(options, "approve_renamed_columns"),
+    )?;
+    let initially_drop_ghost_table = truth_or(
+        default.initially_drop_ghost_table,
+        option_at(options, "initially_drop_ghost_table"),
+    )?;
+    let initially_drop_old_table = truth_or(
+        default.initially_drop_old_table,
+        option_at(options, "initially_drop_old_table"),
+    )?;
+    let ok_to_drop_table = truth_or(
+        default.ok_to_drop_table,
+        option_at(options, "ok_to_drop_table"),
+    )?;
+    let postpone = truth_or(default.postpone, option_at(options, "postpone"))?;
+    let show_history = truth_or(default.show_history, option_at(options, "show_history"))?;
+    let show_turns = truth_or(default.show_turns, option_at(options, "show_turns"))?;
+    let show_tables = truth_or(default.show_tables, option_at(options, "show_tables"))?;
+    let show_replies = truth_or(default.show_replies, option_at(options, "show_replies"))?;
+    Ok(TruthKeys {
+        approve_renamed_columns,
+        initially_drop_ghost_table,
+        initially_drop_old_table,
+        ok_to_drop_table,
+        postpone,
+        show_history,
+        show_turns,
+        show_tables,
+        show_replies,
+    })
+}
+
+/// A number from low to high.
+#[tactic(auto, unfolding(crate::specs::Options::within))]
+pub fn within(low: u32, high: u32, number: i64) -> Result<u32, KeyFault>
+    ensures { Reads (λ number. number) result (within low high number) }
+{
+    if number < i64::from(low) || i64::from(high) < number {
+        Err(KeyFault::Refused(KeyRefusal::OutOfRange))
+    } else {
+        Ok(number as u32)
+    }
+}
+
+/// The options, where each number is in its range.
+#[tactic(auto, unfolding(crate::specs::Options::options_within))]
+pub fn options_within(numbers: NumberKeys, truths: TruthKeys) -> Result<Options, KeyFault>
+    ensures { Reads (λ options. options) result (options_within numbers truths) }
+{
+    let chunk_size = within(1, 100_000, numbers.chunk_size)?;
+    let dml_batch_size = within(1, 1_000, numbers.dml_batch_size)?;
+    let default_retries = within(1, 1_000, numbers.default_retries)?;
+    let max_backlog = within(0, 100_000, numbers.max_backlog)?;
+    let drain_limit = within(1, 100_000, numbers.drain_limit)?;
+    let client_wait = within(1, 100_000, numbers.client_wait)?;
+    let tool_wait = within(1, 100_000, numbers.tool_wait)?;
+    let max_load = within(0, 64, numbers.max_load)?;
+    let turn_limit = within(1, 1_000_000, numbers.turn_limit)?;
+    Ok(Options {
+        chunk_size,
+        dml_batch_size,
+        default_retries,
+        max_backlog,
+        drain_limit,
+        client_wait,
+        tool_wait,
+        max_load,
+        turn_limit,
+        approve_renamed_columns: truths.approve_renamed_columns,
+        initially_drop_ghost_table: truths.initially_drop_ghost_table,
+        initially_drop_old_table: truths.initially_drop_old_table,
+        ok_to_drop_table: truths.ok_to_drop_table,
+        postpone: truths.postpone,
+        show_history: truths.show_history,
+        show_turns: truths.show_turns,
+        show_tables: truths.show_tables,
+        show_replies: truths.show_replies,
+    })
+}

@@ -1,0 +1,5 @@
+mod Putting
+mod Reading
+mod RowFits
+mod RowValues
+pub mod Sound
