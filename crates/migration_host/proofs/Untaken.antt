@@ -8,8 +8,8 @@ use Rattle.tool_program.specs.Programs.{Follows}
 use Rattle.tool_program.specs.Orders.{ReplayOrder}
 use Rattle.serial_laws.specs.SerialLaws.{JournalsAreSerial}
 use Rattle.plan_text.specs.declared.fault.Refusal.{Refusal}
-use Rattle.migration_host.specs.declared.command.Command.{Command}
-use Rattle.migration_host.specs.declared.command.Command.TheVariants.{Check, Replay}
+use Rattle.migration_host.specs.declared.command.PlanCommand.{PlanCommand}
+use Rattle.migration_host.specs.declared.command.PlanCommand.TheVariants.{Check, Replay}
 use Rattle.migration_host.specs.Outcomes.{IsRun, Comes}
 
 -- no turn is the replay of any plan as far as it came
@@ -21,7 +21,7 @@ none_taken law plan migratable = record {
 }
 
 -- where memory ran out before bytes were read, no turn was taken and nothing is printed, whatever the bytes say
-pub none_read : JournalsAreSerial → (command : Command) (said : Result PlanData Refusal) → ((plan : PlanData) → said ≡ Ok plan → IsMigratable plan) → Comes command said None [] []
+pub none_read : JournalsAreSerial → (command : PlanCommand) (said : Result PlanData Refusal) → ((plan : PlanData) → said ≡ Ok plan → IsMigratable plan) → Comes command said None [] []
 none_read law Check (Ok plan) migratable = (record { no_turns = refl; no_journal = refl }, tt)
 none_read law Replay (Ok plan) migratable = none_taken law plan (migratable plan refl)
 none_read law Check (Err refusal) migratable = (record { no_turns = refl; no_journal = refl }, tt)

@@ -1,20 +1,22 @@
 -- How a call of the program ends: its status, what it took from the source and what it gave to the sink.
-use Rattle.std.specs.Prelude.{◌≡◌, codes, ℕ, if◌then◌else◌, List, [], ◌∷◌, Option, Some, None, ◌⊎◌}
-use Rattle.std.specs.Str.{bytes_eq}
+use Rattle.std.specs.Prelude.{◌≡◌, ℕ, List, [], Option, Some, None, ◌⊎◌}
 use Rattle.std.specs.Io.KnownBytes.{Appends, Consumes}
 use Rattle.gho_edges.specs.Edges.{Rose}
 use Rattle.gho_edges.specs.Whole.{ReadsWhole, GivesPart}
 use Rattle.server_words.specs.declared.entry.Entry.{Entry}
 use Rattle.plan_text.specs.declared.TheConstants.{PLAN_LIMIT}
 use Rattle.plan_text.specs.Plans.{reads}
-use Rattle.migration_host.specs.declared.command.Command.{Command}
-use Rattle.migration_host.specs.declared.command.Command.TheVariants.{Check, Replay}
+use Rattle.command_words.specs.declared.command.Command.{Command}
+use Rattle.command_words.specs.declared.command.Command.TheVariants.{Check, Replay, Run, Generate}
+use Rattle.migration_host.specs.declared.command.PlanCommand.{PlanCommand}
+use Rattle.migration_host.specs.declared.command.PlanCommand.TheVariants as plans
 use Rattle.migration_host.specs.declared.outcome.Printed.{Printed}
 use Rattle.migration_host.specs.declared.status.Status.{Status}
 use Rattle.migration_host.specs.declared.status.Status.TheVariants.{Done, Usage, Refused, Reverted, ReadFault, WriteFault, NoMemory, TurnsSpent}
 use Rattle.migration_host.specs.declared.turns.Turn.{Turn}
 use Rattle.migration_host.specs.Outcomes.{IsUntaken, Comes}
 use Rattle.migration_host.specs.Texts.{usage_text, read_fault_text}
+use Rattle.workload_gen.specs.Workloads.{workload}
 
 -- the number of each status. This project's rule.
 abbrev pub status_number : Status → ℕ
@@ -26,16 +28,6 @@ status_number ReadFault = 4
 status_number WriteFault = 5
 status_number NoMemory = 6
 status_number TurnsSpent = 7
-
--- the command that a word is, if it is one
-abbrev pub command_of : List ℕ → Option Command
-command_of word = if bytes_eq word (codes "check") then Some Check else (if bytes_eq word (codes "replay") then Some Replay else None)
-
--- *The command* of a line: one word alone. This project's rule.
-abbrev pub command : List (List ℕ) → Option Command
-command [] = None
-command (word ∷ []) = command_of word
-command (word ∷ next ∷ words) = None
 
 -- what a call did to the source: the bytes that it had left, where it tells them, and its count of faults
 pub record Taking : Type 0 where
@@ -60,12 +52,19 @@ abbrev pub gave : {K : Type 0} → (K → Option (List ℕ)) → (K → ℕ) →
 gave held faults old new = record { before = held old; after = held new; faults_before = faults old; faults_after = faults new }
 
 -- the source was read to its end or one byte past the limit, and this comes of its bytes under the command
-pub record ReadsAndComes (told : Command) (source : Taking) (printed : Option Printed) (turns : List Turn) (journal : List Entry) : Type 0 where
+pub record ReadsAndComes (told : PlanCommand) (source : Taking) (printed : Option Printed) (turns : List Turn) (journal : List Entry) : Type 0 where
   pub bytes : List ℕ
   pub whole : ReadsWhole PLAN_LIMIT source.before source.after bytes
   pub comes : Comes told (reads bytes) printed turns journal
 
--- faulty words: nothing is taken, and the usage is printed
+-- the plan of a number is printed, and nothing is taken
+pub record TellsWorkload (number : ℕ) (source : Taking) (printed : Printed) (turns : List Turn) (journal : List Entry) : Type 0 where
+  pub untaken : IsUntaken turns journal
+  pub status_is : printed.status ≡ Done
+  pub text_is : printed.text ≡ workload number
+  pub takes_none : Consumes source.before source.after []
+
+-- faulty words, or those of a command that isn't built: nothing is taken, and the usage is printed
 pub record TellsUsage (source : Taking) (printed : Printed) (turns : List Turn) (journal : List Entry) : Type 0 where
   pub untaken : IsUntaken turns journal
   pub status_is : printed.status ≡ Usage
@@ -84,16 +83,24 @@ abbrev pub TellsFaulty : Taking → Option Printed → List Turn → List Entry 
 TellsFaulty source None turns journal = IsUntaken turns journal
 TellsFaulty source (Some printed) turns journal = TellsUsage source printed turns journal
 
--- what a source comes to under a command: out of memory nothing is printed, and the turns that were taken are
+-- what a number comes to, out of memory and not
+abbrev pub TellsNumber : ℕ → Taking → Option Printed → List Turn → List Entry → Type 0
+TellsNumber number source None turns journal = IsUntaken turns journal
+TellsNumber number source (Some printed) turns journal = TellsWorkload number source printed turns journal
+
+-- what a source comes to under a command that reads a plan: out of memory nothing is printed, and the turns that were taken are
 -- those of the plan that was read
-abbrev pub TellsCommand : Command → Taking → Option Printed → List Turn → List Entry → Type 0
+abbrev pub TellsCommand : PlanCommand → Taking → Option Printed → List Turn → List Entry → Type 0
 TellsCommand told source None turns journal = IsUntaken turns journal ⊎ ReadsAndComes told source None turns journal
 TellsCommand told source (Some printed) turns journal = ReadsAndComes told source (Some printed) turns journal ⊎ TellsReadFault source printed turns journal
 
--- *Comes to*: what the words and the source come to.
+-- *Comes to*: what the words and the source come to. (`run` isn't built yet.)
 abbrev pub ComesTo : Option Command → Taking → Option Printed → List Turn → List Entry → Type 0
 ComesTo None source printed turns journal = TellsFaulty source printed turns journal
-ComesTo (Some told) source printed turns journal = TellsCommand told source printed turns journal
+ComesTo (Some Check) source printed turns journal = TellsCommand plans.Check source printed turns journal
+ComesTo (Some Replay) source printed turns journal = TellsCommand plans.Replay source printed turns journal
+ComesTo (Some (Run workers)) source printed turns journal = TellsFaulty source printed turns journal
+ComesTo (Some (Generate number)) source printed turns journal = TellsNumber number source printed turns journal
 
 -- What was given of what is printed, and how the call ended: the whole text, or a prefix of it where the sink failed; nothing
 -- where memory ran out.

@@ -14,8 +14,8 @@ use Rattle.migration_core.specs.Runs.{is_over}
 use Rattle.migration_host.specs.Checks.{Alters}
 use Rattle.migration_host.specs.Replays.{IsReplay}
 use Rattle.report_text.specs.Reports.{report}
-use Rattle.migration_host.specs.declared.command.Command.{Command}
-use Rattle.migration_host.specs.declared.command.Command.TheVariants.{Check, Replay}
+use Rattle.migration_host.specs.declared.command.PlanCommand.{PlanCommand}
+use Rattle.migration_host.specs.declared.command.PlanCommand.TheVariants.{Check, Replay}
 use Rattle.migration_host.specs.declared.outcome.Printed.{Printed}
 use Rattle.migration_host.specs.declared.status.Status.{Status}
 use Rattle.migration_host.specs.declared.status.Status.TheVariants as statuses
@@ -87,7 +87,7 @@ Refuses refusal (Some printed) = IsRefusal refusal printed
 
 -- What comes of bytes that say this under a command: what comes of the plan, or the refusal without a turn; or nothing is
 -- printed, being out of memory.
-abbrev pub Comes : Command → Result PlanData Refusal → Option Printed → List Turn → List Entry → Type 0
+abbrev pub Comes : PlanCommand → Result PlanData Refusal → Option Printed → List Turn → List Entry → Type 0
 Comes Check (Ok plan) printed turns journal = IsUntaken turns journal × PlanChecks plan printed
 Comes Replay (Ok plan) printed turns journal = PlanComes plan printed turns journal
 Comes command (Err refusal) printed turns journal = IsUntaken turns journal × Refuses refusal printed

@@ -1,5 +1,5 @@
 -- What the top call promises under each status.
-use Rattle.std.specs.Prelude.{◌≡◌, ℕ, ◌==◌, ◌≤◌, true, false, List, [], length, Option, Some, None, IsSome, Ok, Err, ◌⊎◌}
+use Rattle.std.specs.Prelude.{◌≡◌, ℕ, ◌==◌, ◌≤◌, Bool, true, false, List, [], length, Option, Some, None, Ok, Err, ◌⊎◌}
 use Rattle.std.specs.Io.KnownBytes.{Appends, Consumes}
 use Rattle.gho_edges.specs.Edges.{Rose}
 use Rattle.gho_edges.specs.Whole.{ReadsWhole, GivesPart}
@@ -20,12 +20,15 @@ use Rattle.migration_core.specs.Runs.{turn_limit}
 use Rattle.migration_host.specs.Checks.{Alters}
 use Rattle.migration_host.specs.Replays.{IsReplay}
 use Rattle.report_text.specs.Reports.{report}
-use Rattle.migration_host.specs.declared.command.Command.TheVariants.{Check, Replay}
+use Rattle.command_words.specs.Commands.{command}
+use Rattle.command_words.specs.declared.command.Command.{Command}
+use Rattle.command_words.specs.declared.command.Command.TheVariants.{Check, Replay, Run, Generate}
 use Rattle.migration_host.specs.declared.outcome.Printed.{Printed}
 use Rattle.migration_host.specs.declared.turns.Turn.{Turn}
-use Rattle.migration_host.specs.Endings.{Taking, Giving, ComesTo, command}
+use Rattle.migration_host.specs.Endings.{Taking, Giving, ComesTo}
 use Rattle.migration_host.specs.Outcomes.{IsUntaken, turns_of}
 use Rattle.migration_host.specs.Texts.{refused_text, usage_text, read_fault_text}
+use Rattle.workload_gen.specs.Workloads.{workload}
 
 -- *The headline*, of the journal that a call leaves: the source was read whole, its bytes are an accepted plan, and the
 -- journal is that of a replay of the plan. So each answer is the plain server's; the clients took the lines of their
@@ -78,6 +81,12 @@ pub record PrintsSchema (source : Taking) (sink : Giving) (turns : List Turn) (j
   pub given : Appends sink.before sink.after (printed_schema schema)
   pub untaken : IsUntaken turns journal
 
+-- Status 0 of `generate`: nothing is taken, and the plan of the number is given; no turn was taken.
+pub record PrintsWorkload (number : ℕ) (source : Taking) (sink : Giving) (turns : List Turn) (journal : List Entry) : Type 0 where
+  pub takes_none : Consumes source.before source.after []
+  pub given : Appends sink.before sink.after (workload number)
+  pub untaken : IsUntaken turns journal
+
 -- Status 2: the source was read whole, and what is given is the first refusal of its bytes; no turn was taken.
 pub record PrintsRefusal (source : Taking) (sink : Giving) (turns : List Turn) (journal : List Entry) : Type 0 where
   pub bytes : List ℕ
@@ -112,14 +121,27 @@ pub record PrintsNone (words : List (List ℕ)) (source : Taking) (sink : Giving
   pub comes : ComesTo (command words) source None turns journal
   pub given : Appends sink.before sink.after []
 
+-- the words are a command whose program is built: any but `run`
+abbrev pub is_built : Option Command → Bool
+is_built None = false
+is_built (Some (Run workers)) = false
+is_built (Some told) = true
+
+-- the words are a command that reads a plan
+abbrev pub reads_plan : Option Command → Bool
+reads_plan (Some Check) = true
+reads_plan (Some Replay) = true
+reads_plan told = false
+
 -- *Ends*: a call ends under one of these numbers, and then this stands.
 pub data Ends (words : List (List ℕ)) (source : Taking) (sink : Giving) (turns : List Turn) (journal : List Entry) (number : ℕ) : Type 0 where
   done : number ≡ 0 → command words ≡ Some Replay → PrintsReport source sink turns journal Done → Ends words source sink turns journal number
   checked : number ≡ 0 → command words ≡ Some Check → PrintsSchema source sink turns journal → Ends words source sink turns journal number
-  usage : number ≡ 1 → command words ≡ None → PrintsUsage source sink turns journal → Ends words source sink turns journal number
-  refused : number ≡ 2 → IsSome (command words) → PrintsRefusal source sink turns journal → Ends words source sink turns journal number
+  generated : number ≡ 0 → (told : ℕ) → command words ≡ Some (Generate told) → PrintsWorkload told source sink turns journal → Ends words source sink turns journal number
+  usage : number ≡ 1 → is_built (command words) ≡ false → PrintsUsage source sink turns journal → Ends words source sink turns journal number
+  refused : number ≡ 2 → reads_plan (command words) ≡ true → PrintsRefusal source sink turns journal → Ends words source sink turns journal number
   reverted : number ≡ 3 → command words ≡ Some Replay → PrintsRevert source sink turns journal → Ends words source sink turns journal number
-  read_fault : number ≡ 4 → IsSome (command words) → PrintsReadFault source sink turns journal → Ends words source sink turns journal number
+  read_fault : number ≡ 4 → reads_plan (command words) ≡ true → PrintsReadFault source sink turns journal → Ends words source sink turns journal number
   write_fault : number ≡ 5 → PrintsPrefix words source sink turns journal → Ends words source sink turns journal number
   no_memory : number ≡ 6 → PrintsNone words source sink turns journal → Ends words source sink turns journal number
   turns_spent : number ≡ 7 → command words ≡ Some Replay → PrintsUnfinished source sink turns journal → Ends words source sink turns journal number

@@ -1,10 +1,10 @@
-//! The commands of the program.
+//! The commands that read a plan.
 
-/// What a command line asks for.
+/// What is done with a plan.
 #[derive(Clone, Copy, Debug, PartialEq, Eq)]
-pub enum Command {
-    /// `check`: the altered schema of a plan.
+pub enum PlanCommand {
+    /// `check`: its altered schema is printed.
     Check,
-    /// `replay`: a plan's run, on one thread.
+    /// `replay`: it is run on one thread.
     Replay,
 }

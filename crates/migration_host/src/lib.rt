@@ -3,7 +3,6 @@
 
 mod accepting;
 mod command;
-mod line;
 mod outcome;
 mod replay;
 mod status;
@@ -11,8 +10,8 @@ mod top;
 mod turns;
 
 pub use accepting::read_plan;
-pub use command::Command;
-pub use line::Line;
+pub use command::PlanCommand;
+pub use command_words::{Command, Line};
 pub use status::Status;
 pub use top::{Ended, ghost_};
 pub use turns::{Turn, Turns};

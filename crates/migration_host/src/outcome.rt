@@ -7,9 +7,11 @@ ghost use Rattle.migration_host.specs.Checks.{Alters};
 ghost use Rattle.migration_host.specs.Replays.{IsEnd};
 ghost use Rattle.migration_host.specs.Outcomes.{Comes, IsSchemaText, PlanChecks, PlanComes, Refuses, Reports};
 ghost use Rattle.migration_host.specs.Texts.{place_text, refused_text};
+ghost use Rattle.migration_host.specs.declared.status.Status.TheVariants as statuses;
+ghost use Rattle.workload_gen.specs.Workloads.{workload};
 
 use crate::accepting::read_plan;
-use crate::command::Command;
+use crate::command::PlanCommand;
 use crate::replay::replay_plan;
 use crate::status::{Status, status_of};
 use crate::turns::{Turns, turns_in};
@@ -25,6 +27,7 @@ use serial_laws::laws::journals_are_serial;
 use server_core::Server;
 use server_words::{Journal, Serve};
 use std::alloc::{AllocError, Global};
+use workload_gen::generate;
 
 /// What is printed, and the status that it has where it is printed whole.
 #[derive(Drop)]
@@ -53,6 +56,19 @@ pub fn shown(alloc: Global, status: Status, text: &str) -> Option<Printed>
     let mut copy = Text::new(alloc);
     match copy.push_str(text) {
         Ok(()) => Some(Printed { status, text: copy }),
+        Err(_) => None,
+    }
+}
+
+/// What is printed of a number: its plan.
+pub fn workload_shown(alloc: Global, number: u64) -> Option<Printed>
+    ensures { IfSome result (λ printed. printed ≡ record { status = statuses.Done; text = workload number }) }
+{
+    match generate(alloc, number) {
+        Ok(text) => Some(Printed {
+            status: Status::Done,
+            text,
+        }),
         Err(_) => None,
     }
 }
@@ -186,18 +202,18 @@ fn plan_checked(alloc: Global, plan: &Plan) -> Option<Printed>
 }
 
 /// What comes of a plan under a command.
-fn plan_outcome(alloc: Global, command: Command, plan: &Plan) -> Outcome
+fn plan_outcome(alloc: Global, command: PlanCommand, plan: &Plan) -> Outcome
     requires { IsMigratable plan.now }
     ensures { Comes command (Ok plan.now) result.printed result.turns result.journal }
 {
     match command {
-        Command::Check => untaken(alloc, plan_checked(alloc, plan)),
-        Command::Replay => plan_replayed(alloc, plan),
+        PlanCommand::Check => untaken(alloc, plan_checked(alloc, plan)),
+        PlanCommand::Replay => plan_replayed(alloc, plan),
     }
 }
 
 /// What comes of a plan's bytes under a command, where memory ran out before they were read.
-fn unread(alloc: Global, command: Command, bytes: &[u8]) -> Outcome
+fn unread(alloc: Global, command: PlanCommand, bytes: &[u8]) -> Outcome
     ensures { Comes command (reads bytes.now) result.printed result.turns result.journal }
 {
     accepted_plans_are_migratable();
@@ -206,7 +222,7 @@ fn unread(alloc: Global, command: Command, bytes: &[u8]) -> Outcome
 }
 
 /// What comes of a plan's bytes under a command.
-pub fn outcome_of(alloc: Global, command: Command, bytes: &[u8]) -> Outcome
+pub fn outcome_of(alloc: Global, command: PlanCommand, bytes: &[u8]) -> Outcome
     ensures { Comes command (reads bytes.now) result.printed result.turns result.journal }
 {
     match read_plan(alloc, bytes) {

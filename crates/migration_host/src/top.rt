@@ -1,15 +1,18 @@
 //! The top call: all that the program does.
 
-ghost use Rattle.std.specs.Prelude.{◌≡◌, ◌≤◌, ◌==◌, false, length, Some, None};
-ghost use Rattle.migration_host.specs.declared.command.Command.TheVariants.{Check, Replay};
+ghost use Rattle.std.specs.Prelude.{◌≡◌, ◌≤◌, ◌==◌, ℕ, false, length, Some};
+ghost use Rattle.command_words.specs.Commands.{command};
+ghost use Rattle.command_words.specs.declared.command.Command.TheVariants.{Check, Generate, Replay};
+ghost use Rattle.migration_host.specs.declared.command.PlanCommand.{PlanCommand};
 ghost use Rattle.server_words.specs.declared.cause.Verdict.TheVariants as verdicts;
-ghost use Rattle.migration_host.specs.Endings.{ComesTo, Gives, command, gave, took};
-ghost use Rattle.migration_host.specs.Promises.{Ends, IsSerial, PrintsReport, PrintsSchema, PrintsRevert, PrintsUnfinished, PrintsRefusal, PrintsUsage, PrintsReadFault, PrintsPrefix, PrintsNone, IsUsageOrLost};
+ghost use Rattle.migration_host.specs.Endings.{ComesTo, Gives, TellsCommand, gave, took};
+ghost use Rattle.migration_host.specs.Promises.{Ends, IsSerial, is_built, PrintsReport, PrintsSchema, PrintsWorkload, PrintsRevert, PrintsUnfinished, PrintsRefusal, PrintsUsage, PrintsReadFault, PrintsPrefix, PrintsNone, IsUsageOrLost};
 
-use crate::line::Line;
-use crate::outcome::{Outcome, outcome_of, shown, untaken};
+use crate::command::PlanCommand;
+use crate::outcome::{Outcome, outcome_of, shown, untaken, workload_shown};
 use crate::status::Status;
 use crate::turns::Turns;
+use command_words::{Command, Line};
 use gho_edges::{Gate, ReadFault, Sink, Source, give_whole, read_whole};
 use plan_text::PLAN_LIMIT;
 use serial_laws::laws::{reverts_name_turns, verdicts_tell_the_alter};
@@ -32,20 +35,31 @@ pub struct Ended {
     pub journal: Journal,
 }
 
+/// What a source comes to under a command that reads a plan.
+fn come_to_plan<S: Source>(alloc: Global, told: PlanCommand, source: &mut S) -> Outcome
+    ensures comes { TellsCommand told (took S.left S.faults source.old source.new) result.printed result.turns result.journal }
+    ensures never_falls { S.faults source.old ≤ S.faults source.new }
+{
+    match read_whole(alloc, source, PLAN_LIMIT) {
+        Ok(bytes) => outcome_of(alloc, told, bytes.as_slice()),
+        Err(ReadFault::Source) => {
+            untaken(alloc, shown(alloc, Status::ReadFault, "read fault\n"))
+        }
+        Err(ReadFault::Memory) => untaken(alloc, None),
+    }
+}
+
 /// What the words and the source come to.
 fn come_to<S: Source>(alloc: Global, line: &Line, source: &mut S) -> Outcome
     ensures comes { ComesTo (command line.now) (took S.left S.faults source.old source.new) result.printed result.turns result.journal }
     ensures never_falls { S.faults source.old ≤ S.faults source.new }
 {
-    let Some(command) = line.command() else {
-        return untaken(alloc, shown(alloc, Status::Usage, USAGE));
-    };
-    match read_whole(alloc, source, PLAN_LIMIT) {
-        Ok(bytes) => outcome_of(alloc, command, bytes.as_slice()),
-        Err(ReadFault::Source) => {
-            untaken(alloc, shown(alloc, Status::ReadFault, "read fault\n"))
-        }
-        Err(ReadFault::Memory) => untaken(alloc, None),
+    match line.command(alloc) {
+        Ok(Some(Command::Check)) => come_to_plan(alloc, PlanCommand::Check, source),
+        Ok(Some(Command::Replay)) => come_to_plan(alloc, PlanCommand::Replay, source),
+        Ok(Some(Command::Generate(number))) => untaken(alloc, workload_shown(alloc, number)),
+        Ok(Some(Command::Run(_)) | None) => untaken(alloc, shown(alloc, Status::Usage, USAGE)),
+        Err(_) => untaken(alloc, None),
     }
 }
 
@@ -80,11 +94,11 @@ fn ending<S: Source, K: Sink>(alloc: Global, line: &Line, source: &mut S, sink: 
     }
 }
 
-/// All that the program does: it reads a plan from the source and gives to the sink what the words ask for.
+/// All that the program does: it gives to the sink what the words ask for, of the plan that the source has.
 ///
-/// So far the commands are `check`, which prints the schema that the plan's ALTER leaves, and `replay`, which runs the plan
-/// on one thread and prints the report. The runtime and the gate serve the commands that run threads, which aren't built
-/// yet.
+/// So far the commands are `check`, which prints the schema that the plan's ALTER leaves, `replay`, which runs the plan on
+/// one thread and prints the report, and `generate`, which prints the plan of a number and reads nothing. The runtime and
+/// the gate serve the command that runs threads, `run`, which isn't built yet.
 pub fn ghost_<R: Threads + Wait + Sync, S: Source, K: Sink, G: Gate + Sync>(
     _rt: &R,
     alloc: Global,
@@ -101,12 +115,13 @@ pub fn ghost_<R: Threads + Wait + Sync, S: Source, K: Sink, G: Gate + Sync>(
 
     ensures done { result.status ≡ 0 → command line.now ≡ Some Replay → PrintsReport (took S.left S.faults source.old source.new) (gave K.held K.faults sink.old sink.new) result.turns result.journal verdicts.Done }
     ensures checked { result.status ≡ 0 → command line.now ≡ Some Check → PrintsSchema (took S.left S.faults source.old source.new) (gave K.held K.faults sink.old sink.new) result.turns result.journal }
+    ensures generated { (number : ℕ) → result.status ≡ 0 → command line.now ≡ Some (Generate number) → PrintsWorkload number (took S.left S.faults source.old source.new) (gave K.held K.faults sink.old sink.new) result.turns result.journal }
     ensures reverted { result.status ≡ 3 → PrintsRevert (took S.left S.faults source.old source.new) (gave K.held K.faults sink.old sink.new) result.turns result.journal }
     ensures turns_spent { result.status ≡ 7 → PrintsUnfinished (took S.left S.faults source.old source.new) (gave K.held K.faults sink.old sink.new) result.turns result.journal }
 
     ensures usage { result.status ≡ 1 → PrintsUsage (took S.left S.faults source.old source.new) (gave K.held K.faults sink.old sink.new) result.turns result.journal }
-    ensures usage_only_at_faulty_words { result.status ≡ 1 → command line.now ≡ None }
-    ensures faulty_words { command line.now ≡ None → IsUsageOrLost result.status }
+    ensures usage_only_at_faulty_words { result.status ≡ 1 → is_built (command line.now) ≡ false }
+    ensures faulty_words { is_built (command line.now) ≡ false → IsUsageOrLost result.status }
 
     ensures refused { result.status ≡ 2 → PrintsRefusal (took S.left S.faults source.old source.new) (gave K.held K.faults sink.old sink.new) result.turns result.journal }
 

@@ -1,23 +1,14 @@
 -- Tables one after the other.
-use Rattle.std.proofs.Common.{◌≡◌, ℕ, zero, suc, ◌+◌, ◌≤◌, List, [], ◌∷◌, ◌++◌, length, drop, fold, Option, Some, None, refl, sym, ◌∙◌, ap, append_assoc, append-nil, arith}
+use Rattle.std.proofs.Common.{◌≡◌, ℕ, ◌+◌, ◌≤◌, List, [], ◌∷◌, ◌++◌, length, drop, Option, Some, None, refl, sym, ◌∙◌, ap, append_assoc, append-nil}
 use Rattle.std.specs.Prelude.{option_to_list}
 use Rattle.std.proofs.lemmas.Grind.{flat_map-append}
 use Rattle.std.proofs.lemmas.List.{drop_all}
 use Rattle.std.specs.List.{flat_map, slice_get}
+use Rattle.table_lines.proofs.Steps.{from_here}
 use Rattle.row_store.specs.Databases.{StoredTable, TableRows, Database, database, find_table}
 use Rattle.plan_words.specs.PlanData.{PlanData}
 use Rattle.plan_words.specs.Histories.{tables_left}
-use Rattle.report_text.specs.Names.{placed, in_byte_order, table_names}
 use Rattle.report_text.specs.Tables.{table_text, tables_text}
-
-some_is : {X : Type 0} (y x : X) → Some y ≡ Some x → y ≡ x
-some_is y x is = cc
-
--- the item at this place is the first of those from there on
-from_here : {X : Type 0} (xs : List X) (i : ℕ) (x : X) → slice_get xs i ≡ Some x → drop i xs ≡ x ∷ drop (i + 1) xs
-from_here [] i x is = absurd (cc)
-from_here (y ∷ xs) zero x is = ap (λ z. z ∷ xs) (some_is y x is)
-from_here (y ∷ xs) (suc i) x is = let next : suc i + 1 ≡ suc (i + 1) = omega arith in rw next (from_here xs i x is)
 
 -- the plan with these opening tables
 abbrev pub with_tables : PlanData → Database → PlanData
@@ -63,15 +54,3 @@ prints_all plan opening place tables into all over so_far =
     let none : tables_text (tables_left (with_tables plan (database (drop place opening))) tables) ≡ [] =
     ap (λ (xs : List StoredTable). tables_text (tables_left (with_tables plan (database xs)) tables)) (drop_all place opening over) ∙ none_left plan tables in
     sym (append-nil into) ∙ ap (λ xs. into ++ xs) (sym none) ∙ so_far
-
--- ---- names
-
-pub places_one : (tables : List StoredTable) (place : ℕ) (stored : StoredTable) (names after all : List (List ℕ))
-    → slice_get tables place ≡ Some stored → after ≡ placed names stored.table.schema.name
-    → fold placed names (table_names (database (drop place tables))) ≡ all → fold placed after (table_names (database (drop (place + 1) tables))) ≡ all
-places_one tables place stored names after all at is so_far =
-    ap (λ (xs : List (List ℕ)). fold placed xs (table_names (database (drop (place + 1) tables)))) is
-    ∙ ap (λ (xs : List StoredTable). fold placed names (table_names (database xs))) (sym (from_here tables place stored at)) ∙ so_far
-
-pub places_all : (tables : List StoredTable) (place : ℕ) (names all : List (List ℕ)) → length tables ≤ place → fold placed names (table_names (database (drop place tables))) ≡ all → names ≡ all
-places_all tables place names all over so_far = ap (λ (xs : List StoredTable). fold placed names (table_names (database xs))) (sym (drop_all place tables over)) ∙ so_far

@@ -1,10 +1,10 @@
 -- A walk through the journal finds a client's replies.
-use Rattle.std.proofs.Common.{◌≡◌, ℕ, ◌+◌, ◌==◌, Bool, true, false, List, [], ◌∷◌, ◌++◌, cond, refl, sym, ◌∙◌, ap, subst, append_assoc, append-nil, arith}
+use Rattle.std.proofs.Common.{◌≡◌, ℕ, ◌+◌, ◌==◌, Bool, true, false, List, [], ◌∷◌, ◌++◌, cond, refl, sym, ◌∙◌, ap, append_assoc, append-nil, arith}
 use Rattle.std.proofs.lemmas.Bool.Decides.{nat_tests}
 use Rattle.std.proofs.lemmas.Bool.{true≢false}
 use Rattle.std.proofs.lemmas.Grind.{flat_map-append}
 use Rattle.std.proofs.lemmas.List.Sums.{fold-append}
-use Rattle.std.specs.List.{count_by, flat_map}
+use Rattle.std.specs.List.{flat_map}
 use Rattle.script_text.specs.declared.actor.Actor.{Actor}
 use Rattle.script_text.specs.declared.actor.Actor.TheVariants.{Op, Insp, Copy, Apply, Lock, Ren, Client}
 use Rattle.server_words.specs.declared.answer.Answer.{Answer}
@@ -12,12 +12,11 @@ use Rattle.server_words.specs.declared.answer.Answer.TheVariants as answers
 use Rattle.server_words.specs.declared.entry.Asked.{Asked}
 use Rattle.server_words.specs.declared.entry.Asked.TheVariants.{Call}
 use Rattle.server_words.specs.declared.entry.Entry.{Entry}
-use Rattle.server_words.specs.declared.request.Request.{Request}
 use Rattle.server_words.specs.declared.request.Request.TheVariants as requests
 use Rattle.server_words.specs.Along.{gathered}
 use Rattle.plan_words.specs.PlanData.{PlanData}
-use Rattle.plan_words.specs.Journals.{same_actor, is_client, turns_of}
-use Rattle.plan_words.specs.Histories.{HistoryItem, Alter, NumberedReply, replies_in, replies_of, adds, alters, ends_txn, takes_away, entry_adds, history}
+use Rattle.plan_words.specs.Journals.{same_actor, turns_of}
+use Rattle.plan_words.specs.Histories.{Alter, NumberedReply, replies_in, replies_of, alters, ends_txn, takes_away, entry_adds, history}
 use Rattle.report_text.specs.Replies.{numbered_text, client_line, client_text}
 use Rattle.report_text.specs.Walks.{turn_replies, replies_from}
 

@@ -1,4 +1,3 @@
-pub mod Names
 pub mod Replies
 pub mod Reports
 pub mod Tables

@@ -8,7 +8,7 @@ use Rattle.server_words.specs.declared.ended.Reply.TheVariants.{Ok, Error, Rows}
 use Rattle.server_words.specs.declared.entry.Entry.{Entry}
 use Rattle.plan_words.specs.PlanData.{PlanData}
 use Rattle.plan_words.specs.Histories.{NumberedReply, replies_of}
-use Rattle.report_text.specs.Tables.{row_lines}
+use Rattle.table_lines.specs.Tables.{row_lines}
 
 -- a reply: `ok 1`, `error 1062`, or `rows 2` and then the rows
 unfoldable pub reply_text : Reply → List ℕ

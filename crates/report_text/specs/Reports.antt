@@ -11,9 +11,9 @@ use Rattle.server_words.specs.declared.cause.Verdict.TheVariants.{Done, Reverted
 use Rattle.server_words.specs.declared.entry.Entry.{Entry}
 use Rattle.plan_words.specs.PlanData.{PlanData}
 use Rattle.plan_words.specs.Histories.{tables_left}
-use Rattle.report_text.specs.Names.{names_line}
 use Rattle.report_text.specs.Replies.{clients_text}
 use Rattle.report_text.specs.Tables.{tables_text}
+use Rattle.table_lines.specs.Names.{names_line}
 
 -- why a migration was reverted: `unfit turn 8 key (1) column 'c' 1406`, with the row's old key and the new column's name
 unfoldable pub cause_text : Cause → List ℕ

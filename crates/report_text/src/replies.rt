@@ -10,12 +10,12 @@ ghost use Rattle.server_words.specs.Alone.{reply_of};
 ghost use Rattle.report_text.specs.Replies.{reply_text, numbered_text, client_line, client_text, clients_text};
 ghost use Rattle.report_text.specs.Walks.{turn_replies, replies_from};
 
-use crate::tables::push_row_lines;
 use gho_values::{Row, Text};
 use plan_words::Plan;
 use script_text::Actor;
 use server_words::{Answer, Asked, Entry, Request};
 use std::alloc::AllocError;
+use table_lines::push_row_lines;
 
 fn push_count(into: &mut Text, number: u64) -> Result<(), AllocError>
     ensures { OnOk result (into.new ≡ into.old ++ decimal number) }

@@ -1,62 +1,15 @@
-//! Tables, line by line.
+//! Tables, one after the other.
 
 ghost use Rattle.std.specs.Prelude.{◌≡◌, ◌++◌, option_to_list, OnOk};
 ghost use Rattle.plan_words.specs.Histories.{tables_left};
 ghost use Rattle.row_store.specs.Databases.{database, find_table};
-ghost use Rattle.report_text.specs.Tables.{more_names, column_names, table_line, row_lines, table_text, tables_text};
+ghost use Rattle.report_text.specs.Tables.{table_text, tables_text};
 
-use gho_schema::{Column, Schema};
-use gho_values::{Row, Text, print_row};
+use gho_values::Text;
 use plan_words::Plan;
 use row_store::{Table, Tables};
 use std::alloc::AllocError;
-
-#[tactic(auto, unfolding(crate::specs::Tables::more_names))]
-fn push_more_names(into: &mut Text, columns: &[Column]) -> Result<(), AllocError>
-    ensures { OnOk result (into.new ≡ into.old ++ more_names columns.now) }
-{
-    for column in columns {
-        into.push_str(", ")?;
-        into.push_str(column.name.as_str())?;
-    }
-    Ok(())
-}
-
-#[tactic(auto, unfolding(crate::specs::Tables::column_names))]
-fn push_column_names(into: &mut Text, columns: &[Column]) -> Result<(), AllocError>
-    ensures { OnOk result (into.new ≡ into.old ++ column_names columns.now) }
-{
-    match columns {
-        [] => Ok(()),
-        [first, others @ ..] => {
-            into.push_str(first.name.as_str())?;
-            push_more_names(into, others)
-        }
-    }
-}
-
-#[tactic(auto, unfolding(crate::specs::Tables::table_line))]
-fn push_table_line(into: &mut Text, schema: &Schema) -> Result<(), AllocError>
-    ensures { OnOk result (into.new ≡ into.old ++ table_line schema.now) }
-{
-    into.push_str("table ")?;
-    into.push_str(schema.name.as_str())?;
-    into.push_str(" (")?;
-    push_column_names(into, schema.columns.as_slice())?;
-    into.push_str(")\n")
-}
-
-/// Adds each row on a line of its own.
-#[tactic(auto, unfolding(crate::specs::Tables::row_lines))]
-pub(crate) fn push_row_lines(into: &mut Text, rows: &[Row]) -> Result<(), AllocError>
-    ensures { OnOk result (into.new ≡ into.old ++ row_lines rows.now) }
-{
-    for row in rows {
-        print_row(row.as_slice(), into)?;
-        into.push_str("\n")?;
-    }
-    Ok(())
-}
+use table_lines::{push_row_lines, push_table_line};
 
 fn push_table(into: &mut Text, table: &Table) -> Result<(), AllocError>
     ensures { OnOk result (into.new ≡ into.old ++ table_text table.now.table) }

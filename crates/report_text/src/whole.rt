@@ -4,7 +4,6 @@ ghost use Rattle.std.specs.Prelude.{◌≡◌, IfOk};
 ghost use Rattle.row_store.specs.Databases.{database};
 ghost use Rattle.report_text.specs.Reports.{report};
 
-use crate::names::push_names_line;
 use crate::replies::push_clients;
 use crate::tables::push_tables_left;
 use crate::verdict::push_verdict;
@@ -13,6 +12,7 @@ use plan_words::Plan;
 use row_store::Tables;
 use server_words::{Journal, Verdict};
 use std::alloc::{AllocError, Global};
+use table_lines::push_names_line;
 
 /// The report of a run of the plan with this journal and verdict, which left these tables. Each line ends in a line feed.
 #[tactic(auto, unfolding(crate::specs::Reports::report))]

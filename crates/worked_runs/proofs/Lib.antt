@@ -1,5 +1,6 @@
 mod Computing
 mod Rows
+mod Reports
 mod Plans1
 mod Plans2
 mod Plans3

@@ -1,0 +1,5 @@
+pub mod Actors
+pub mod Walking
+pub mod Replying
+pub mod Ending
+pub mod Passing

@@ -1,0 +1,31 @@
+-- Replies, as they are printed.
+use Rattle.std.proofs.Common.{◌≡◌, ◌∙◌, ℕ, ◌+◌, ◌-◌, ◌==◌, false, List, [], ◌∷◌, ◌++◌, Some, sym, ap, append-nil, append_assoc, arith}
+use Rattle.std.proofs.lemmas.Bool.Decides.{nat_tests}
+use Rattle.std.specs.List.{flat_map, slice_get}
+use Rattle.script_text.specs.declared.script.ScriptLine.{ScriptLine}
+use Rattle.plain_server.specs.declared.entry.Entry.{Entry}
+use Rattle.plan_words.specs.PlanData.{PlanData}
+use Rattle.journal_words.specs.Clients.{script_of}
+use Rattle.journal_words.specs.Histories.{NumberedReply}
+use Rattle.client_lines.specs.Replies.{client_line, client_text, numbered_text}
+use Rattle.client_lines.specs.Walks.{new_walk, replies_from}
+use Rattle.client_lines.proofs.Walking.{replies_found}
+
+pub lone_reply : (reply : NumberedReply) → flat_map numbered_text (reply ∷ []) ≡ numbered_text reply
+lone_reply reply = append-nil (numbered_text reply)
+
+-- a client's text, by its walk
+pub text_by_walk : (plan : PlanData) (journal : List Entry) (client : ℕ) (script : List ScriptLine) (into line after : List ℕ) → script_of client plan ≡ Some script
+    → line ≡ into ++ client_line client → after ≡ line ++ flat_map numbered_text (replies_from client (new_walk script) journal) → after ≡ into ++ client_text plan journal client
+unfolding client_text
+text_by_walk plan journal client script into line after is first then =
+    then ∙ ap (λ xs. xs ++ flat_map numbered_text (replies_from client (new_walk script) journal)) first
+    ∙ append_assoc into (client_line client) (flat_map numbered_text (replies_from client (new_walk script) journal))
+    ∙ ap (λ (replies : List NumberedReply). into ++ (client_line client ++ flat_map numbered_text replies)) (sym (replies_found plan journal client script is))
+
+-- the script of a client by its place
+pub script_at : (plan : PlanData) (client place : ℕ) (script : List ScriptLine) → client ≡ place + 1 → slice_get plan.clients place ≡ Some script → script_of client plan ≡ Some script
+script_at plan client place script is at =
+    let some : (client == 0) ≡ false = grind (arith, nat_tests) in
+    let behind : client - 1 ≡ place = omega (arith, is) in
+    rw some (ap (slice_get plan.clients) behind ∙ at)

@@ -1,0 +1,3 @@
+pub mod Replies
+pub mod Pasts
+pub mod Walks

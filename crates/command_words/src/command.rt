@@ -1,0 +1,14 @@
+//! The commands of the program.
+
+/// What a command line asks for.
+#[derive(Clone, Copy, Debug, PartialEq, Eq)]
+pub enum Command {
+    /// `check`: the altered schema of a plan.
+    Check,
+    /// `replay`: a plan's run, on one thread.
+    Replay,
+    /// `run`: a plan's run on so many threads, 1 to 16.
+    Run(u32),
+    /// `generate`: the plan of a number. Nothing is read.
+    Generate(u64),
+}

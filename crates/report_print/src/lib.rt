@@ -1,0 +1,9 @@
+//! The report of a run: how it ended and why, what each client got, the tables that are left, the history and the turns.
+#![tactic(auto)]
+
+mod tables;
+mod turns;
+mod verdict;
+mod whole;
+
+pub use whole::report;

@@ -1,0 +1,80 @@
+//! The tables that are left.
+
+ghost use Rattle.std.specs.Prelude.{◌≡◌, ◌++◌, option_to_list, OnOk};
+ghost use Rattle.journal_words.specs.Serials.{tables_left};
+ghost use Rattle.row_store.specs.Databases.{database, find_table};
+ghost use Rattle.report_print.specs.Tables.{left_of, rows_text, table_text, tables_text};
+
+use changelog_table::is_tool_name;
+use client_lines::push_number_line;
+use gho_values::{Row, Text};
+use plan_words::Plan;
+use row_store::{Table, Tables};
+use std::alloc::AllocError;
+use table_lines::{push_row_lines, push_table_line};
+
+#[tactic(auto, unfolding(crate::specs::Tables::rows_text))]
+fn push_rows(into: &mut Text, shown: bool, rows: &[Row]) -> Result<(), AllocError>
+    ensures { OnOk result (into.new ≡ into.old ++ rows_text shown rows.now) }
+{
+    if shown {
+        push_row_lines(into, rows)
+    } else {
+        push_number_line(into, "rows ", rows.len() as u64)
+    }
+}
+
+fn push_table(into: &mut Text, shown: bool, table: &Table) -> Result<(), AllocError>
+    ensures { OnOk result (into.new ≡ into.old ++ table_text shown table.now.table) }
+{
+    push_table_line(into, table.schema())?;
+    push_rows(into, shown, table.rows().as_slice())
+}
+
+/// Adds the table of this one's name among those that stand, where it is there.
+#[tactic(auto, using(crate::proofs::Left::found_text, crate::proofs::Left::missing_text))]
+fn push_found(
+    into: &mut Text,
+    shown: bool,
+    opening: &Table,
+    tables: &Tables,
+) -> Result<(), AllocError>
+    ensures { OnOk result (into.new ≡ into.old ++ tables_text shown (option_to_list (find_table opening.now.table.schema.name (database tables.now)))) }
+{
+    match tables.find(&opening.schema().name) {
+        Some(table) => push_table(into, shown, table),
+        None => Ok(()),
+    }
+}
+
+/// The same, unless this one is a leftover.
+#[tactic(auto, using(crate::proofs::Left::leftover_text))]
+fn push_left(
+    into: &mut Text,
+    plan: &Plan,
+    opening: &Table,
+    tables: &Tables,
+) -> Result<(), AllocError>
+    ensures { OnOk result (into.new ≡ into.old ++ tables_text plan.now.options.show_tables (left_of plan.now opening.now.table (database tables.now))) }
+{
+    if is_tool_name(plan.table(), &opening.schema().name) {
+        Ok(())
+    } else {
+        push_found(into, plan.options().show_tables, opening, tables)
+    }
+}
+
+/// Adds the plan's tables but the leftovers as they are left among those that stand.
+pub(crate) fn push_tables_left(
+    into: &mut Text,
+    plan: &Plan,
+    tables: &Tables,
+) -> Result<(), AllocError>
+    ensures { OnOk result (into.new ≡ into.old ++ tables_text plan.now.options.show_tables (tables_left plan.now (database tables.now))) }
+{
+    let opening = plan.tables();
+    for place in 0..opening.len() {
+        push_left(into, plan, opening.at(place), tables)?;
+    }
+    Ok(())
+}

@@ -1,0 +1,75 @@
+//! The report as a whole.
+
+ghost use Rattle.std.specs.Prelude.{◌≡◌, ◌++◌, IfOk, OnOk};
+ghost use Rattle.row_store.specs.Databases.{database};
+ghost use Rattle.client_lines.specs.Pasts.{history_line};
+ghost use Rattle.client_lines.specs.Replies.{clients_text};
+ghost use Rattle.report_print.specs.Reports.{report, where_shown};
+ghost use Rattle.report_print.specs.Turns.{turns_text};
+
+use crate::tables::push_tables_left;
+use crate::turns::push_turns;
+use crate::verdict::push_verdict;
+use client_lines::{push_clients, push_history_line};
+use gho_values::Text;
+use plain_server::{Entry, Journal, Verdict};
+use plan_words::Plan;
+use row_store::Tables;
+use std::alloc::{AllocError, Global};
+use table_lines::push_names_line;
+
+fn push_shown_replies(into: &mut Text, plan: &Plan, journal: &[Entry]) -> Result<(), AllocError>
+    ensures { OnOk result (into.new ≡ into.old ++ where_shown plan.now.options.show_replies (clients_text plan.now journal.now)) }
+{
+    if plan.options().show_replies {
+        push_clients(into, plan, journal)
+    } else {
+        Ok(())
+    }
+}
+
+fn push_shown_history(
+    alloc: Global,
+    into: &mut Text,
+    plan: &Plan,
+    journal: &[Entry],
+) -> Result<(), AllocError>
+    ensures { OnOk result (into.new ≡ into.old ++ where_shown plan.now.options.show_history (history_line plan.now journal.now)) }
+{
+    if plan.options().show_history {
+        push_history_line(alloc, into, plan, journal)
+    } else {
+        Ok(())
+    }
+}
+
+fn push_shown_turns(into: &mut Text, plan: &Plan, journal: &[Entry]) -> Result<(), AllocError>
+    ensures { OnOk result (into.new ≡ into.old ++ where_shown plan.now.options.show_turns (turns_text journal.now)) }
+{
+    if plan.options().show_turns {
+        push_turns(into, journal)
+    } else {
+        Ok(())
+    }
+}
+
+/// The report of a run of the plan with this journal and verdict, which left these tables. Each line ends in a line feed.
+#[tactic(auto, unfolding(crate::specs::Reports::report))]
+pub fn report(
+    alloc: Global,
+    plan: &Plan,
+    journal: &Journal,
+    verdict: &Verdict,
+    tables: &Tables,
+) -> Result<Text, AllocError>
+    ensures { IfOk result (λ text. text ≡ report plan.now journal.now verdict.now (database tables.now)) }
+{
+    let mut text = Text::new(alloc);
+    push_verdict(&mut text, verdict)?;
+    push_shown_replies(&mut text, plan, journal.as_slice())?;
+    push_tables_left(&mut text, plan, tables)?;
+    push_names_line(alloc, &mut text, tables)?;
+    push_shown_history(alloc, &mut text, plan, journal.as_slice())?;
+    push_shown_turns(&mut text, plan, journal.as_slice())?;
+    Ok(text)
+}

@@ -1,0 +1,8 @@
+//! What reports print of tables: their lines, and the names of those that stand.
+#![tactic(auto)]
+
+mod names;
+mod tables;
+
+pub use names::push_names_line;
+pub use tables::{push_row_lines, push_table_line};

@@ -1,0 +1,68 @@
+-- The reports of worked plans, byte for byte.
+use Rattle.std.proofs.Common.{◌≡◌, ℕ, pos, Bool, true, List, [], ◌∷◌, refl, codes}
+use Rattle.gho_values.specs.declared.value.Value.TheVariants.{Num}
+use Rattle.gho_values.specs.Printing as y0
+use Rattle.table_lines.specs.Names as y1
+use Rattle.table_lines.specs.Tables as y2
+use Rattle.plain_server.specs.declared.entry.Entry.{Entry}
+use Rattle.plain_server.specs.declared.outcome.Task.TheVariants as tasks
+use Rattle.plain_server.specs.declared.outcome.Cause.TheVariants as causes
+use Rattle.plain_server.specs.declared.outcome.Verdict.TheVariants as verdicts
+use Rattle.plan_words.specs.PlanData.{PlanData}
+use Rattle.journal_words.specs.Journals.{state_at}
+use Rattle.migration_program.specs.Verdicts.{verdict_of}
+use Rattle.client_lines.specs.Pasts as y3
+use Rattle.client_lines.specs.Replies as y4
+use Rattle.report_print.specs.Reports as y5
+use Rattle.report_print.specs.Tables as y6
+use Rattle.report_print.specs.Turns as y7
+use Rattle.report_print.specs.Verdicts as y8
+use Rattle.worked_runs.proofs.Computing.{computing}
+use Rattle.worked_runs.proofs.Rows.{plan_8, journal_8, plan_12, journal_12, plan_13, journal_13, plan_15, journal_15, plan_16, journal_16}
+
+-- what a proof by computing opens of a report
+unfoldable printing : Bool
+unfolding y0.printed y0.listed y0.printed_row y1.in_byte_order y1.spaced y1.names_line y2.more_names y2.column_names y2.table_line y2.row_lines y3.past_text y3.history_line y4.reply_text y4.numbered_text y4.client_text y4.clients_from y5.report y6.rows_text y6.tables_text y7.actor_word y7.turns_taken y7.joined y7.runs_of y7.run_text y7.order_text y7.turns_text y8.task_text y8.spaced_turns y8.cause_text y8.verdict_line
+printing = true
+
+-- the report of a run
+abbrev reported : PlanData → List Entry → List ℕ
+reported plan journal = y5.report plan journal (verdict_of plan journal) (state_at plan journal).tables
+
+reported_8 : reported plan_8 journal_8 ≡ codes "done\nclient c1\n1.1 ok 1\ntable t (id, b)\n(2, NULL)\ntables _t_del t\nhistory c1.1 ALTER\nturns 28\norder insp*5 copy*3 c1 copy*2 c1 apply*4 lock*2 insp apply ren insp lock ren lock ren insp*2\n"
+unfolding computing printing
+reported_8 = refl
+
+reported_12 : reported plan_12 journal_12 ≡ codes "done\nclient c1\n1.1 ok 0\n1.2 ok 1\n1.3 ok 0\nclient c2\n1.1 error 1136\ntable t (id, b)\n(1, 7)\n(2, 7)\ntables _t_del t\nhistory c1.1 ALTER c2.1\nturns 35\norder insp*5 copy*4 c1*2 lock*2 c2 c1 lock insp apply c2 apply c2 apply c2 apply ren c2 insp lock ren c2 lock ren c2 insp*2\n"
+unfolding computing printing
+reported_12 = refl
+
+reported_13 : reported plan_13 journal_13 ≡ codes "done\ntable t (id, b)\ntables _t_del t\nhistory ALTER\nturns 27\norder insp*5 lock*2 insp apply ren insp lock ren insp*2 lock*2 insp apply ren insp lock ren lock ren insp*2\n"
+unfolding computing printing
+reported_13 = refl
+
+reported_15 : reported plan_15 journal_15 ≡ codes "done\nclient c1\n1.1 ok 1\ntable t (id, b)\n(4, 7)\ntables _t_del t\nhistory ALTER c1.1\nturns 18\norder insp*5 lock*2 c1 insp apply ren insp lock c1 ren insp c1 insp\n"
+unfolding computing printing
+reported_15 = refl
+
+reported_16 : reported plan_16 journal_16 ≡ codes "reverted spent cutover turns 11\nclient c1\n1.1 ok 0\n1.2 rows 0\n1.3 ok 0\ntable t (id)\ntables _t_ghc _t_gho t\nhistory c1.1\nturns 14\norder insp*5 c1*2 lock*4 insp c1 insp\n"
+unfolding computing printing
+reported_16 = refl
+
+-- verdicts of which these plans have none
+
+unfit_line : y8.verdict_line (verdicts.Reverted (causes.Unfit 8 ((Num (pos 1)) ∷ []) (codes "c") 1406)) ≡ codes "reverted unfit turn 8 key (1) column 'c' 1406\n"
+unfolding computing printing
+unfit_line = refl
+
+spent_line : y8.verdict_line (verdicts.Reverted (causes.Spent (tasks.Chunk 3) (11 ∷ 40 ∷ []))) ≡ codes "reverted spent chunk 3 turns 11 40\n"
+unfolding computing printing
+spent_line = refl
+
+panic_line : y8.verdict_line (verdicts.Reverted (causes.Panic 5)) ≡ codes "reverted panic turn 5\n"
+unfolding computing printing
+panic_line = refl
+
+unfinished_line : y8.verdict_line verdicts.Unfinished ≡ codes "unfinished\n"
+unfolding computing printing
+unfinished_line = refl
