@@ -191,7 +191,7 @@ module _ (m : Migration) (at : Clustered m.schema) (rows : List Row) (place : �
       left = undone_is_left limits scene journal entry request turn.run turn.told turn.uncut turn.asked none
 
       by : Undone entry.side entry.answer → Goal behind
-      by (waits_so keeps quiet) = stays (undone_hold entry.side entry.answer own) left.0 left.1 (keeps own) (quiet_took (length journal + 1) copier entry.answer quiet)
+      by (waits_so keeps quiet heard waits) = stays (undone_hold entry.side entry.answer own) left.0 left.1 (keeps own) (quiet_took (length journal + 1) copier entry.answer quiet)
       by (ends_so nothing bad) = ends copier.step refl left.0 (subst (Besides number (holds_of before) (holds_of after)) (nothing own) left.1) bad
 
   -- WHAT WAS DONE
@@ -258,7 +258,7 @@ module _ (m : Migration) (at : Clustered m.schema) (rows : List Row) (place : �
 
         by : Deeded before number request deed_now → Goal behind
         by (outside_so is) = outside_goal is
-        by (within_so there tables is) =
+        by (within_so there tables log is) =
             at_rest (of_table (find_table copier.table there.tables) (λ t. answers.End (chunk_end (low_end journal asks.range copier.behind) (asks.range).top copier.size t)))
             (is ∙ ap (deed_within (face_of before.sessions number).busy (seen_of before number) there) asked)
             (no_keys (find_table copier.table there.tables) (low_end journal asks.range copier.behind) (asks.range).top copier.size) heard
@@ -353,7 +353,7 @@ module _ (m : Migration) (at : Clustered m.schema) (rows : List Row) (place : �
         where
           by : Deeded before number request deed_now → Goal behind
           by (outside_so is) = outside_goal is
-          by (within_so there same is) = writes_goal (is ∙ ap (deed_within (face_of before.sessions number).busy (seen_of before number) there) commit_asked)
+          by (within_so there same log is) = writes_goal (is ∙ ap (deed_within (face_of before.sessions number).busy (seen_of before number) there) commit_asked)
 
     -- BeginSpan
     abbrev rows_now : List Row
@@ -497,7 +497,7 @@ module _ (m : Migration) (at : Clustered m.schema) (rows : List Row) (place : �
         where
           by : Deeded before number request deed_now → Goal behind
           by (outside_so is) = outside_goal is
-          by (within_so there same is) =
+          by (within_so there same log is) =
               grows_goal
               (is ∙ ap (deed_within (face_of before.sessions number).busy (seen_of before number) there) span_asked ∙ ap (λ (f : Option TableRows). begins f span_now size span_need) (ap (find_table m.name) same ∙ old_found))
 
@@ -648,7 +648,7 @@ module _ (m : Migration) (at : Clustered m.schema) (rows : List Row) (place : �
 
         row_deeded : Deeded before number request deed_now → Goal behind
         row_deeded (outside_so is) = outside_goal is
-        row_deeded (within_so there same is) =
+        row_deeded (within_so there same log is) =
             row_grows (is ∙ ap (deed_within (face_of before.sessions number).busy seen there) row_asked ∙ ap (λ (b : Bool). result_deed b row_need (job_says seen job)) is_busy) heard
 
       by_key : (found : Option Row) → slice_get chunk_keys copied ≡ found → Goal behind

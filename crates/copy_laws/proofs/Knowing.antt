@@ -163,13 +163,18 @@ quiet_took turn copier answer quiet = absurd quiet
 
 -- WHAT IS HEARD
 
+-- it waits
+abbrev pub IsWait : Answer → Type 0
+IsWait (answers.Waits by) = Unit {0}
+IsWait answer = ⊥
+
 -- an entry whose request was not done: its session waits, or holds nothing more
 pub data Undone (side : Option Side) (answer : Answer) : Type 0 where
-  waits_so : ((own : SessionHold) → undone_hold side answer own ≡ own) → IsQuiet answer → Undone side answer
+  waits_so : ((own : SessionHold) → undone_hold side answer own ≡ own) → IsQuiet answer → side ≡ None → IsWait answer → Undone side answer
   ends_so : ((own : SessionHold) → undone_hold side answer own ≡ no_hold) → IsBad answer → Undone side answer
 
 pub undone_as : (side : Option Side) (answer inner : Answer) (missed : Option Answer) → answer ≡ turns.answer_at side inner → told_done (told_at side answer missed) ≡ false → Undone side answer
-undone_as None (answers.Waits by) inner missed is none = waits_so (λ own. refl) tt
+undone_as None (answers.Waits by) inner missed is none = waits_so (λ own. refl) tt refl tt
 undone_as None (answers.TimedOut waited) inner missed is none = ends_so (λ own. refl) tt
 undone_as None answers.Lost inner missed is none = ends_so (λ own. refl) tt
 undone_as None answer inner missed is none = absurd (let no : true ≡ false = none in cc)

@@ -1,6 +1,6 @@
-mod Journals
-mod Served
-mod Knowing
-mod Chunks
-mod Rows
-mod Copiers
+pub mod Journals
+pub mod Served
+pub mod Knowing
+pub mod Chunks
+pub mod Rows
+pub mod Copiers

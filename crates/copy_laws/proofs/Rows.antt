@@ -113,7 +113,7 @@ pub record Counted (seen : Database) (job : Job) : Type 0 where
   pub count : ℕ
   pub is : (job_says seen job).answer ≡ answers.Ok count
 
-job_tells : (seen : Database) (job : Job) (schema : Schema) (rows : List Row) (work : Work) → find_table job.table seen ≡ Some (record { schema = schema; rows = rows }) → job.work schema ≡ work → (job_says seen job).answer ≡ (tells schema rows work).answer
+pub job_tells : (seen : Database) (job : Job) (schema : Schema) (rows : List Row) (work : Work) → find_table job.table seen ≡ Some (record { schema = schema; rows = rows }) → job.work schema ≡ work → (job_says seen job).answer ≡ (tells schema rows work).answer
 unfolding job_says
 job_tells seen job schema rows work found does = rw (found, does) refl
 

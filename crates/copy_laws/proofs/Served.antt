@@ -33,7 +33,7 @@ use Rattle.copy_laws.specs.Copying.{moment_of}
 abbrev pub seen_of : State → ℕ → Database
 seen_of state number = after_events state.tables (holds_of state number).writes
 
-writes_face : (found : Option Session) → writes_of found ≡ (face_in found).hold.writes
+pub writes_face : (found : Option Session) → writes_of found ≡ (face_in found).hold.writes
 writes_face None = refl
 writes_face (Some session) = refl
 
@@ -47,6 +47,12 @@ tables_done Poll number state = refl
 tables_done Cut number state = refl
 tables_done (Command word) number state = refl
 
+log_done : (asked : Asked) (number : ℕ) (state : State) → (where_done asked number state).log ≡ state.log
+log_done (Call request) number state = refl
+log_done Poll number state = refl
+log_done Cut number state = refl
+log_done (Command word) number state = refl
+
 sessions_done : (asked : Asked) (number : ℕ) (state : State) → (where_done asked number state).sessions ≡ state.sessions
 sessions_done (Call request) number state = refl
 sessions_done Poll number state = refl
@@ -56,7 +62,7 @@ sessions_done (Command word) number state = refl
 -- *The deed of a request*, by what its session holds before the turn: it is refused outside the locked tables, or is this
 pub data Deeded (state : State) (number : ℕ) (request : Request) (one : Deed) : Type 0 where
   outside_so : one ≡ Rests (refuses 1100) → Deeded state number request one
-  within_so : (there : State) → there.tables ≡ state.tables → one ≡ deed_within (face_of state.sessions number).busy (seen_of state number) there request → Deeded state number request one
+  within_so : (there : State) → there.tables ≡ state.tables → there.log ≡ state.log → one ≡ deed_within (face_of state.sessions number).busy (seen_of state number) there request → Deeded state number request one
 
 pub deeded : (entry : Entry) (state : State) (request : Request) → Deeded state entry.session request (deed (where_done entry.asked entry.session (opens entry state)) entry.session request)
 deeded entry state request = by (is_outside (session_of entry.session there.sessions) request) refl
@@ -73,6 +79,9 @@ deeded entry state request = by (is_outside (session_of entry.session there.sess
     tables : there.tables ≡ state.tables
     tables = tables_done entry.asked entry.session now ∙ ap (λ (s : Stored). s.tables) (stored_opened (is_command entry.asked) (not (is_client entry.actor)) entry.session state)
 
+    log : there.log ≡ state.log
+    log = log_done entry.asked entry.session now ∙ ap (λ (s : Stored). s.log) (stored_opened (is_command entry.asked) (not (is_client entry.actor)) entry.session state)
+
     busy : is_in_transaction (session_of entry.session there.sessions) ≡ (face_of state.sessions entry.session).busy
     busy = busy_face (session_of entry.session there.sessions) ∙ ap (λ (f : Face). f.busy) faces
 
@@ -85,7 +94,7 @@ deeded entry state request = by (is_outside (session_of entry.session there.sess
     by : (outside : Bool) → is_outside (session_of entry.session there.sessions) request ≡ outside → Deeded state entry.session request (deed there entry.session request)
     by true is = outside_so (ap (λ (b : Bool). deed_unless b (is_in_transaction (session_of entry.session there.sessions)) (view entry.session there) there request) is)
     by false is =
-        within_so there tables
+        within_so there tables log
         (ap (λ (b : Bool). deed_unless b (is_in_transaction (session_of entry.session there.sessions)) (view entry.session there) there request) is
         ∙ ap (λ (b : Bool). deed_within b (view entry.session there) there request) busy ∙ ap (λ (d : Database). deed_within (face_of state.sessions entry.session).busy d there request) seen)
 

@@ -43,12 +43,12 @@ start_kept m at rows copier applier now plan start (first ∷ others) are =
           (subst (Ascends (key_places m.schema)) are (each_table m.name m.schema plan.old_key now.stored.log rows _ plan.table start.fits).ascends) start.old start.empty start.copier_rests start.applier_rests start.differ start.two (turned copier applier start.two);
     }
 
-start_stands : (m : Migration) (at : Clustered m.schema) (rows : List Row) (copier applier : ℕ) (now : ToolMoment) → IsPlanned m rows → IsCopyStart m rows copier applier now → ToolStands m at rows copier applier now
+pub start_stands : (m : Migration) (at : Clustered m.schema) (rows : List Row) (copier applier : ℕ) (now : ToolMoment) → IsPlanned m rows → IsCopyStart m rows copier applier now → ToolStands m at rows copier applier now
 start_stands m at rows copier applier now plan start =
     at_rest start.resting (subst (λ (copy : CopyState). KeptTool m at rows copy Idle now.position copier applier now.stored now.hold) (sym start.range) (start_kept m at rows copier applier now plan start (rows_now m rows now) refl))
 
 -- *The end*: whatever the applier had to do
-end_altered : (m : Migration) (at : Clustered m.schema) (rows : List Row) (copier applier : ℕ) (now : ToolMoment) → IsPlanned m rows → IsCopyEnd now → ToolStands m at rows copier applier now → IsAltered m now.stored.tables
+pub end_altered : (m : Migration) (at : Clustered m.schema) (rows : List Row) (copier applier : ℕ) (now : ToolMoment) → IsPlanned m rows → IsCopyEnd now → ToolStands m at rows copier applier now → IsAltered m now.stored.tables
 end_altered m at rows copier applier now plan end stands =
     any_kept (IsAltered m now.stored.tables) m at rows copier applier now
     (λ apply kept.

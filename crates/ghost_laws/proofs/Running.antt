@@ -41,12 +41,12 @@ use Rattle.ghost_laws.specs.Fitting.{EventsFit}
 use Rattle.event_codec.specs.declared.event.RowEvent.{RowEvent}
 
 -- the invariant at another copy state and moment, which are those of a moment
-kept_at : (m : Migration) (at : Clustered m.schema) (rows : List Row) (copier applier : ℕ) (after : ToolMoment) (copy : CopyState) (apply : ApplyState) (position : ℕ) → after.copy ≡ copy → after.position ≡ position → KeptTool m at rows copy apply position copier applier after.stored after.hold → KeptAt m at rows copier applier after apply
+pub kept_at : (m : Migration) (at : Clustered m.schema) (rows : List Row) (copier applier : ℕ) (after : ToolMoment) (copy : CopyState) (apply : ApplyState) (position : ℕ) → after.copy ≡ copy → after.position ≡ position → KeptTool m at rows copy apply position copier applier after.stored after.hold → KeptAt m at rows copier applier after apply
 kept_at m at rows copier applier after copy apply position same place kept = rw (same, place) kept
 
 -- ---- turns of the copier and of others: the applier stays where it is
 
-stands_over : (m : Migration) (at : Clustered m.schema) (rows : List Row) (copier applier : ℕ) (before after : ToolMoment) → ApplierStays before after → ((apply : ApplyState) → KeptAt m at rows copier applier before apply → KeptAt m at rows copier applier after apply) → ToolStands m at rows copier applier before
+pub stands_over : (m : Migration) (at : Clustered m.schema) (rows : List Row) (copier applier : ℕ) (before after : ToolMoment) → ApplierStays before after → ((apply : ApplyState) → KeptAt m at rows copier applier before apply → KeptAt m at rows copier applier after apply) → ToolStands m at rows copier applier before
     → ToolStands m at rows copier applier after
 stands_over m at rows copier applier before after stays keeps (at_rest is kept) = at_rest (stays.0 ∙ is) (keeps Idle kept)
 stands_over m at rows copier applier before after stays keeps (at_work next todo is kept) = at_work next todo (stays.0 ∙ is) (keeps (Whole next todo) kept)
@@ -62,13 +62,13 @@ rests_at m at rows copier applier now resting (halfway next old row rest is kept
 rests_at m at rows copier applier now resting (returns next old row rest is kept) = absurd (let no : Resting ≡ Returning next old row rest = sym resting ∙ is in cc)
 
 -- no REPLACE comes first: no event is half applied
-abbrev NoPutFirst : List Doing → Type 0
+abbrev pub NoPutFirst : List Doing → Type 0
 NoPutFirst [] = Unit {0}
 NoPutFirst (Putting row ∷ rest) = ⊥
 NoPutFirst (Removing row ∷ rest) = Unit {0}
 NoPutFirst (Changing old row ∷ rest) = Unit {0}
 
-works_at : (m : Migration) (at : Clustered m.schema) (rows : List Row) (copier applier : ℕ) (now : ToolMoment) (next : ℕ) (todo : List Doing) → now.plan ≡ Planned next todo → NoPutFirst todo → ToolStands m at rows copier applier now → KeptAt m at rows copier applier now (Whole next todo)
+pub works_at : (m : Migration) (at : Clustered m.schema) (rows : List Row) (copier applier : ℕ) (now : ToolMoment) (next : ℕ) (todo : List Doing) → now.plan ≡ Planned next todo → NoPutFirst todo → ToolStands m at rows copier applier now → KeptAt m at rows copier applier now (Whole next todo)
 works_at m at rows copier applier now next todo planned first (at_rest is kept) = absurd (let no : Resting ≡ Planned next todo = sym is ∙ planned in cc)
 works_at m at rows copier applier now next todo planned first (at_work next' todo' is kept) =
     let both : Planned next' todo' ≡ Planned next todo = sym is ∙ planned in

@@ -21,18 +21,13 @@ use Rattle.row_store.proofs.Orders.{Row}
 use Rattle.plain_server.specs.declared.work.Work.TheVariants.{Refuse, Replace, Delete, Update}
 use Rattle.ghost_laws.proofs.Applying.{all_set, at_key}
 use Rattle.ghost_laws.specs.Holding.{Clustered}
+use Rattle.ghost_laws.specs.Statements.{SameColumns}
 use Rattle.plain_server.specs.Answers.{refuses_value}
 use Rattle.plain_server.specs.Checking.{◌>>=◌, are_distinct, beside, has_columns, key_from, new_row, places_from, places_named, reach_equal, reach_of, row_from, set_first, sets_from, sought_each, value_at, with_value, work_of}
 
 -- the values that a row gives the new columns, before they are stored
 abbrev pub given : List MapColumn → Row → List Value
 given map' row = map (λ (c : MapColumn). source c.origin row) map'
-
--- the map's columns are the schema's
-abbrev pub SameColumns : List Column → List MapColumn → Type 0
-SameColumns [] [] = Unit {0}
-SameColumns (column ∷ columns) (c ∷ cs) = (column.kind ≡ c.kind) × (column.nullable ≡ c.nullable) × SameColumns columns cs
-SameColumns columns cs = ⊥
 
 -- the row, or the refusal with the column's place
 abbrev pub row_or : Result Row UnfitAt → Result Row Answer

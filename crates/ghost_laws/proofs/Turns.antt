@@ -241,7 +241,7 @@ own_entry limits scene journal entry run allowed fits = at (is_command entry.ask
 -- EACH JOURNAL
 
 -- the next entry of a run is allowed, and its front is a run
-along_next : {E : Type 0} (keeps : List E → E → Type 0) (before front : List E) (entry : E) (behind : List E) → Along keeps before (front ++ entry ∷ behind) → keeps (before ++ front) entry
+pub along_next : {E : Type 0} (keeps : List E → E → Type 0) (before front : List E) (entry : E) (behind : List E) → Along keeps before (front ++ entry ∷ behind) → keeps (before ++ front) entry
 along_next keeps before [] entry behind all = subst (λ (b : List _). keeps b entry) (sym (append-nil before)) all.0
 along_next keeps before (first ∷ front) entry behind all = subst (λ (b : List _). keeps b entry) (append_assoc before (first ∷ []) front) (along_next keeps (before ++ first ∷ []) front entry behind all.1)
 

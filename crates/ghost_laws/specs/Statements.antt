@@ -1,7 +1,9 @@
 -- The applier's statements, as work on the new table.
-use Rattle.std.specs.Prelude.{◌≡◌, ℕ, map, Some, Ok, Err}
+use Rattle.std.specs.Prelude.{◌≡◌, ℕ, List, [], ◌∷◌, map, Some, Ok, Err}
 use Rattle.gho_values.specs.Spans.{point}
+use Rattle.gho_schema.specs.declared.schema.Column.{Column}
 use Rattle.alter_image.specs.declared.image_fault.UnfitAt.{UnfitAt}
+use Rattle.alter_image.specs.declared.map.MapColumn.{MapColumn}
 use Rattle.plain_server.specs.declared.work.Reach.{Reach}
 use Rattle.plain_server.specs.declared.work.Work.{Work}
 use Rattle.plain_server.specs.declared.work.Work.TheVariants as works
@@ -27,3 +29,9 @@ unfit_at place key fault = works.Update (by_key place key) (Err fault)
 pub record DoesWork (m : Migration) (job : Job) (work : Work) : Type 0 where
   pub table : job.table ≡ m.new.name
   pub does : job.work m.new ≡ work
+
+-- the map's columns are these, one by one
+abbrev pub SameColumns : List Column → List MapColumn → Type 0
+SameColumns [] [] = Unit {0}
+SameColumns (column ∷ columns) (c ∷ cs) = (column.kind ≡ c.kind) × (column.nullable ≡ c.nullable) × SameColumns columns cs
+SameColumns columns cs = ⊥

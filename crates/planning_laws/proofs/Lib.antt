@@ -1,2 +1,2 @@
-mod OldPlaces
-mod Planned
+pub mod OldPlaces
+pub mod Planned

@@ -97,7 +97,7 @@ alters_planned again approve schema clauses new rows lawful e table =
     }
 
 -- an ALTER that gives a table is taken
-was_ok : (read : Result Altered AlterCode) (new : Altered) → result_ok read ≡ Some new → read ≡ Ok new
+pub was_ok : (read : Result Altered AlterCode) (new : Altered) → result_ok read ≡ Some new → read ≡ Ok new
 was_ok (Ok made) new is = cc
 was_ok (Err code) new is = absurd cc
 
