@@ -1,0 +1,5 @@
+pub mod Granted
+pub mod Others
+pub mod Moving
+pub mod Migrating
+pub mod Plans

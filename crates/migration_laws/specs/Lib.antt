@@ -1,0 +1,3 @@
+pub mod Away
+pub mod Machines
+pub mod Laws

@@ -1,0 +1,28 @@
+//! The laws: each function's contract is one.
+
+ghost use Rattle.migration_laws.specs.Laws.{JournalsAlter, MovesKeep, OthersKeep, PlansAlter, TurnsKeep};
+
+use gho_values::laws::stored_values_store_again;
+
+/// Another session's turn keeps the tool standing.
+pub fn others_keep()
+    ensures { OthersKeep }
+{}
+
+/// So does every turn of the migration, and every move between turns.
+pub fn migrations_go_on()
+    ensures turns { TurnsKeep }
+    ensures moves { MovesKeep }
+{}
+
+/// From the range read to the mark, journals that follow the program make the new table the altered one.
+pub fn journals_alter()
+    ensures { JournalsAlter }
+{}
+
+/// So do the journals of every migratable plan.
+pub fn plans_alter()
+    ensures { PlansAlter }
+{
+    stored_values_store_again();
+}

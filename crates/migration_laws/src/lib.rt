@@ -1,0 +1,5 @@
+//! The copier, the applier and all other sessions together: over journals that follow the program the ghost relation is kept, and at the
+//! end the new table is the altered one.
+#![tactic(auto)]
+
+pub mod laws;
