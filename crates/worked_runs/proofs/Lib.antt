@@ -1,6 +1,6 @@
-mod Computing
+pub mod Computing
 mod Rows
-mod Plans1
+pub mod Plans1
 mod Plans2
 mod Plans3
 mod Plans4
@@ -10,5 +10,5 @@ mod Sequences1
 mod Sequences2
 mod Sequences3
 mod Sequences4
-mod SerialRun
+pub mod SerialRun
 mod Scenes
