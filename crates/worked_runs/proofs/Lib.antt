@@ -1,7 +1,7 @@
-mod Computing
+pub mod Computing
 mod Rows
+pub mod Plans1
 mod Reports
-mod Plans1
 mod Plans2
 mod Plans3
 mod Plans4
@@ -11,5 +11,5 @@ mod Sequences1
 mod Sequences2
 mod Sequences3
 mod Sequences4
-mod SerialRun
+pub mod SerialRun
 mod Scenes

@@ -292,7 +292,7 @@ away =
     ▸ tt
 
 -- *The run is one of its plan*, and so its history is serial
-run_101 : IsPlanRun plan_101 journal_101
+pub run_101 : IsPlanRun plan_101 journal_101
 run_101 = record { serial = opening; faithful = faithful; planned = planned; seated = seated; away = away }
 
 follows : Follows plan_101 journal_101
