@@ -1,0 +1,10 @@
+//! A run of a plan on a server, turn by turn.
+#![tactic(auto)]
+
+mod asking;
+mod counting;
+mod opening;
+
+pub use asking::{Heard, ask};
+pub use counting::{has_work, is_busy, is_open, recount};
+pub use opening::{close_session, open_session};
