@@ -1,0 +1,6 @@
+pub mod Clients
+pub mod Givens
+pub mod Keeping
+pub mod Results
+pub mod Seats
+pub mod Seen

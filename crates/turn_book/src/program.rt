@@ -1,0 +1,133 @@
+//! What the actors ask next, and when the run is over.
+
+ghost use Rattle.std.specs.Prelude.{◌≡◌, is_some, IfOk};
+ghost use Rattle.plan_words.specs.PlanData.{PlanData};
+ghost use Rattle.journal_words.specs.Clients.{clients_over};
+ghost use Rattle.migration_program.specs.Tools.{moment};
+ghost use Rattle.migration_program.specs.Programs.{tool_asks, given};
+ghost use Rattle.migration_program.specs.Orders.{is_ready};
+ghost use Rattle.migration_program.specs.Verdicts.{is_over, has_ended, verdict_of};
+ghost use Rattle.run_laws.specs.Counting.{IsBehind};
+ghost use Rattle.turn_book.specs.Books.{IsBook};
+
+use crate::book::Book;
+use plain_server::{Asked, Serve, Verdict};
+use script_text::Actor;
+use std::alloc::{AllocError, Global};
+use tool_calls::{Sight, commands, is_over, verdict};
+
+impl Book<'_> {
+    /// What an actor of the tool but the operator asks next.
+    #[tactic(auto, using(crate::proofs::Givens::asks_is, crate::proofs::Seen::seen))]
+    fn tool_asks<V: Serve>(
+        &self,
+        alloc: Global,
+        server: &V,
+        actor: Actor,
+    ) -> Result<Option<Asked>, AllocError>
+        requires book { IsBook self.now.plan.now self.now.journal self.now }
+        requires state { IsBehind (moment self.now.plan.now self.now.journal).server (V.state server.now) }
+        ensures { IfOk result (λ asked. asked ≡ tool_asks self.now.plan.now self.now.journal (moment self.now.plan.now self.now.journal) actor) }
+    {
+        let sight = Sight {
+            plan: self.plan,
+            journal: &self.journal,
+            tool: &self.tool,
+            server,
+            names: &self.names,
+            load: self.load,
+        };
+        sight.asks(alloc, actor, self.session(actor))
+    }
+
+    /// Whether an actor of the tool but the operator asks something next.
+    #[tactic(auto, using(crate::proofs::Givens::asks_is, crate::proofs::Seen::seen))]
+    fn is_tool_ready<V: Serve>(&self, server: &V, actor: Actor) -> bool
+        requires book { IsBook self.now.plan.now self.now.journal self.now }
+        requires state { IsBehind (moment self.now.plan.now self.now.journal).server (V.state server.now) }
+        ensures { result ≡ is_some (tool_asks self.now.plan.now self.now.journal (moment self.now.plan.now self.now.journal) actor) }
+    {
+        let sight = Sight {
+            plan: self.plan,
+            journal: &self.journal,
+            tool: &self.tool,
+            server,
+            names: &self.names,
+            load: self.load,
+        };
+        sight.is_ready(actor, self.session(actor))
+    }
+
+    /// What the actor asks next; none where it isn't ready.
+    #[tactic(auto, unfolding(migration_program::specs::Programs::given))]
+    pub fn given<V: Serve>(
+        &self,
+        alloc: Global,
+        server: &V,
+        actor: Actor,
+    ) -> Result<Option<Asked>, AllocError>
+        requires book { IsBook self.now.plan.now self.now.journal self.now }
+        requires state { IsBehind (moment self.now.plan.now self.now.journal).server (V.state server.now) }
+        ensures { IfOk result (λ asked. asked ≡ given self.now.plan.now self.now.journal actor) }
+    {
+        match actor {
+            Actor::Client(client) => self.client_asks(client),
+            Actor::Op => Ok(commands(self.plan, &self.tool)),
+            Actor::Insp | Actor::Copy | Actor::Apply | Actor::Lock | Actor::Ren => {
+                self.tool_asks(alloc, server, actor)
+            }
+        }
+    }
+
+    /// Whether the actor is ready: something is given to it. It takes no memory.
+    #[tactic(auto, unfolding(migration_program::specs::Programs::given))]
+    pub fn is_ready<V: Serve>(&self, server: &V, actor: Actor) -> bool
+        requires book { IsBook self.now.plan.now self.now.journal self.now }
+        requires state { IsBehind (moment self.now.plan.now self.now.journal).server (V.state server.now) }
+        ensures { result ≡ is_ready self.now.plan.now self.now.journal actor }
+    {
+        match actor {
+            Actor::Client(client) => self.is_client_ready(client),
+            Actor::Op => commands(self.plan, &self.tool).is_some(),
+            Actor::Insp | Actor::Copy | Actor::Apply | Actor::Lock | Actor::Ren => {
+                self.is_tool_ready(server, actor)
+            }
+        }
+    }
+
+    /// Whether every client has gone through its script or lost its session. It takes no memory.
+    #[tactic(auto, using(crate::proofs::Clients::same_count, crate::proofs::Clients::reached_here), unfolding(journal_words::specs::Clients::all_over))]
+    fn clients_over(&self) -> bool
+        requires { IsBook self.now.plan.now self.now.journal self.now }
+        ensures { result ≡ clients_over self.now.plan.now self.now.journal }
+    {
+        let scripts = self.plan.clients().as_slice();
+        for index in 0..scripts.len() {
+            if !self.clients[index].is_over(&scripts[index]) {
+                return false;
+            }
+        }
+        true
+    }
+
+    /// Whether the run has ended: the tool is over, and every client. It takes no memory.
+    #[tactic(auto, using(run_laws::proofs::Tallies::busy_counted), unfolding(migration_program::specs::Verdicts::has_ended))]
+    pub fn has_ended(&self) -> bool
+        requires { IsBook self.now.plan.now self.now.journal self.now }
+        ensures { result ≡ has_ended self.now.plan.now self.now.journal }
+    {
+        is_over(&self.tool, 0 < self.busy) && self.clients_over()
+    }
+
+    /// How the migration ended, and why; unfinished until the run has ended.
+    #[tactic(auto, unfolding(migration_program::specs::Verdicts::verdict_of))]
+    pub fn verdict(&self, alloc: Global) -> Result<Verdict, AllocError>
+        requires { IsBook self.now.plan.now self.now.journal self.now }
+        ensures { IfOk result (λ verdict. verdict ≡ verdict_of self.now.plan.now self.now.journal) }
+    {
+        if !self.has_ended() {
+            return Ok(Verdict::Unfinished);
+        }
+        verdict(alloc, self.plan, &self.journal, &self.tool, self.is_altered)
+    }
+}

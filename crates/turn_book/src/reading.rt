@@ -1,0 +1,103 @@
+//! What the book says of the actors.
+
+ghost use Rattle.std.specs.Prelude.{◌≡◌, option_map, is_some, IfOk};
+ghost use Rattle.journal_words.specs.Clients.{script_of, client_asks};
+ghost use Rattle.journal_words.specs.Sessions.{live_session};
+ghost use Rattle.turn_book.specs.Books.{place_of, seat_in, session_of, turns_in, IsBook};
+
+use crate::book::Book;
+use actor_seats::{ActorSeat, same_actor};
+use plain_server::Asked;
+use plan_words::Plan;
+use script_text::{Actor, Script};
+use std::alloc::AllocError;
+
+/// The actor's place in the fixed order: operator, inspector, copier, applier, locker, renamer, then the clients.
+fn place_of(actor: Actor) -> usize
+    ensures { result ≡ place_of actor }
+{
+    match actor {
+        Actor::Op => 0,
+        Actor::Insp => 1,
+        Actor::Copy => 2,
+        Actor::Apply => 3,
+        Actor::Lock => 4,
+        Actor::Ren => 5,
+        Actor::Client(client) => client as usize + 5,
+    }
+}
+
+/// The script of a client; clients are numbered from 1.
+pub(crate) fn script_of(plan: &Plan, client: u32) -> Option<&Script>
+    ensures { option_map (λ script. script.now) result ≡ script_of client plan.now }
+{
+    if client == 0 {
+        None
+    } else {
+        plan.clients().as_slice().get(client as usize - 1)
+    }
+}
+
+impl Book<'_> {
+    /// What is kept of an actor; none where the plan has no such client.
+    pub(crate) fn seat(&self, actor: Actor) -> Option<&ActorSeat>
+        ensures { option_map (λ seat. seat.now) result ≡ seat_in self.now.seats.items actor }
+    {
+        match self.seats.as_slice().get(place_of(actor)) {
+            Some(seat) if same_actor(seat.actor, actor) => Some(seat),
+            _ => None,
+        }
+    }
+
+    /// The session that is kept of an actor.
+    fn session_kept(&self, actor: Actor) -> Option<u32>
+        ensures { result ≡ session_of (seat_in self.now.seats.items actor) }
+    {
+        match self.seat(actor) {
+            Some(seat) => seat.session,
+            None => None,
+        }
+    }
+
+    /// How many turns are kept of an actor.
+    pub(crate) fn turns_kept(&self, actor: Actor) -> u64
+        ensures { result ≡ turns_in (seat_in self.now.seats.items actor) }
+    {
+        match self.seat(actor) {
+            Some(seat) => seat.turns,
+            None => 0,
+        }
+    }
+
+    /// The actor's live session.
+    pub fn session(&self, actor: Actor) -> Option<u32>
+        requires { IsBook self.now.plan.now self.now.journal self.now }
+        ensures { result ≡ live_session self.now.journal actor }
+    {
+        self.session_kept(actor)
+    }
+
+    /// What a client asks next; none where it is over.
+    #[tactic(auto, using(crate::proofs::Clients::scripted, crate::proofs::Clients::seat_within, crate::proofs::Clients::client_reached, crate::proofs::Clients::stranger_silent, crate::proofs::Clients::asks_is))]
+    pub fn client_asks(&self, client: u32) -> Result<Option<Asked>, AllocError>
+        requires { IsBook self.now.plan.now self.now.journal self.now }
+        ensures { IfOk result (λ asked. asked ≡ client_asks self.now.plan.now self.now.journal client) }
+    {
+        match script_of(self.plan, client) {
+            Some(script) => self.clients[client as usize - 1].asks(script),
+            None => Ok(None),
+        }
+    }
+
+    /// Whether a client asks something next. It takes no memory.
+    #[tactic(auto, using(crate::proofs::Clients::scripted, crate::proofs::Clients::seat_within, crate::proofs::Clients::client_reached, crate::proofs::Clients::stranger_silent, crate::proofs::Clients::asks_is))]
+    pub fn is_client_ready(&self, client: u32) -> bool
+        requires { IsBook self.now.plan.now self.now.journal self.now }
+        ensures { result ≡ is_some (client_asks self.now.plan.now self.now.journal client) }
+    {
+        match script_of(self.plan, client) {
+            Some(script) => self.clients[client as usize - 1].is_ready(script),
+            None => false,
+        }
+    }
+}
