@@ -26,7 +26,7 @@ pub record TablesStand (plan : PlanData) (tables : Database) : Type 0 where
   pub old : schema_of plan.table tables ≡ Some (old_schema plan)
   pub ghost : schema_of (ghost_name plan.table) tables ≡ Some (ghost_schema plan)
 
--- S4 is behind
+-- the new table was made
 abbrev pub past_ghost : Setup → Bool
 past_ghost Listing = false
 past_ghost (Clearing left) = false
