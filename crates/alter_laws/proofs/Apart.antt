@@ -8,6 +8,7 @@ use Rattle.schema_rules.specs.Names.{is_among, differ_from, names_differ}
 use Rattle.schema_rules.proofs.Lists.{position-some}
 use Rattle.alter_schema.specs.Columns.{column_place, has_column}
 use Rattle.std.proofs.lemmas.Bool.{or_parts, and_parts}
+use Rattle.std.proofs.Math.Bool.{or_assoc}
 use Rattle.schema_rules.proofs.SameNames.{other_name-turned}
 
 -- ---- names
@@ -92,14 +93,10 @@ or_none : (b : Bool) → (b || false) ≡ b
 or_none true = refl
 or_none false = refl
 
-or_first : (a b c : Bool) → (a || (b || c)) ≡ ((a || b) || c)
-or_first true b c = refl
-or_first false b c = refl
-
 among-end : (before : List (List ℕ)) (own name : List ℕ) → is_among (before ++ own ∷ []) name ≡ (is_among before name || same_name own name)
 unfolding is_among
 among-end [] own name = or_none (same_name own name)
-among-end (b ∷ before) own name = ap (λ (t : Bool). same_name b name || t) (among-end before own name) ∙ or_first (same_name b name) (list_any (λ known. same_name known name) before) (same_name own name)
+among-end (b ∷ before) own name = ap (λ (t : Bool). same_name b name || t) (among-end before own name) ∙ sym (or_assoc (same_name b name) (list_any (λ known. same_name known name) before) (same_name own name))
 
 both_not : (a b : Bool) → a ≡ false → b ≡ false → (a || b) ≡ false
 both_not true b e f = absurd cc

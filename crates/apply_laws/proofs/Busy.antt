@@ -137,7 +137,7 @@ module _ (limits : Limits) (scene : Scene) (journal : List Entry) (entry : Entry
   answered = told.answer ∙ ap (λ (s : Option Side). answer_at s (inner before entry)) heard
 
   left : scene_state limits scene (journal ++ entry ∷ []) ≡ (serves now entry.session entry.asked).after
-  left = state_more scene (opened limits scene.opening) journal entry ∙ ap (λ (s : Option Side). leaves s now entry.session entry.asked) heard
+  left = state_more (opened limits scene.opening) journal entry ∙ ap (λ (s : Option Side). leaves s now entry.session entry.asked) heard
 
   -- *Behind a deed that was done and heard*
   pub busy_done : was_done entry.answer ≡ true → busy_of (scene_state limits scene (journal ++ entry ∷ [])) entry.session ≡ busy_behind (deed (where_done entry.asked entry.session now) entry.session request) (busy_of before entry.session)

@@ -2,7 +2,7 @@
 use Rattle.std.proofs.Common.{◌≡◌, ◌≢◌, ℕ, zero, suc, ◌+◌, ◌<◌, Bool, true, false, not, ◌&&◌, ◌||◌, cond, ltb, List, [], ◌∷◌, ◌++◌, length, map, unwrap_or, Option, Some, Result, Ok, refl, sym, ap, subst, ◌∙◌, arith}
 use Rattle.std.specs.Prelude.{◌==◌, position, is_none}
 use Rattle.std.specs.List.{AllByRecursion, list_all, list_any, position_or_len, slice_get}
-use Rattle.std.proofs.lemmas.Bool.{and_parts, false≢true}
+use Rattle.std.proofs.lemmas.Bool.{and_parts, or_right, false≢true}
 use Rattle.gho_values.specs.declared.kind.Kind.{Kind}
 use Rattle.gho_values.specs.declared.kind.Kind.TheVariants.{Int, VarChar, VarBinary}
 use Rattle.gho_values.specs.declared.value.Value.{Value}
@@ -160,15 +160,11 @@ each_full : (columns : List Column) (places own : List ℕ) → AllByRecursion (
 each_full columns places [] full all = refl
 each_full columns places (place ∷ own) full all = rw (among_full columns places place full all.0, each_full columns places own full all.1) refl
 
-or_last : (a b : Bool) → b ≡ true → (a || b) ≡ true
-or_last true b is = refl
-or_last false b is = is
-
 -- a key of columns that may not be null may cluster
 clusters : (columns : List Column) (places : List ℕ) (index : Index) → AllByRecursion (λ place. is_not_null (slice_get columns place) ≡ true) places → has_columns places index ≡ true → may_cluster columns index ≡ true
 clusters columns places index full has =
     let parts = and_parts (list_all (λ place. list_any (λ other. place == other) places) index.places) (list_all (λ place. list_any (λ other. place == other) index.places) places) has in
-    or_last (is_none index.name) (list_all (λ place. is_not_null (slice_get columns place)) index.places) (each_full columns places index.places full (list_all-All (λ place. list_any (λ other. place == other) places) index.places parts.0))
+    or_right (is_none index.name) (list_all (λ place. is_not_null (slice_get columns place)) index.places) (each_full columns places index.places full (list_all-All (λ place. list_any (λ other. place == other) places) index.places parts.0))
 
 pub key_first : (schema : Schema) (at : Clustered schema) → HasClusteredKey schema → position (has_columns (key_places schema)) schema.uniques ≡ Some at.place
 unfolding clustered_among

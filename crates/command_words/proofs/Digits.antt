@@ -1,5 +1,6 @@
 -- Digits of a number.
 use Rattle.std.proofs.Common.{◌≡◌, ◌∙◌, ℕ, ◌==◌, ◌<◌, ◌^◌, Bool, true, false, ◌&&◌, cond, nat_lt, List, [], ◌∷◌, length, Option, Some, None, Result, Ok, Err, refl, sym, ap, subst, arith, rules}
+use Rattle.std.proofs.lemmas.Bool.{and_parts}
 use Rattle.std.proofs.lemmas.Bool.Decides.{nat_tests}
 use Rattle.std.proofs.lemmas.Str.Parse.{IsNumeralModel, numerals_by_value, parse_digits}
 use Rattle.std.specs.Char.{is_ascii_digit}
@@ -30,18 +31,10 @@ of_each_digit P p0 p1 p2 p3 p4 p5 p6 p7 p8 p9 d is =
 numerals : IsNumeralModel (λ ds. list_all is_ascii_digit ds ≡ true) (digits_value 10)
 numerals = numerals_by_value _ (search rules)
 
-and_second : (a b : Bool) → (a && b) ≡ true → b ≡ true
-and_second true b is = is
-and_second false b is = absurd (cc)
-
-and_first : (a b : Bool) → (a && b) ≡ true → a ≡ true
-and_first true b is = refl
-and_first false b is = absurd (cc)
-
 number_digits : (word : List ℕ) → is_number word ≡ true → list_all is_ascii_digit word ≡ true
 number_digits [] is = absurd (cc)
 number_digits (digit ∷ []) is = rw is refl
-number_digits (digit ∷ next ∷ digits) is = and_second _ _ is
+number_digits (digit ∷ next ∷ digits) is = (and_parts _ _ is).1
 
 number_long : (word : List ℕ) → is_number word ≡ true → 0 < length word
 number_long [] is = absurd (cc)
@@ -74,7 +67,7 @@ pub record Begins (word : List ℕ) : Type 0 where
 
 begins : (word : List ℕ) → list_all is_ascii_digit word ≡ true → 0 < length word → Begins word
 begins [] are long = absurd (omega arith)
-begins (digit ∷ digits) are long = record { digit = digit; digits = digits; is = refl; its = and_first _ _ are }
+begins (digit ∷ digits) are long = record { digit = digit; digits = digits; is = refl; its = (and_parts _ _ are).0 }
 
 if_some : {A : Type 0} (b : Bool) (o : Option A) (x : A) → cond b o None ≡ Some x → b ≡ true
 if_some true o x is = refl

@@ -12,10 +12,9 @@ use Rattle.row_store.proofs.Orders.{Row}
 use Rattle.row_store.proofs.RowLaws.{key_is}
 use Rattle.row_store.proofs.TableLaws.{put_keeps, remove_keeps}
 use Rattle.row_store.proofs.FoundRows.{put_new}
-use Rattle.ghost_rows.proofs.Finding.{at_itself}
 use Rattle.ghost_rows.proofs.TimelineLaws.{change_keeps, none_clashing}
 use Rattle.ghost_rows.specs.Moments.{Fits, FitsAll, rows_after, rows_after_all}
-use Rattle.history_laws.proofs.Bridges.{one_of_key, same_removal}
+use Rattle.statement_laws.proofs.OneRow.{one_of_key, own_key, same_removal}
 use Rattle.plain_server.specs.Rows.{change_all, change_rows, same_row, stands, without_row}
 use Rattle.statement_laws.proofs.Orderly.{nulls}
 use Rattle.statement_laws.proofs.Standing.{one_row, same_itself}
@@ -38,7 +37,7 @@ stands_here places row first rows s true same at ascends front stood some rest =
     let one : first ≡ row = one_of_key places first row (first ∷ rows) ascends front stood (sym (key_is places (key_of places row) first at)) in ap Some one
 stands_here places row first rows true false same at ascends front stood some rest =
     let one : row ≡ first = one_row row first same in
-    absurd (true≢false (sym (subst (λ (r : Row). is_at places (key_of places row) r ≡ true) one (at_itself places row)) ∙ at))
+    absurd (true≢false (sym (subst (λ (r : Row). is_at places (key_of places row) r ≡ true) one (own_key places row)) ∙ at))
 stands_here places row first rows false false same at ascends front stood some rest = rest some
 
 first_stands : (first : Row) (rows : List Row) → stands first (first ∷ rows) ≡ true

@@ -47,6 +47,7 @@ use Rattle.plain_server.specs.Saying.{tells}
 use Rattle.statement_laws.proofs.Stables.{others_agree}
 use Rattle.statement_laws.specs.Agreeing.{Agree, SameWhere, TablesAgree, Within, is_under}
 use Rattle.statement_laws.specs.Covering.{Apart}
+use Rattle.statement_laws.proofs.Tests.{or_swapped}
 
 -- the keys that were taken may be listed in any order
 pub retaken : (m : Migration) (rows : List Row) (done half : Row → Bool) (taken other : List Row) (progress : Progress Row) (ghost : GhostRows) (copier applier : ℕ) (now : Stored) (hold : ℕ → SessionHold) → ((key : Row) → is_among taken key ≡ is_among other key)
@@ -66,18 +67,12 @@ retaken m rows done half taken other progress ghost copier applier now hold same
     }
 
 -- one key more of those told
-or_first : (a b c : Bool) → (a || (b || c)) ≡ (b || (a || c))
-or_first true true c = refl
-or_first true false c = refl
-or_first false true c = refl
-or_first false false c = refl
-
 pub among_next : (keys : List Row) (n : ℕ) (key other : Row) → slice_get keys n ≡ Some key → is_among (key ∷ take n keys) other ≡ is_among (take (suc n) keys) other
 unfolding is_among
 among_next [] n key other at = absurd cc
 among_next (first ∷ keys) zero key other at = let one : first ≡ key = cc in ap (λ (k : Row). is_eq (compare_keys other k) || false) (sym one)
 among_next (first ∷ keys) (suc n) key other at =
-    or_first (is_eq (compare_keys other key)) (is_eq (compare_keys other first)) (list_any (λ k. is_eq (compare_keys other k)) (take n keys))
+    or_swapped (is_eq (compare_keys other key)) (is_eq (compare_keys other first)) (list_any (λ k. is_eq (compare_keys other k)) (take n keys))
     ∙ ap (λ (b : Bool). is_eq (compare_keys other first) || b) (among_next keys n key other at)
 
 -- *A row*: CopyRow of the next key told

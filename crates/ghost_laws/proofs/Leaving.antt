@@ -230,6 +230,6 @@ deeds_are_done limits scene journal entry request given run told is heard answer
     found_live (session_of number now.sessions) (DeedLeaves (deed (where_done entry.asked number now) number request) (is_lost entry.side) number (stored now) (stored (after_entry before entry)) (holds_of now) (holds_of (after_entry before entry)))
     (opened_live nothing tool number before live) (λ found there. turn_left now number entry.asked entry.side request given (record { found = found; is = there }) (opened_one nothing tool number before held.one) is was answered) in
     let holds : holds_of now ≡ holds_of before = λ i n. (faces n i).hold in
-    rw (state_more scene (opened limits scene.opening) journal entry)
+    rw (state_more (opened limits scene.opening) journal entry)
     (subst (λ (h : ℕ → SessionHold). DeedLeaves (deed (where_done entry.asked number now) number request) (is_lost entry.side) number (stored before) (stored (after_entry before entry)) h (holds_of (after_entry before entry))) holds
     (subst (λ (s : Stored). DeedLeaves (deed (where_done entry.asked number now) number request) (is_lost entry.side) number s (stored (after_entry before entry)) (holds_of now) (holds_of (after_entry before entry))) same left))

@@ -39,7 +39,7 @@ size_drop (event ∷ log) (suc place) within = let e : length log ≡ place + le
 pub part_of : (log : List RowEvent) (place : ℕ) → place ≤ length log → IsPart log place (drop place log)
 part_of log place within = record { at = get_drop log place; size = size_drop log place within }
 
-next_part : (log : List RowEvent) (place : ℕ) (event : RowEvent) (part : List RowEvent) → IsPart log place (event ∷ part) → IsPart log (place + 1) part
+pub next_part : (log : List RowEvent) (place : ℕ) (event : RowEvent) (part : List RowEvent) → IsPart log place (event ∷ part) → IsPart log (place + 1) part
 next_part log place event part is =
     let size = is.size in
     record { at = λ i. let e : (place + 1) + i ≡ place + (suc i) = omega arith in ap (slice_get log) e ∙ is.at (suc i); size = omega (arith, size) }

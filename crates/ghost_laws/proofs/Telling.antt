@@ -25,7 +25,7 @@ use Rattle.ghost_rows.proofs.Finishing.{all_found}
 use Rattle.ghost_rows.proofs.TimelineLaws.{change_keeps}
 use Rattle.ghost_rows.proofs.Writing.{fits_one, replacing_fits, taken_fit}
 use Rattle.ghost_rows.specs.Moments.{Fits, FitsAll, NoneClashes, rows_after}
-use Rattle.history_laws.proofs.Bridges.{same_removal}
+use Rattle.statement_laws.proofs.OneRow.{same_removal}
 use Rattle.plain_server.specs.Answers.{refuses}
 use Rattle.plain_server.specs.Rows.{change_rows, reaches, rows_met, same_row, stands, without_row}
 use Rattle.plain_server.specs.Saying.{change_first, clashes_besides, only, result_or_refusal, tells, updated, updates, with_sets}

@@ -156,7 +156,7 @@ opened_left nothing tool number before own after left =
 
 behind : (limits : Limits) (scene : Scene) (journal : List Entry) (entry : Entry) (own : SessionHold) → Left (scene_state limits scene journal) entry.session own (after_entry (scene_state limits scene journal) entry)
     → (stored (scene_state limits scene (journal ++ entry ∷ [])) ≡ stored (scene_state limits scene journal)) × Besides entry.session (holds_of (scene_state limits scene journal)) (holds_of (scene_state limits scene (journal ++ entry ∷ []))) own
-behind limits scene journal entry own left = rw (state_more scene (opened limits scene.opening) journal entry) (left.stays, left.besides)
+behind limits scene journal entry own left = rw (state_more (opened limits scene.opening) journal entry) (left.stays, left.besides)
 
 pub undone_is_left : UndoneIsLeft
 undone_is_left limits scene journal entry request run told cut is none =

@@ -14,7 +14,7 @@ use Rattle.row_store.specs.RowLists.{is_at}
 use Rattle.row_store.proofs.FoundRows.{others_not_at}
 use Rattle.row_store.proofs.Orders.{turned}
 use Rattle.row_store.proofs.RowLaws.{key_is}
-use Rattle.ghost_rows.proofs.Finding.{at_itself}
+use Rattle.statement_laws.proofs.OneRow.{own_key}
 use Rattle.ghost_rows.proofs.Replacing.{not_at}
 use Rattle.ghost_rows.specs.Moments.{Row}
 
@@ -31,7 +31,7 @@ ahead places row first rows less ascends =
     found_none (is_at places (key_of places row)) (first ∷ rows) (rw less refl, others_not_at places (key_of places row) first rows (rw less refl) ascends.0)
 
 pub finds_itself : (places : List ℕ) (row : Row) (rows : List Row) → find (is_at places (key_of places row)) (row ∷ rows) ≡ Some row
-finds_itself places row rows = rw (at_itself places row) refl
+finds_itself places row rows = rw (own_key places row) refl
 
 -- behind a first row with the same key, the others find the same
 rest_here : (places : List ℕ) (key row : Row) (a b : List Row) (at : Bool) → is_at places key row ≡ at → Ascends places (row ∷ a) → Ascends places (row ∷ b) → cond at (Some row) (find (is_at places key) a) ≡ cond at (Some row) (find (is_at places key) b) → find (is_at places key) a ≡ find (is_at places key) b

@@ -16,9 +16,6 @@ use Rattle.ghost_relation.proofs.Tests.{true_false}
 use Rattle.ghost_rows.specs.Moments.{Row, put_in}
 use Rattle.ghost_rows.specs.Views.{is_key}
 
-pub at_itself : (places : List ℕ) (row : Row) → is_at places (key_of places row) row ≡ true
-at_itself places row = ap is_eq (tied_itself keys_total (key_of places row))
-
 -- rows that clash do so both ways
 one_turned : (a b : Row) → (is_eq (compare_keys a b) && no_null a) ≡ true → (is_eq (compare_keys b a) && no_null b) ≡ true
 one_turned a b clashes =

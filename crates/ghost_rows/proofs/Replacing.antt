@@ -18,12 +18,13 @@ use Rattle.row_store.proofs.RowLaws.{key_is, gone}
 use Rattle.row_store.proofs.TableLaws.{put_keeps, remove_keeps}
 use Rattle.statement_laws.proofs.Orderly.{nulls}
 use Rattle.ghost_relation.specs.Applying.{Deleted, Displaced, Replaced, Updated}
-use Rattle.ghost_rows.proofs.Finding.{at_itself, clash_turned, found_at, put_elsewhere, removed_elsewhere}
+use Rattle.ghost_rows.proofs.Finding.{clash_turned, found_at, put_elsewhere, removed_elsewhere}
 use Rattle.ghost_rows.proofs.StayingKeys.{put_is_found}
 use Rattle.ghost_rows.proofs.TimelineLaws.{none_clashing}
 use Rattle.ghost_rows.specs.Changes.{deleting, replacing, updating}
 use Rattle.ghost_rows.specs.Moments.{Row, put_in, rows_after, rows_after_all}
 use Rattle.plain_server.specs.Saying.{displaced}
+use Rattle.statement_laws.proofs.OneRow.{own_key}
 
 -- ---- the rows that pass a test are taken out one by one
 
@@ -60,7 +61,7 @@ out_here : (test : Row → Bool) (places : List ℕ) (row : Row) (rows : List Ro
 unfolding rows_after_all
 out_here test places row rows true passes less others =
     let left : without_key places (key_of places row) rows ≡ rows = all_left (is_at places (key_of places row)) rows (not_at places row rows less) in
-    let first : without_key places (key_of places row) (row ∷ rows) ≡ rows = rw (at_itself places row) left in
+    let first : without_key places (key_of places row) (row ∷ rows) ≡ rows = rw (own_key places row) left in
     ap (Out places (filter test rows)) first ∙ others
 out_here test places row rows false passes less others =
     out_behind places row (filter test rows) rows (all-filter (λ other. is_at places (key_of places other) row ≡ false) test rows (behind places row rows less)) ∙ ap (λ (rs : List Row). row ∷ rs) others

@@ -14,11 +14,12 @@ use Rattle.event_codec.specs.declared.event.Change.TheVariants.{Write, Update, D
 use Rattle.row_store.specs.RowLists.{is_at, without_key}
 use Rattle.row_store.proofs.RowLaws.{key_is, put_found, gone}
 use Rattle.ghost_relation.proofs.Tests.{true_false}
-use Rattle.ghost_rows.proofs.Finding.{at_itself, put_elsewhere, removed_elsewhere}
+use Rattle.ghost_rows.proofs.Finding.{put_elsewhere, removed_elsewhere}
 use Rattle.ghost_rows.specs.Moments.{Fits, Row, put_in, rows_after}
 use Rattle.ghost_rows.specs.Timelines.{changes_key, touches_row}
 use Rattle.row_store.proofs.FoundRows.{put_new}
 use Rattle.row_store.proofs.Orders.{is_Equal}
+use Rattle.statement_laws.proofs.OneRow.{own_key}
 
 -- two rows that differ in no unique key meet the same rows
 pub or_false : (a b : Bool) → (a || b) ≡ false → (a ≡ false) × (b ≡ false)
@@ -63,7 +64,7 @@ unchanged uniques places key row rows rows' same is = record { before = row; sta
 
 -- a row that is put where its key is new is found
 pub put_is_found : (places : List ℕ) (row : Row) (rows : List Row) → find (is_at places (key_of places row)) rows ≡ None → find (is_at places (key_of places row)) (put_in places row rows) ≡ Some row
-put_is_found places row rows none = ap (find (is_at places (key_of places row))) (put_new places row rows none) ∙ put_found places (key_of places row) row rows (at_itself places row)
+put_is_found places row rows none = ap (find (is_at places (key_of places row))) (put_new places row rows none) ∙ put_found places (key_of places row) row rows (own_key places row)
 
 -- an update: whether it is of the row of the key
 updated : (uniques : List Index) (places : List ℕ) (clustered : (before after : Row) → changes_key uniques before after ≡ false → key_of places before ≡ key_of places after) (key before after row : Row) (rows : List Row) (c b a : Bool) → changes_key uniques before after ≡ c

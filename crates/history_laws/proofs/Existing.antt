@@ -15,7 +15,7 @@ unfolding kept_from
 from_here limits scene before state [] same = tt
 from_here limits scene before state (turn ∷ turns) same = (
   record { answer = ap (λ (s : State). answer_at turn.side (inner s (answered state turn))) (sym same); missed = ap (λ (s : State). missed_at turn.side (inner s (answered state turn))) (sym same) },
-  from_here limits scene (before ++ answered state turn ∷ []) (after_entry state (unanswered turn)) turns (state_more scene (opened limits scene.opening) before (answered state turn) ∙ ap (λ (s : State). after_entry s (answered state turn)) same),
+  from_here limits scene (before ++ answered state turn ∷ []) (after_entry state (unanswered turn)) turns (state_more (opened limits scene.opening) before (answered state turn) ∙ ap (λ (s : State). after_entry s (answered state turn)) same),
 )
 
 pub turns_have_journals : TurnsHaveJournals

@@ -474,10 +474,10 @@ no_command state number (Command word) request is = absurd (cc)
 
 -- EACH JOURNAL
 
-pub state_more : (scene : Scene) (state : State) (journal : List Entry) (entry : Entry) → state_behind state (journal ++ entry ∷ []) ≡ after_entry (state_behind state journal) entry
+pub state_more : (state : State) (journal : List Entry) (entry : Entry) → state_behind state (journal ++ entry ∷ []) ≡ after_entry (state_behind state journal) entry
 unfolding state_behind
-state_more scene state [] entry = refl
-state_more scene state (first ∷ journal) entry = state_more scene (after_entry state first) journal entry
+state_more state [] entry = refl
+state_more state (first ∷ journal) entry = state_more (after_entry state first) journal entry
 
 pub goings_more : (scene : Scene) (state : State) (going : ℕ → Going) (journal : List Entry) (entry : Entry) → goings_from scene state going (journal ++ entry ∷ []) ≡ goings_after entry.session (fate scene (state_behind state journal) entry) (goings_from scene state going journal)
 unfolding goings_from state_behind
@@ -493,7 +493,7 @@ IsGood limits scene before entry = IsTold limits scene before entry × IsAllowed
 pub step : (limits : Limits) (scene : Scene) → is_mine scene scene.migrated ≡ true → (journal : List Entry) (entry : Entry) → IsGood limits scene journal entry → JournalHolds limits scene journal → JournalHolds limits scene (journal ++ entry ∷ [])
 unfolding history
 step limits scene mine journal entry good is =
-    rw (state_more scene (opened limits scene.opening) journal entry, goings_more scene (opened limits scene.opening) (λ n. not_going) journal entry, gathered-more (entry_adds limits scene) [] journal entry)
+    rw (state_more (opened limits scene.opening) journal entry, goings_more scene (opened limits scene.opening) (λ n. not_going) journal entry, gathered-more (entry_adds limits scene) [] journal entry)
     (entry_kept scene (scene_state limits scene journal) (goings_at limits scene journal) (history limits scene journal) entry mine good.0.answer good.0.missed good.1.may good.1.commands good.1.rests good.1.renames is)
 
 pub begins : (limits : Limits) (scene : Scene) → IsOrderly scene.opening → JournalHolds limits scene []

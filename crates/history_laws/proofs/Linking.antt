@@ -291,7 +291,7 @@ module _ (plan : PlanData) (whole journal : List Entry) (entry : Entry) (going :
   more = journal ++ entry ∷ []
 
   state_is : state_at plan more ≡ after_entry now entry
-  state_is = state_more (scene_of plan whole) (opening plan) journal entry
+  state_is = state_more (opening plan) journal entry
 
   waiting_after : (a : Actor) (n : ℕ) → live_session more a ≡ Some n → request_of (waiting_of n (state_at plan more).waiting) ≡ request_waiting more a
   waiting_after a n lives = rw (state_is, waiting_more journal entry a) (live_cases journal entry linked.known_sessions known.placed a n (request_of (waiting_of n (after_entry now entry).waiting) ≡ waits_in a (request_waiting journal a) entry) lives here there) where

@@ -30,6 +30,7 @@ use Rattle.history_laws.proofs.Actors.{same_actor_itself, live_more, Placed, Com
 use Rattle.history_laws.proofs.Joined.{told_answer}
 use Rattle.history_laws.proofs.Journals.{opened_waits}
 use Rattle.history_laws.proofs.Waiting.{waits_there, waits_called, waits_polled}
+use Rattle.history_laws.proofs.Journals.{state_more as behind_more}
 use Rattle.statement_laws.proofs.Tests.{same_number, turned}
 use Rattle.machine_laws.specs.Standings.{Standing, free, standing, standing_in, standing_of, answered, serves_to, answers_to, IsAbout, is_called, is_polled, MayTake, opened_for}
 use Rattle.machine_laws.proofs.Fitting.{IsPrompt, call_fits, poll_fits, drop_prompt}
@@ -81,11 +82,6 @@ pub record IsKnown (plan : PlanData) (journal : List Entry) : Type 0 where
 pub record IsServed (plan : PlanData) (journal : List Entry) (entry : Entry) : Type 0 where
   pub answered : IsAnswered (state_at plan journal) entry
   pub seated : IsSeated journal entry
-
-behind_more : (state : State) (journal : List Entry) (entry : Entry) → state_behind state (journal ++ entry ∷ []) ≡ after_entry (state_behind state journal) entry
-unfolding state_behind
-behind_more state [] entry = refl
-behind_more state (first ∷ journal) entry = behind_more (after_entry state first) journal entry
 
 pub state_more : (plan : PlanData) (journal : List Entry) (entry : Entry) → state_at plan (journal ++ entry ∷ []) ≡ after_entry (state_at plan journal) entry
 state_more plan journal entry = behind_more (opening plan) journal entry

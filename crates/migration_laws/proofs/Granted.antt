@@ -116,7 +116,7 @@ nothing_asked limits scene journal entry none cut =
     let now : State = opens entry before in
     let left : StaysBut now (after_entry before entry) number (is_lost entry.side) = nothing_turn now number entry.asked entry.side none cut in
     let holds : holds_of now ≡ holds_of before = λ i n. (faces_opened (is_command entry.asked) (not (is_client entry.actor)) number n before i).hold in
-    rw (state_more scene (opened limits scene.opening) journal entry)
+    rw (state_more (opened limits scene.opening) journal entry)
     (record {
       stays = left.stays ∙ stored_opened (is_command entry.asked) (not (is_client entry.actor)) number before;
       besides = subst (λ (h : ℕ → SessionHold). Besides number h (holds_of (after_entry before entry)) (unless_lost (is_lost entry.side) (h number))) holds left.besides;

@@ -39,7 +39,7 @@ use Rattle.ghost_laws.specs.Tool.{CopyState}
 use Rattle.ghost_laws.specs.Tool.CopyState.{Waiting}
 use Rattle.ghost_laws.proofs.Copies.{end_altered, start_stands}
 use Rattle.ghost_laws.proofs.Leaving.{holds_of}
-use Rattle.ghost_laws.proofs.Reading.{IsPart, part_of}
+use Rattle.ghost_laws.proofs.Reading.{IsPart, next_part, part_of}
 use Rattle.ghost_laws.proofs.Running.{any_kept, turn_keeps}
 use Rattle.ghost_laws.proofs.Turns.{along_next, run_front, writes_fit}
 use Rattle.ghost_laws.proofs.Undone.{cuts_are_left}
@@ -92,7 +92,7 @@ module _ (m : Migration) (at : Clustered m.schema) (rows : List Row) (place : �
 
   -- another session is as it was
   face_stays : (n : ℕ) → (n == entry.session) ≡ false → face_of after.sessions n ≡ face_of before.sessions n
-  face_stays n differ = ap (λ (s : State). face_of s.sessions n) (state_more scene (opened limits scene.opening) journal entry) ∙ entry_faces limits scene journal entry (journal_holds limits scene journal front) n differ
+  face_stays n differ = ap (λ (s : State). face_of s.sessions n) (state_more (opened limits scene.opening) journal entry) ∙ entry_faces limits scene journal entry (journal_holds limits scene journal front) n differ
 
   -- the two sessions are two
   two : (now.copier_session == now.applier_session) ≡ false
@@ -322,17 +322,12 @@ starts m at rows plan limits scene journal now start =
     }
 
 -- no change of a table is among events that are none of its
-part_behind : (log : List RowEvent) (place : ℕ) (event : RowEvent) (part : List RowEvent) → IsPart log place (event ∷ part) → IsPart log (place + 1) part
-part_behind log place event part is =
-    let size = is.size in
-    record { at = λ i. let e : (place + 1) + i ≡ place + (suc i) = omega arith in ap (slice_get log) e ∙ is.at (suc i); size = omega (arith, size) }
-
 none_in : (name : List ℕ) (log : List RowEvent) (place : ℕ) (part : List RowEvent) → IsPart log place part → events_of name part ≡ [] → changes_in name log place (length part) ≡ []
 unfolding changes_in
 none_in name log place [] is none = refl
 none_in name log place (event ∷ part) is none =
     let here : slice_get log place ≡ Some event = (let e : place ≡ place + 0 = omega arith in ap (slice_get log) e) ∙ is.at 0 in
-    rw here (by (bytes_eq event.table name) none (none_in name log (place + 1) part (part_behind log place event part is)))
+    rw here (by (bytes_eq event.table name) none (none_in name log (place + 1) part (next_part log place event part is)))
   where
     by : (b : Bool) → cond b (event ∷ events_of name part) (events_of name part) ≡ [] → (events_of name part ≡ [] → changes_in name log (place + 1) (length part) ≡ []) → cond b (event.change ∷ []) [] ++ changes_in name log (place + 1) (length part) ≡ []
     by true some rest = absurd cc

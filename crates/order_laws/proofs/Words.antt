@@ -1,5 +1,6 @@
 -- The words of a printed order.
 use Rattle.std.proofs.Common.{◌≡◌, ◌∙◌, ℕ, zero, suc, ◌+◌, ◌-◌, ◌<◌, ◌≤◌, ◌^◌, ◌==◌, min, Bool, true, false, not, ◌&&◌, ◌||◌, cond, nat_lt, nat_le, List, [], ◌∷◌, ◌++◌, length, take, drop, get_or, map, filter, position, Option, Some, None, option_map, refl, sym, ap, ap₂, arith, rules, codes, append-nil}
+use Rattle.std.proofs.lemmas.Bool.{and_from, and_parts}
 use Rattle.std.proofs.lemmas.Bool.Decides.{nat_tests}
 use Rattle.std.proofs.lemmas.Fmt.{decimal_nonempty, digits_decimal, digits_value-decimal, first_decimal}
 use Rattle.std.proofs.lemmas.Str.Parse.{IsNumeralModel, numerals_by_value}
@@ -44,20 +45,9 @@ is_plain byte = not (is_space byte) && not (byte == 42)
 plain_digit : (digit : ℕ) → is_ascii_digit digit ≡ true → is_plain digit ≡ true
 plain_digit digit is = grind (arith, nat_tests)
 
-and_both : (a b : Bool) → a ≡ true → b ≡ true → (a && b) ≡ true
-and_both a b left right = rw (left, right) refl
-
-and_first : (a b : Bool) → (a && b) ≡ true → a ≡ true
-and_first true b is = refl
-and_first false b is = absurd (cc)
-
-and_second : (a b : Bool) → (a && b) ≡ true → b ≡ true
-and_second true b is = is
-and_second false b is = absurd (cc)
-
 plain_digits : (digits : List ℕ) → list_all is_ascii_digit digits ≡ true → list_all is_plain digits ≡ true
 plain_digits [] are = refl
-plain_digits (digit ∷ digits) are = and_both _ _ (plain_digit digit (and_first _ _ are)) (plain_digits digits (and_second (is_ascii_digit digit) _ are))
+plain_digits (digit ∷ digits) are = and_from _ _ (plain_digit digit ((and_parts _ _ are).0)) (plain_digits digits ((and_parts (is_ascii_digit digit) _ are).1))
 
 plain_number : (n : ℕ) → n < 2 ^ 64 → list_all is_plain (decimal n) ≡ true
 plain_number n wide = plain_digits (decimal n) (digits_decimal numerals n wide)
@@ -82,7 +72,7 @@ client_word : (digits : List ℕ) (number : ℕ) → list_all is_ascii_digit dig
 unfolding actor_of
 client_word [] number are some is = absurd (omega arith)
 client_word (digit ∷ digits) number are some is =
-    let other : bytes_eq (digit ∷ digits) (codes "opy") ≡ false = other_head digit digits (codes "py") 111 (and_first _ _ are) refl in
+    let other : bytes_eq (digit ∷ digits) (codes "opy") ≡ false = other_head digit digits (codes "py") 111 ((and_parts _ _ are).0) refl in
     rw other (rw is refl)
 
 pub actor_read : (clients : ℕ) (actor : Actor) → clients < 2 ^ 32 → IsOf clients actor → actor_of (actor_word actor) ≡ Some actor
@@ -117,15 +107,15 @@ not_true false is = refl
 no_mark : (word : List ℕ) → list_all is_plain word ≡ true → position_or_len (λ byte. byte == 42) word ≡ length word
 no_mark [] plain = refl
 no_mark (byte ∷ word) plain =
-    let other : (byte == 42) ≡ false = not_true _ (and_second (not (is_space byte)) _ (and_first _ _ plain)) in
-    let next : position_or_len (λ byte. byte == 42) word ≡ length word = no_mark word (and_second (is_plain byte) _ plain) in
+    let other : (byte == 42) ≡ false = not_true _ ((and_parts (not (is_space byte)) _ ((and_parts _ _ plain).0)).1) in
+    let next : position_or_len (λ byte. byte == 42) word ≡ length word = no_mark word ((and_parts (is_plain byte) _ plain).1) in
     rw other (omega (arith, next))
 
 at_mark : (word rest : List ℕ) → list_all is_plain word ≡ true → position_or_len (λ byte. byte == 42) (word ++ 42 ∷ rest) ≡ length word
 at_mark [] rest plain = refl
 at_mark (byte ∷ word) rest plain =
-    let other : (byte == 42) ≡ false = not_true _ (and_second (not (is_space byte)) _ (and_first _ _ plain)) in
-    let next : position_or_len (λ byte. byte == 42) (word ++ 42 ∷ rest) ≡ length word = at_mark word rest (and_second (is_plain byte) _ plain) in
+    let other : (byte == 42) ≡ false = not_true _ ((and_parts (not (is_space byte)) _ ((and_parts _ _ plain).0)).1) in
+    let next : position_or_len (λ byte. byte == 42) (word ++ 42 ∷ rest) ≡ length word = at_mark word rest ((and_parts (is_plain byte) _ plain).1) in
     rw other (omega (arith, next))
 
 whole_word : (word : List ℕ) → list_all is_plain word ≡ true → parts_at 42 word ≡ None
@@ -186,11 +176,11 @@ is_dark byte = not (is_space byte)
 
 dark_if_plain : (word : List ℕ) → list_all is_plain word ≡ true → list_all is_dark word ≡ true
 dark_if_plain [] plain = refl
-dark_if_plain (byte ∷ word) plain = and_both _ _ (and_first _ (not (byte == 42)) (and_first _ _ plain)) (dark_if_plain word (and_second (is_plain byte) _ plain))
+dark_if_plain (byte ∷ word) plain = and_from _ _ ((and_parts _ (not (byte == 42)) ((and_parts _ _ plain).0)).0) (dark_if_plain word ((and_parts (is_plain byte) _ plain).1))
 
 dark_both : (word other : List ℕ) → list_all is_dark word ≡ true → list_all is_dark other ≡ true → list_all is_dark (word ++ other) ≡ true
 dark_both [] other dark more = more
-dark_both (byte ∷ word) other dark more = and_both _ _ (and_first _ _ dark) (dark_both word other (and_second (is_dark byte) _ dark) more)
+dark_both (byte ∷ word) other dark more = and_from _ _ ((and_parts _ _ dark).0) (dark_both word other ((and_parts (is_dark byte) _ dark).1) more)
 
 dark_times : (times : ℕ) (b : Bool) → (times == 1) ≡ b → times < 2 ^ 32 → list_all is_dark (times_text times) ≡ true
 dark_times times true once few = rw once refl
@@ -219,11 +209,11 @@ long_run run = long_word run.actor (times_text run.times)
 pub one_part : (word : List ℕ) → list_all is_dark word ≡ true → slice_split is_space word ≡ word ∷ []
 one_part [] dark = refl
 one_part (byte ∷ word) dark =
-    let other : is_space byte ≡ false = not_true _ (and_first _ _ dark) in
-    rw other (ap (onto_first byte) (one_part word (and_second (is_dark byte) _ dark)))
+    let other : is_space byte ≡ false = not_true _ ((and_parts _ _ dark).0) in
+    rw other (ap (onto_first byte) (one_part word ((and_parts (is_dark byte) _ dark).1)))
 
 pub first_part : (word rest : List ℕ) → list_all is_dark word ≡ true → slice_split is_space (word ++ 32 ∷ rest) ≡ word ∷ slice_split is_space rest
 first_part [] rest dark = refl
 first_part (byte ∷ word) rest dark =
-    let other : is_space byte ≡ false = not_true _ (and_first _ _ dark) in
-    rw other (ap (onto_first byte) (first_part word rest (and_second (is_dark byte) _ dark)))
+    let other : is_space byte ≡ false = not_true _ ((and_parts _ _ dark).0) in
+    rw other (ap (onto_first byte) (first_part word rest ((and_parts (is_dark byte) _ dark).1)))

@@ -23,6 +23,7 @@ use Rattle.run_laws.specs.Counting.{AreApart, kind_of}
 use Rattle.run_laws.specs.Laws.{Living, SessionsAreKnown}
 use Rattle.run_laws.proofs.Turns.{is_lost, kind_left, Leaves, turn_leaves, opened_kind, Opens, opened, entry_turned}
 use Rattle.history_laws.proofs.Actors.{same_actor_is, live_more, Placed, Commands, GoesOn, Begins, placed, SessionsKnown, sessions_begin, left_own, sessions_more, others_differ}
+use Rattle.history_laws.proofs.Journals.{state_more}
 
 abbrev named_if : Bool → ℕ → ℕ → ℕ
 named_if command most session = cond command most (max most session)
@@ -169,11 +170,6 @@ module _ (journal : List Entry) (state : State) (entry : Entry) (living : Living
 pub living_begin : (plan : PlanData) → Living [] (state_at plan [])
 unfolding AreApart live_session sessions_named state_behind
 living_begin plan = record { apart = tt; kinds = λ a n is. absurd (cc); fresh = λ k more. refl; named = refl; few = omega arith }
-
-pub state_more : (state : State) (journal : List Entry) (entry : Entry) → state_behind state (journal ++ entry ∷ []) ≡ after_entry (state_behind state journal) entry
-unfolding state_behind
-state_more state [] entry = refl
-state_more state (first ∷ journal) entry = state_more (after_entry state first) journal entry
 
 pub record Both (plan : PlanData) (journal : List Entry) : Type 0 where
   pub known : SessionsKnown journal

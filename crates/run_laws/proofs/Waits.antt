@@ -18,11 +18,12 @@ use Rattle.plan_words.specs.PlanData.{PlanData}
 use Rattle.journal_words.specs.Journals.{opening, opens_if, opens, after_entry, state_behind, state_at, IsAnswered}
 use Rattle.journal_words.specs.Sessions.{IsSeated, KeepsSessions}
 use Rattle.history_laws.proofs.Actors.{Placed, placed, SessionsKnown, sessions_begin}
+use Rattle.history_laws.proofs.Journals.{state_more}
 use Rattle.run_laws.specs.Counting.{numbered, others, others_waiting, kind_of}
 use Rattle.run_laws.specs.Laws.{Living, NoneWaits, WaitsAreLive}
 use Rattle.run_laws.proofs.Tallies.{waits_same}
 use Rattle.run_laws.proofs.Turns.{is_lost, kind_left, Leaves, turn_leaves, entry_turned, others_joined}
-use Rattle.run_laws.proofs.Living.{kinds_there, own_kind, Both, both_more, state_more, living_begin}
+use Rattle.run_laws.proofs.Living.{kinds_there, own_kind, Both, both_more, living_begin}
 use Rattle.statement_laws.proofs.Tests.{same_number, are_one}
 
 -- a session that is lost doesn't wait

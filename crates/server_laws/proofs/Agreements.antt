@@ -184,7 +184,7 @@ others_agree_law limits scene journal entry other run differ =
     } in
     let agree : Agree (face_of now.sessions other).hold.names (face_of now.sessions other).hold.locks now.tables (after_entry state entry).tables = agrees_turn entry.side now number entry.asked own (opened_one nothing tool number state held.one) other differ in
     let same : Agree (face_of state.sessions other).hold.names (face_of state.sessions other).hold.locks now.tables (after_entry state entry).tables = subst (λ (f : Face). Agree f.hold.names f.hold.locks now.tables (after_entry state entry).tables) (face other) agree in
-    rw (state_more scene (opened limits scene.opening) journal entry) (subst (λ (d : Database). Agree (face_of state.sessions other).hold.names (face_of state.sessions other).hold.locks d (after_entry state entry).tables) tables same)
+    rw (state_more (opened limits scene.opening) journal entry) (subst (λ (d : Database). Agree (face_of state.sessions other).hold.names (face_of state.sessions other).hold.locks d (after_entry state entry).tables) tables same)
 
 -- ROWS UNDER A LOCK
 
@@ -224,7 +224,7 @@ others_stay_law limits scene journal (entry ∷ more) session run differ =
     let here : IsSceneRun limits scene journal = record { orderly = run.orderly; migrated = run.migrated; told = along_front (IsTold limits scene) [] journal (entry ∷ more) run.told; allowed = along_front (IsAllowed limits scene) [] journal (entry ∷ more) run.allowed } in
     let regroup : (journal ++ entry ∷ []) ++ more ≡ journal ++ entry ∷ more = append_assoc journal (entry ∷ []) more in
     let face : face_of (scene_state limits scene (journal ++ entry ∷ [])).sessions session ≡ face_of (scene_state limits scene journal).sessions session =
-    rw (state_more scene (opened limits scene.opening) journal entry) (entry_faces limits scene journal entry (journal_holds limits scene journal here) session differ.0) in
+    rw (state_more (opened limits scene.opening) journal entry) (entry_faces limits scene journal entry (journal_holds limits scene journal here) session differ.0) in
     let agree = others_agree_law limits scene journal entry session here differ.0 in
     let rest : StaysTo limits scene (journal ++ entry ∷ []) ((journal ++ entry ∷ []) ++ more) session = others_stay_law limits scene (journal ++ entry ∷ []) more session (subst (IsSceneRun limits scene) (sym regroup) run) differ.1 in
     subst (λ (j : List Entry). StaysTo limits scene journal j session) regroup (record {

@@ -164,5 +164,5 @@ spans_are_held limits scene journal entry table span size keys end answered asks
     let held : SpanHeld table span size entry.session (inner state entry) now (serves now entry.session entry.asked).after =
     found_live (session_of entry.session now.sessions) (SpanHeld table span size entry.session (inner state entry) now (serves now entry.session entry.asked).after) (opened_live nothing tool entry.session state (no_command now entry.session entry.asked (BeginSpan table span size) asks))
     (λ session is. served_held now entry.session entry.asked table span size keys end session is asks (told ∙ answer)) in
-    rw (state_more scene (opened limits scene.opening) journal entry, after)
+    rw (state_more (opened limits scene.opening) journal entry, after)
     (record { found = held.found; is = ap (find_table table) (sym tables) ∙ held.is; tables = held.tables ∙ tables; keys = sym told ∙ held.keys; named = held.named; locked = held.locked })

@@ -109,4 +109,4 @@ definitions_are_done limits scene journal entry request result answered asks is 
     let told = sym (ap (λ (g : Answer). told_at entry.side g entry.missed) answered.answer ∙ ap (λ (m : Option Answer). told_at entry.side (answer_at entry.side (inner state entry)) m) answered.missed) ∙ was in
     let tables : now.tables ≡ state.tables = ap (λ (s : Stored). s.tables) (stored_opened nothing tool entry.session state) in
     let done_so = served_defined now entry.session entry.asked request result asks (ap (definition request) tables ∙ is) (told_inner entry.side (inner state entry) told) in
-    rw (state_more scene (opened limits scene.opening) journal entry) (done_so ∙ ap (λ (d : Database). let r : Result Database ℕ = Ok d in r) (sym (final_tables entry.side now entry.session entry.asked (inner state entry) told)))
+    rw (state_more (opened limits scene.opening) journal entry) (done_so ∙ ap (λ (d : Database). let r : Result Database ℕ = Ok d in r) (sym (final_tables entry.side now entry.session entry.asked (inner state entry) told)))

@@ -111,6 +111,6 @@ locks_are_taken limits scene journal entry names answered asks side answer =
     let now : State = opens entry state in
     let given : inner state entry ≡ ok = ap (λ (s : Option Side). answer_at s (inner state entry)) (sym side) ∙ sym answered.answer ∙ answer in
     let after : after_entry state entry ≡ (serves now entry.session entry.asked).after = ap (λ (s : Option Side). leaves s now entry.session entry.asked) side in
-    rw (state_more scene (opened limits scene.opening) journal entry, after)
+    rw (state_more (opened limits scene.opening) journal entry, after)
     (found_live (session_of entry.session now.sessions) (Taken (serves now entry.session entry.asked).after entry.session names) (opened_live nothing tool entry.session state (no_command now entry.session entry.asked (LockTables names) asks))
     (λ found is. served_taken now entry.session entry.asked names found is asks given))

@@ -562,7 +562,7 @@ entries_are_turns limits scene journal entry run =
     let covered = (held.holds.kept.fine number).covered in
     let own : OwnWrites now number = own_writes now number state.tables
     (subst (λ (f : Face). EventsCovered f.hold.names f.hold.locks state.tables f.hold.writes) (sym (faces_opened nothing tool number number state)) covered) in
-    rw (state_more scene (opened limits scene.opening) journal entry) (from_opened (asks_exclusive (about now number entry.asked)) nothing tool state number (after_entry state entry) (turn_of entry.side now number entry.asked own))
+    rw (state_more (opened limits scene.opening) journal entry) (from_opened (asks_exclusive (about now number entry.asked)) nothing tool state number (after_entry state entry) (turn_of entry.side now number entry.asked own))
 
 -- the others' faces stay
 pub entry_faces : (limits : Limits) (scene : Scene) (journal : List Entry) (entry : Entry) → JournalHolds limits scene journal → (n : ℕ) → (n == entry.session) ≡ false → face_of (after_entry (scene_state limits scene journal) entry).sessions n ≡ face_of (scene_state limits scene journal).sessions n

@@ -2,6 +2,7 @@
 use Rattle.std.proofs.Common.{◌≡◌, ℕ, Bool, true, false, not, ◌&&◌, ◌||◌, cond, List, [], ◌∷◌, map, refl, sym, ap, ◌∙◌}
 use Rattle.std.specs.List.{list_any}
 use Rattle.std.specs.Str.{bytes_eq}
+use Rattle.std.proofs.Math.Bool.{or_assoc}
 use Rattle.metadata_locks.specs.Granting.{has_name}
 use Rattle.row_store.specs.declared.renaming.Pair.{Pair}
 use Rattle.plain_server.specs.declared.session.HeldName.{HeldName}
@@ -13,15 +14,11 @@ pub or_false : (b : Bool) → (b || false) ≡ b
 or_false true = refl
 or_false false = refl
 
-one_by_one : (a b c : Bool) → (a || (b || c)) ≡ ((a || b) || c)
-one_by_one true b c = refl
-one_by_one false b c = refl
-
 -- a name of pairs passes a test where one of a pair does
 any_in_pairs : (test : List ℕ → Bool) (pairs : List Pair) → list_any test (pair_names pairs) ≡ list_any (λ pair. test pair.old || test pair.new) pairs
 any_in_pairs test [] = refl
 any_in_pairs test (pair ∷ pairs) =
-    one_by_one (test pair.old) (test pair.new) (list_any test (pair_names pairs))
+    sym (or_assoc (test pair.old) (test pair.new) (list_any test (pair_names pairs)))
     ∙ ap (λ rest. (test pair.old || test pair.new) || rest) (any_in_pairs test pairs)
 
 pub pairs_have : (pairs : List Pair) (name : List ℕ) → has_name (pair_names pairs) name ≡ list_any (λ pair. bytes_eq pair.old name || bytes_eq pair.new name) pairs

@@ -39,7 +39,7 @@ holds_each (session ∷ sessions) number name exclusive =
     ∙ ap (λ here. here || holds (names_held sessions) number name exclusive) (holds_one session.number session.names number name exclusive)
     ∙ ap (λ rest. (nat_eq session.number number && has_held session.names name exclusive) || rest) (holds_each sessions number name exclusive)
 
-min_same : (n : ℕ) → least (Some n) (Some n) ≡ Some n
+pub min_same : (n : ℕ) → least (Some n) (Some n) ≡ Some n
 min_same n = ap Some (omega arith)
 
 pub holder_one : (session : ℕ) (held : List HeldName) (number : ℕ) (name : List ℕ) (exclusive : Bool) → least_holder (map (name_held session) held) number name exclusive ≡ counted (not (nat_eq session number)) (has_held held name exclusive) session

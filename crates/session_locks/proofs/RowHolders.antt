@@ -10,9 +10,7 @@ use Rattle.row_locks.specs.Holding.{held_by}
 use Rattle.session_locks.proofs.Leasts.{counted, not_counted, counted_once}
 use Rattle.least_session.specs.Least.{least}
 use Rattle.least_session.proofs.Sessions.{least-least, least-none}
-
-min_same : (n : ℕ) → least (Some n) (Some n) ≡ Some n
-min_same n = ap Some (omega arith)
+use Rattle.session_locks.proofs.Names.{min_same}
 
 pub refuser_one : (session : ℕ) (locks : List Lock) (number : ℕ) (lock : Lock) → refuser_of_lock (map (held_by session) locks) number lock ≡ counted (not (nat_eq session number)) (list_any (λ other. conflict other lock) locks) session
 unfolding refuser_of_lock refusal

@@ -1,5 +1,6 @@
 pub mod Tests
 pub mod Standing
+pub mod OneRow
 pub mod Points
 pub mod Points2
 pub mod Footprints

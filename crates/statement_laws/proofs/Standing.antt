@@ -14,7 +14,7 @@ use Rattle.row_store.proofs.Orders.{Row, not_greater, turned, is_Equal}
 use Rattle.row_store.proofs.Ascending.{ascends-filter, before_all}
 use Rattle.plain_server.specs.Rows.{same_row, stands, without_row, change_rows, change_all}
 use Rattle.statement_laws.specs.Agreeing.{SameWhere}
-use Rattle.statement_laws.proofs.Tests.{or_true}
+use Rattle.statement_laws.proofs.Tests.{or_swapped, or_true}
 
 -- rows that compare equal are one row
 pub one_row : (row other : Row) → same_row row other ≡ true → row ≡ other
@@ -29,12 +29,7 @@ put_here : (o : Ordering) (row first new : Row) (rows placed : List Row) → sta
 unfolding stands
 put_here Less row first new rows placed others = refl
 put_here Equal row first new rows placed others = refl
-put_here Greater row first new rows placed others = ap (λ (b : Bool). same_row row first || b) others ∙ swap (same_row row first) (same_row row new) (stands row rows) where
-  swap : (a b c : Bool) → (a || (b || c)) ≡ (b || (a || c))
-  swap true true c = refl
-  swap true false c = refl
-  swap false true c = refl
-  swap false false c = refl
+put_here Greater row first new rows placed others = ap (λ (b : Bool). same_row row first || b) others ∙ or_swapped (same_row row first) (same_row row new) (stands row rows)
 
 pub stands-put : (places : List ℕ) (row new : Row) (rows : List Row) → stands row (with_row places new rows) ≡ (same_row row new || stands row rows)
 unfolding stands with_row

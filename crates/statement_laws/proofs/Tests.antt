@@ -31,6 +31,11 @@ pub or_true : (b : Bool) → (b || true) ≡ true
 or_true true = refl
 or_true false = refl
 
+pub or_swapped : (a b c : Bool) → (a || (b || c)) ≡ (b || (a || c))
+or_swapped true true c = refl
+or_swapped true false c = refl
+or_swapped false b c = refl
+
 pub nor_left : (a b : Bool) → (a || b) ≡ false → a ≡ false
 nor_left true b is = absurd (true≢false is)
 nor_left false b is = refl

@@ -18,6 +18,7 @@ use Rattle.plain_server.specs.Rows.{same_row, stands}
 use Rattle.written_rows.specs.Written.{with_key}
 use Rattle.written_rows.specs.Fitting.{KeysAscend}
 use Rattle.written_rows.specs.Stored.{counted, IsKeyTable}
+use Rattle.written_rows.proofs.TouchedKeys.{before_all}
 
 -- a key's values at the first places are the key
 no_values : (from n : ℕ) → key_of (counted from n) [] ≡ []
@@ -129,13 +130,9 @@ unfolding stands
 none_stands key [] less = refl
 none_stands key (first ∷ keys) less = ap (λ (o : Ordering). is_eq o || stands key keys) less.0 ∙ none_stands key keys less.1
 
-behind_first : (key first : Row) (keys : List Row) → compare_keys key first ≡ Less → AllByRecursion (λ other. compare_keys first other ≡ Less) keys → AllByRecursion (λ other. compare_keys key other ≡ Less) keys
-behind_first key first [] less others = tt
-behind_first key first (next ∷ keys) less others = (keys_total.trans key first next less others.0, behind_first key first keys less others.1)
-
 kept_here : (o : Ordering) (key first : Row) (keys placed : List Row) → compare_keys key first ≡ o → KeysAscend (first ∷ keys) → (is_eq o || stands key keys) ≡ true → (stands key keys ≡ true → placed ≡ keys)
     → match_ordering o (key ∷ first ∷ keys) (first ∷ keys) (first ∷ placed) ≡ first ∷ keys
-kept_here Less key first keys placed is ascend stood rest = absurd (true≢false (sym stood ∙ none_stands key keys (behind_first key first keys is ascend.0)))
+kept_here Less key first keys placed is ascend stood rest = absurd (true≢false (sym stood ∙ none_stands key keys (before_all key first keys is ascend.0)))
 kept_here Equal key first keys placed is ascend stood rest = refl
 kept_here Greater key first keys placed is ascend stood rest = ap (λ (ks : List Row). first ∷ ks) (rest stood)
 

@@ -2,7 +2,6 @@ pub mod KeyTables
 pub mod MergedRows
 pub mod MetRows
 pub mod MovedRows
-pub mod OneRow
 pub mod SeenChanges
 pub mod SeenRows
 pub mod StoredWrites

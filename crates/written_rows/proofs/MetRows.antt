@@ -18,7 +18,7 @@ use Rattle.plain_server.specs.declared.work.Reach.{Reach}
 use Rattle.plain_server.specs.Rows.{lies_under, rows_met, same_row, stands}
 use Rattle.plain_server.specs.Saying.{displaced}
 use Rattle.statement_laws.proofs.Standing.{one_row, same_itself, stands-filter, one_list}
-use Rattle.written_rows.proofs.OneRow.{one_of_key}
+use Rattle.statement_laws.proofs.OneRow.{one_of_key}
 
 -- rows that pass a test are among those that pass a wider one
 pub filter_within : (test wide : Row → Bool) (rows : List Row) → ((row : Row) → test row ≡ true → wide row ≡ true) → filter test (filter wide rows) ≡ filter test rows

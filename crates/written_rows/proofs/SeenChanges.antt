@@ -4,6 +4,7 @@ use Rattle.std.proofs.lemmas.Bool.{or_left, or_right}
 use Rattle.std.specs.Ordering.{is_eq}
 use Rattle.std.specs.List.{AllByRecursion}
 use Rattle.std.proofs.lemmas.Cmp.{tied_itself}
+use Rattle.std.proofs.Math.Bool.{or_assoc}
 use Rattle.gho_values.proofs.Orders.{keys_total}
 use Rattle.gho_schema.specs.Rows.{key_of, with_row}
 use Rattle.gho_schema.specs.Tables.{Ascends}
@@ -22,7 +23,7 @@ use Rattle.written_rows.specs.Fitting.{IsNewAmong, FitsRows, AllFit, IsWritten}
 use Rattle.written_rows.specs.Laws.{SeenRowsChange, ChangesAreSeen, LaterOverEarlier}
 use Rattle.written_rows.proofs.TouchedKeys.{stands-with_keys, touched-with_key, ascend-with_key, ascend-with_keys}
 use Rattle.written_rows.proofs.SeenRows.{stands-seen, all-put_all, ascends-seen, seen-nothing}
-use Rattle.written_rows.proofs.OneRow.{same_removal}
+use Rattle.statement_laws.proofs.OneRow.{own_key, same_removal}
 
 -- what was touched stays so
 pub more_touched : (places : List ℕ) (key : Row) (keys rows : List Row) → AllByRecursion (λ row. is_touched places keys row ≡ true) rows → AllByRecursion (λ row. is_touched places (with_key key keys) row ≡ true) rows
@@ -36,9 +37,6 @@ is_removed places key written is = record {
   keys_ascend = ascend-with_key key written.keys is.keys_ascend;
   touched = more_touched places key written.keys (without_key places key written.rows) (all-filter (λ row. is_touched places written.keys row ≡ true) (λ (r : Row). not (is_at places key r)) written.rows is.touched);
 }
-
-own_key : (places : List ℕ) (row : Row) → is_at places (key_of places row) row ≡ true
-own_key places row = ap is_eq (tied_itself keys_total (key_of places row))
 
 pub is_stored : (places : List ℕ) (row : Row) (written : Written) → IsWritten places written → IsWritten places (stored places row written)
 is_stored places row written is =
@@ -74,10 +72,6 @@ seen-removed places key written rows is ascends =
     ∙ ap (λ (b : Bool). b && not (is_at places key row)) (sym (stands-seen places row written rows)) ∙ sym (stands-filter (λ (r : Row). not (is_at places key r)) row (seen places written rows)))
 
 -- what is seen with a row in place of that of its key
-joined : (a b c : Bool) → ((a || b) || c) ≡ (a || (b || c))
-joined true b c = refl
-joined false b c = refl
-
 pub seen-stored : (places : List ℕ) (row : Row) (written : Written) (rows : List Row) → IsWritten places written → Ascends places rows
     → seen places (stored places row written) rows ≡ with_row places row (without_key places (key_of places row) (seen places written rows))
 seen-stored places row written rows is ascends =
@@ -87,7 +81,7 @@ seen-stored places row written rows is ascends =
     one_list places (seen places (stored places row written) rows) (with_row places row rest) (ascends-seen places (stored places row written) rows (is_stored places row written is) ascends)
     (ascends-with_row places row rest (gone places key (seen places written rows)) (ascends-filter places (λ (r : Row). not (is_at places key r)) (seen places written rows) (ascends-seen places written rows is ascends))) (λ other.
     stands-seen places other (stored places row written) rows ∙ ap (λ (b : Bool). b || (stands other rows && not (is_touched places (with_key key written.keys) other))) (stands-put places other row (without_key places key written.rows))
-    ∙ joined (same_row other row) (stands other (without_key places key written.rows)) (stands other rows && not (is_touched places (with_key key written.keys) other))
+    ∙ or_assoc (same_row other row) (stands other (without_key places key written.rows)) (stands other rows && not (is_touched places (with_key key written.keys) other))
     ∙ ap (λ (b : Bool). same_row other row || b) (sym (stands-seen places other less rows)) ∙ ap (λ (rs : List Row). same_row other row || stands other rs) (seen-removed places key written rows is ascends)
     ∙ sym (stands-put places other row rest))
 

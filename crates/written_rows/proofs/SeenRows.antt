@@ -3,6 +3,7 @@ use Rattle.std.proofs.Common.{◌≡◌, ℕ, Bool, true, false, not, ◌&&◌, 
 use Rattle.std.proofs.lemmas.Bool.{true≢false}
 use Rattle.std.specs.Ordering.{is_eq}
 use Rattle.std.specs.List.{AllByRecursion}
+use Rattle.std.proofs.Math.Bool.{or_assoc}
 use Rattle.gho_values.specs.Comparing.{compare_keys}
 use Rattle.gho_schema.specs.declared.schema.Schema.{Schema}
 use Rattle.gho_schema.specs.Rows.{key_of, key_places}
@@ -22,15 +23,11 @@ use Rattle.written_rows.specs.Stored.{StoredWrites}
 use Rattle.written_rows.specs.Laws.{SeenRowsPass}
 
 -- which rows stand among rows with more of them
-joined : (a b c : Bool) → (a || (b || c)) ≡ ((a || b) || c)
-joined true b c = refl
-joined false b c = refl
-
 pub stands-put_all : (places : List ℕ) (row : Row) (more rows : List Row) → stands row (put_all places more rows) ≡ (stands row more || stands row rows)
 unfolding stands
 stands-put_all places row [] rows = refl
 stands-put_all places row (first ∷ more) rows =
-    stands-put places row first (put_all places more rows) ∙ ap (λ (b : Bool). same_row row first || b) (stands-put_all places row more rows) ∙ joined (same_row row first) (stands row more) (stands row rows)
+    stands-put places row first (put_all places more rows) ∙ ap (λ (b : Bool). same_row row first || b) (stands-put_all places row more rows) ∙ sym (or_assoc (same_row row first) (stands row more) (stands row rows))
 
 pub stands-seen : (places : List ℕ) (row : Row) (written : Written) (rows : List Row) → stands row (seen places written rows) ≡ (stands row written.rows || (stands row rows && not (is_touched places written.keys row)))
 unfolding seen

@@ -10,6 +10,7 @@ use Rattle.row_store.proofs.Orders.{Row, turned}
 use Rattle.plain_server.specs.Rows.{same_row, stands}
 use Rattle.written_rows.specs.Written.{with_key, with_keys, is_touched}
 use Rattle.written_rows.specs.Fitting.{KeysAscend}
+use Rattle.statement_laws.proofs.Tests.{or_swapped}
 
 -- two keys are equal either way about
 reversed : (o : Ordering) → is_eq (ordering_reverse o) ≡ is_eq o
@@ -25,11 +26,6 @@ twice : (b c : Bool) → (b || c) ≡ (b || (b || c))
 twice true c = refl
 twice false c = refl
 
-swapped : (a b c : Bool) → (a || (b || c)) ≡ (b || (a || c))
-swapped true true c = refl
-swapped true false c = refl
-swapped false b c = refl
-
 key_here : (key other first : Row) (keys placed : List Row) (o : Ordering) → compare_keys key first ≡ o → stands other placed ≡ (same_row other key || stands other keys)
     → stands other (match_ordering o (key ∷ first ∷ keys) (first ∷ keys) (first ∷ placed)) ≡ (same_row other key || (same_row other first || stands other keys))
 unfolding stands
@@ -37,7 +33,7 @@ key_here key other first keys placed Less is later = refl
 key_here key other first keys placed Equal is later =
     twice (same_row other first) (stands other keys) ∙ ap (λ (k : Row). same_row other k || (same_row other first || stands other keys)) (sym (tied_keys key first is))
 key_here key other first keys placed Greater is later =
-    ap (λ (b : Bool). same_row other first || b) later ∙ swapped (same_row other first) (same_row other key) (stands other keys)
+    ap (λ (b : Bool). same_row other first || b) later ∙ or_swapped (same_row other first) (same_row other key) (stands other keys)
 
 pub stands-with_key : (key other : Row) (keys : List Row) → stands other (with_key key keys) ≡ (same_row other key || stands other keys)
 unfolding stands with_key
@@ -72,7 +68,7 @@ unfolding with_key
 all-with_key P key [] k others = (k, tt)
 all-with_key P key (first ∷ keys) k others = all_key_here P (compare_keys key first) key first keys (with_key key keys) k others.0 others.1 (all-with_key P key keys k others.1)
 
-before_all : (key first : Row) (keys : List Row) → compare_keys key first ≡ Less → AllByRecursion (λ other. compare_keys first other ≡ Less) keys → AllByRecursion (λ other. compare_keys key other ≡ Less) keys
+pub before_all : (key first : Row) (keys : List Row) → compare_keys key first ≡ Less → AllByRecursion (λ other. compare_keys first other ≡ Less) keys → AllByRecursion (λ other. compare_keys key other ≡ Less) keys
 before_all key first [] less others = tt
 before_all key first (next ∷ keys) less others = (keys_total.trans key first next less others.0, before_all key first keys less others.1)
 

@@ -15,6 +15,10 @@ use Rattle.row_store.proofs.RowLaws.{key_is}
 use Rattle.plain_server.specs.Rows.{same_row, stands, without_row}
 use Rattle.statement_laws.proofs.Standing.{one_row, same_itself, stands-filter, one_list}
 
+-- a row is at its own key
+pub own_key : (places : List ℕ) (row : Row) → is_at places (key_of places row) row ≡ true
+own_key places row = ap is_eq (tied_itself keys_total (key_of places row))
+
 -- a row that stands behind another has a greater key
 pub stands_behind : (places : List ℕ) (first row : Row) (rows : List Row) → AllByRecursion (λ other. compare_keys (key_of places first) (key_of places other) ≡ Less) rows → stands row rows ≡ true
     → compare_keys (key_of places first) (key_of places row) ≡ Less
@@ -53,7 +57,7 @@ same_removal places row rows ascends stood =
       tests other there true false p q =
           let same : row ≡ other = one_of_key places row other rows ascends stood there (key_is places (key_of places row) other p) in
           sym (same_itself row) ∙ ap (same_row row) same ∙ q
-      tests other there false true p q = sym p ∙ ap (is_at places (key_of places row)) (sym (one_row row other q)) ∙ ap is_eq (tied_itself keys_total (key_of places row))
+      tests other there false true p q = sym p ∙ ap (is_at places (key_of places row)) (sym (one_row row other q)) ∙ own_key places row
       tests other there false false p q = refl
 
       each : (other : Row) (s : Bool) → stands other rows ≡ s → (s && not (is_at places (key_of places row) other)) ≡ (s && not (same_row row other))
