@@ -1,5 +1,6 @@
 pub mod Computing
-mod Rows
+mod SmallPlans1
+mod SmallPlans2
 pub mod Plans1
 mod Reports
 mod Plans2

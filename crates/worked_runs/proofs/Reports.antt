@@ -18,7 +18,8 @@ use Rattle.report_print.specs.Tables as y6
 use Rattle.report_print.specs.Turns as y7
 use Rattle.report_print.specs.Verdicts as y8
 use Rattle.worked_runs.proofs.Computing.{computing}
-use Rattle.worked_runs.proofs.Rows.{plan_8, journal_8, plan_12, journal_12, plan_13, journal_13, plan_15, journal_15, plan_16, journal_16}
+use Rattle.worked_runs.proofs.SmallPlans2.{plan_empty, journal_empty, plan_cut_text, journal_cut_text, plan_odd_chunks, journal_odd_chunks, plan_lost_answer, journal_lost_answer, plan_panic, journal_panic, plan_three_turns, journal_three_turns}
+use Rattle.worked_runs.proofs.SmallPlans1.{plan_behind_chunk, journal_behind_chunk, plan_behind_lock, journal_behind_lock, plan_lost_lock, journal_lost_lock, plan_lost_drop, journal_lost_drop, plan_one_try, journal_one_try}
 
 -- what a proof by computing opens of a report
 unfoldable printing : Bool
@@ -29,25 +30,49 @@ printing = true
 abbrev reported : PlanData → List Entry → List ℕ
 reported plan journal = y5.report plan journal (verdict_of plan journal) (state_at plan journal).tables
 
-reported_8 : reported plan_8 journal_8 ≡ codes "done\nclient c1\n1.1 ok 1\ntable t (id, b)\n(2, NULL)\ntables _t_del t\nhistory c1.1 ALTER\nturns 28\norder insp*5 copy*3 c1 copy*2 c1 apply*4 lock*2 insp apply ren insp lock ren lock ren insp*2\n"
+reported_behind_chunk : reported plan_behind_chunk journal_behind_chunk ≡ codes "done\nclient c1\n1.1 ok 1\ntable t (id, b)\n(2, NULL)\ntables _t_del t\nhistory c1.1 ALTER\nturns 28\norder insp*5 copy*3 c1 copy*2 c1 apply*4 lock*2 insp apply ren insp lock ren lock ren insp*2\n"
 unfolding computing printing
-reported_8 = refl
+reported_behind_chunk = refl
 
-reported_12 : reported plan_12 journal_12 ≡ codes "done\nclient c1\n1.1 ok 0\n1.2 ok 1\n1.3 ok 0\nclient c2\n1.1 error 1136\ntable t (id, b)\n(1, 7)\n(2, 7)\ntables _t_del t\nhistory c1.1 ALTER c2.1\nturns 35\norder insp*5 copy*4 c1*2 lock*2 c2 c1 lock insp apply c2 apply c2 apply c2 apply ren c2 insp lock ren c2 lock ren c2 insp*2\n"
+reported_behind_lock : reported plan_behind_lock journal_behind_lock ≡ codes "done\nclient c1\n1.1 ok 0\n1.2 ok 1\n1.3 ok 0\nclient c2\n1.1 error 1136\ntable t (id, b)\n(1, 7)\n(2, 7)\ntables _t_del t\nhistory c1.1 ALTER c2.1\nturns 35\norder insp*5 copy*4 c1*2 lock*2 c2 c1 lock insp apply c2 apply c2 apply c2 apply ren c2 insp lock ren c2 lock ren c2 insp*2\n"
 unfolding computing printing
-reported_12 = refl
+reported_behind_lock = refl
 
-reported_13 : reported plan_13 journal_13 ≡ codes "done\ntable t (id, b)\ntables _t_del t\nhistory ALTER\nturns 27\norder insp*5 lock*2 insp apply ren insp lock ren insp*2 lock*2 insp apply ren insp lock ren lock ren insp*2\n"
+reported_lost_lock : reported plan_lost_lock journal_lost_lock ≡ codes "done\ntable t (id, b)\ntables _t_del t\nhistory ALTER\nturns 27\norder insp*5 lock*2 insp apply ren insp lock ren insp*2 lock*2 insp apply ren insp lock ren lock ren insp*2\n"
 unfolding computing printing
-reported_13 = refl
+reported_lost_lock = refl
 
-reported_15 : reported plan_15 journal_15 ≡ codes "done\nclient c1\n1.1 ok 1\ntable t (id, b)\n(4, 7)\ntables _t_del t\nhistory ALTER c1.1\nturns 18\norder insp*5 lock*2 c1 insp apply ren insp lock c1 ren insp c1 insp\n"
+reported_lost_drop : reported plan_lost_drop journal_lost_drop ≡ codes "done\nclient c1\n1.1 ok 1\ntable t (id, b)\n(4, 7)\ntables _t_del t\nhistory ALTER c1.1\nturns 18\norder insp*5 lock*2 c1 insp apply ren insp lock c1 ren insp c1 insp\n"
 unfolding computing printing
-reported_15 = refl
+reported_lost_drop = refl
 
-reported_16 : reported plan_16 journal_16 ≡ codes "reverted spent cutover turns 11\nclient c1\n1.1 ok 0\n1.2 rows 0\n1.3 ok 0\ntable t (id)\ntables _t_ghc _t_gho t\nhistory c1.1\nturns 14\norder insp*5 c1*2 lock*4 insp c1 insp\n"
+reported_one_try : reported plan_one_try journal_one_try ≡ codes "reverted spent cutover turns 11\nclient c1\n1.1 ok 0\n1.2 rows 0\n1.3 ok 0\ntable t (id)\ntables _t_ghc _t_gho t\nhistory c1.1\nturns 14\norder insp*5 c1*2 lock*4 insp c1 insp\n"
 unfolding computing printing
-reported_16 = refl
+reported_one_try = refl
+
+reported_empty : reported plan_empty journal_empty ≡ codes "done\ntable t (id, b)\ntables _t_del t\nhistory ALTER\nturns 17\norder insp*5 lock*2 insp apply ren insp lock ren lock ren insp*2\n"
+unfolding computing printing
+reported_empty = refl
+
+reported_cut_text : reported plan_cut_text journal_cut_text ≡ codes "reverted unfit turn 8 key (1) column 'c' 1406\ntable t (id, c)\n(1, 'abcd')\ntables _t_ghc _t_gho t\n"
+unfolding computing printing
+reported_cut_text = refl
+
+reported_odd_chunks : reported plan_odd_chunks journal_odd_chunks ≡ codes "done\ntable t (id, b)\n(1, 7)\n(2, 7)\n(3, 7)\n(4, 7)\n(5, 7)\ntables _t_del t\nhistory ALTER\nturns 31\norder insp*5 copy*14 lock*2 insp apply ren insp lock ren lock ren insp*2\n"
+unfolding computing printing
+reported_odd_chunks = refl
+
+reported_lost_answer : reported plan_lost_answer journal_lost_answer ≡ codes "done\ntable t (id, b)\ntables _t_del t\nhistory ALTER\nturns 17\norder insp*5 lock*2 insp apply ren insp lock ren lock ren insp*2\n"
+unfolding computing printing
+reported_lost_answer = refl
+
+reported_panic : reported plan_panic journal_panic ≡ codes "reverted panic turn 1\ntable t (id)\ntables t\nhistory\nturns 1\norder op\n"
+unfolding computing printing
+reported_panic = refl
+
+reported_three_turns : reported plan_three_turns journal_three_turns ≡ codes "unfinished\ntable t (id)\ntables _t_ghc _t_gho t\nhistory\nturns 3\norder insp*3\n"
+unfolding computing printing
+reported_three_turns = refl
 
 -- verdicts of which these plans have none
 

@@ -1,4 +1,4 @@
--- Worked plans, turn by turn.
+-- Small worked plans, turn by turn, each with the one thing that it shows: clients beside the copy and the cut-over.
 use Rattle.std.proofs.Common.{pos, true, false, List, [], ◌∷◌, ◌++◌, Some, None, refl}
 use Rattle.std.specs.Prelude.{codes, replicate}
 use Rattle.gho_values.specs.declared.value.Value.TheVariants.{Null, Num, Text}
@@ -27,15 +27,15 @@ use Rattle.plain_server.specs.declared.outcome.Verdict.TheVariants as verdicts
 use Rattle.plan_words.specs.PlanData.{PlanData}
 use Rattle.worked_runs.proofs.Computing.{computing, Told, IsWorked}
 
--- Row 8
-abbrev map_8 : List MapColumn
-map_8 = (record { kind = Int 4 false; nullable = false; origin = from.Old 0 } ∷ record { kind = Int 4 false; nullable = true; origin = from.Added Null } ∷ [])
+-- A client's DELETE waits behind a chunk's share lock, and the event that it logs is applied.
+abbrev map_behind_chunk : List MapColumn
+map_behind_chunk = (record { kind = Int 4 false; nullable = false; origin = from.Old 0 } ∷ record { kind = Int 4 false; nullable = true; origin = from.Added Null } ∷ [])
 
-abbrev pub plan_8 : PlanData
-plan_8 = record { table = codes "t"; alter = (clauses.Add (record { name = codes "b"; kind = Int 4 false; nullable = None; default = None }) Unsaid ∷ []); tables = (record { schema = record { name = codes "t"; columns = (record { name = codes "id"; kind = Int 4 false; nullable = false; default = None } ∷ []); uniques = (record { name = None; places = (0 ∷ []) } ∷ []); indexes = []; comment = [] }; rows = (((Num (pos 1)) ∷ []) ∷ ((Num (pos 2)) ∷ []) ∷ []) } ∷ []); clients = ((record { line = 1; word = (words.Do (statements.Delete (codes "t") (conditions.Equal (record { column = codes "id"; value = (Num (pos 1)) } ∷ [])))) } ∷ []) ∷ []); operator = []; faults = []; turns = (record { actor = Insp; times = 5 } ∷ record { actor = Copy; times = 3 } ∷ record { actor = (Client 1); times = 1 } ∷ record { actor = Copy; times = 2 } ∷ record { actor = (Client 1); times = 1 } ∷ record { actor = Apply; times = 4 } ∷ []); options = record { chunk_size = 1000; dml_batch_size = 10; default_retries = 60; max_backlog = 100; drain_limit = 2000; client_wait = 20000; tool_wait = 2000; max_load = 64; turn_limit = 200000; approve_renamed_columns = false; initially_drop_ghost_table = false; initially_drop_old_table = false; ok_to_drop_table = false; postpone = false; show_history = true; show_turns = true; show_tables = true; show_replies = true } }
+abbrev pub plan_behind_chunk : PlanData
+plan_behind_chunk = record { table = codes "t"; alter = (clauses.Add (record { name = codes "b"; kind = Int 4 false; nullable = None; default = None }) Unsaid ∷ []); tables = (record { schema = record { name = codes "t"; columns = (record { name = codes "id"; kind = Int 4 false; nullable = false; default = None } ∷ []); uniques = (record { name = None; places = (0 ∷ []) } ∷ []); indexes = []; comment = [] }; rows = (((Num (pos 1)) ∷ []) ∷ ((Num (pos 2)) ∷ []) ∷ []) } ∷ []); clients = ((record { line = 1; word = (words.Do (statements.Delete (codes "t") (conditions.Equal (record { column = codes "id"; value = (Num (pos 1)) } ∷ [])))) } ∷ []) ∷ []); operator = []; faults = []; turns = (record { actor = Insp; times = 5 } ∷ record { actor = Copy; times = 3 } ∷ record { actor = (Client 1); times = 1 } ∷ record { actor = Copy; times = 2 } ∷ record { actor = (Client 1); times = 1 } ∷ record { actor = Apply; times = 4 } ∷ []); options = record { chunk_size = 1000; dml_batch_size = 10; default_retries = 60; max_backlog = 100; drain_limit = 2000; client_wait = 20000; tool_wait = 2000; max_load = 64; turn_limit = 200000; approve_renamed_columns = false; initially_drop_ghost_table = false; initially_drop_old_table = false; ok_to_drop_table = false; postpone = false; show_history = true; show_turns = true; show_tables = true; show_replies = true } }
 
-abbrev pub journal_8 : List Entry
-journal_8 =
+abbrev pub journal_behind_chunk : List Entry
+journal_behind_chunk =
     record { actor = Insp; session = 1; asked = Call requests.ShowTables; side = None; answer = answers.Tables (record { name = codes "t"; comment = [] } ∷ []); missed = None }
     ∷ record { actor = Insp; session = 1; asked = Call (requests.Create (record { name = codes "_t_ghc"; columns = (record { name = codes "id"; kind = Int 8 false; nullable = false; default = None } ∷ record { name = codes "hint"; kind = VarChar 64; nullable = false; default = None } ∷ record { name = codes "value"; kind = VarChar 255; nullable = false; default = None } ∷ []); uniques = (record { name = None; places = (0 ∷ []) } ∷ []); indexes = []; comment = [] })); side = None; answer = answers.Ok 0; missed = None }
     ∷ record { actor = Insp; session = 1; asked = Call (requests.Create (record { name = codes "_t_gho"; columns = (record { name = codes "id"; kind = Int 4 false; nullable = false; default = None } ∷ record { name = codes "b"; kind = Int 4 false; nullable = true; default = (Some Null) } ∷ []); uniques = (record { name = None; places = (0 ∷ []) } ∷ []); indexes = []; comment = [] })); side = None; answer = answers.Ok 0; missed = None }
@@ -43,9 +43,9 @@ journal_8 =
     ∷ record { actor = Insp; session = 1; asked = Call (requests.Ends (codes "t")); side = None; answer = answers.Ends (Some (record { least = ((Num (pos 1)) ∷ []); greatest = ((Num (pos 2)) ∷ []) })); missed = None }
     ∷ record { actor = Copy; session = 2; asked = Call (requests.ChunkEnd (codes "t") (Closed ((Num (pos 1)) ∷ [])) ((Num (pos 2)) ∷ []) 1000); side = None; answer = answers.End ((Num (pos 2)) ∷ []); missed = None }
     ∷ record { actor = Copy; session = 2; asked = Call (requests.BeginSpan (codes "t") (record { low = (Closed ((Num (pos 1)) ∷ [])); high = (Closed ((Num (pos 2)) ∷ [])) }) 1000); side = None; answer = answers.Keys (((Num (pos 1)) ∷ []) ∷ ((Num (pos 2)) ∷ []) ∷ []) ((Num (pos 2)) ∷ []); missed = None }
-    ∷ record { actor = Copy; session = 2; asked = Call (requests.CopyRow (codes "t") (codes "_t_gho") map_8 ((Num (pos 1)) ∷ [])); side = None; answer = answers.Ok 1; missed = None }
+    ∷ record { actor = Copy; session = 2; asked = Call (requests.CopyRow (codes "t") (codes "_t_gho") map_behind_chunk ((Num (pos 1)) ∷ [])); side = None; answer = answers.Ok 1; missed = None }
     ∷ record { actor = (Client 1); session = 3; asked = Call (requests.Do (statements.Delete (codes "t") (conditions.Equal (record { column = codes "id"; value = (Num (pos 1)) } ∷ [])))); side = None; answer = answers.Waits 2; missed = None }
-    ∷ record { actor = Copy; session = 2; asked = Call (requests.CopyRow (codes "t") (codes "_t_gho") map_8 ((Num (pos 2)) ∷ [])); side = None; answer = answers.Ok 1; missed = None }
+    ∷ record { actor = Copy; session = 2; asked = Call (requests.CopyRow (codes "t") (codes "_t_gho") map_behind_chunk ((Num (pos 2)) ∷ [])); side = None; answer = answers.Ok 1; missed = None }
     ∷ record { actor = Copy; session = 2; asked = Call requests.Commit; side = None; answer = answers.Ok 0; missed = None }
     ∷ record { actor = (Client 1); session = 3; asked = Poll; side = None; answer = answers.Ok 1; missed = None }
     ∷ record { actor = Apply; session = 4; asked = Call (requests.ReadLog 0 10 (codes "t" ∷ codes "_t_ghc" ∷ [])); side = None; answer = answers.Events (record { table = codes "t"; change = changes.Delete ((Num (pos 1)) ∷ []) } ∷ []) 3; missed = None }
@@ -66,8 +66,8 @@ journal_8 =
     ∷ record { actor = Insp; session = 1; asked = Call (requests.Drop (codes "_t_ghc")); side = None; answer = answers.Ok 0; missed = None }
     ∷ []
 
-abbrev told_8 : Told
-told_8 =
+abbrev told_behind_chunk : Told
+told_behind_chunk =
     record {
       verdict = verdicts.Done;
       ended = (Some (1, 1) ∷ None ∷ []);
@@ -78,19 +78,19 @@ told_8 =
       replies = (((1, 1, (Some (replies.Ok 1))) ∷ [])) ∷ [];
     }
 
-worked_8 : IsWorked plan_8 journal_8 told_8
+worked_behind_chunk : IsWorked plan_behind_chunk journal_behind_chunk told_behind_chunk
 unfolding computing
-worked_8 = record { asks = refl; sessions = refl; answers = refl; sides = refl; struck = refl; verdict = refl; ended = refl; order = refl; left = refl; serial = refl; alone = refl; over = refl; online = refl; bounded = refl; replies = refl }
+worked_behind_chunk = record { asks = refl; sessions = refl; answers = refl; sides = refl; struck = refl; verdict = refl; ended = refl; order = refl; left = refl; serial = refl; alone = refl; over = refl; online = refl; bounded = refl; replies = refl }
 
--- Row 9
-abbrev map_9 : List MapColumn
-map_9 = (record { kind = Int 4 false; nullable = false; origin = from.Old 0 } ∷ record { kind = VarChar 5; nullable = true; origin = from.Old 1 } ∷ record { kind = Int 4 false; nullable = true; origin = from.Added Null } ∷ [])
+-- A REPLACE of a logged row displaces another in the new table, and the update of a key puts it back.
+abbrev map_displaced : List MapColumn
+map_displaced = (record { kind = Int 4 false; nullable = false; origin = from.Old 0 } ∷ record { kind = VarChar 5; nullable = true; origin = from.Old 1 } ∷ record { kind = Int 4 false; nullable = true; origin = from.Added Null } ∷ [])
 
-abbrev plan_9 : PlanData
-plan_9 = record { table = codes "t"; alter = (clauses.Add (record { name = codes "b"; kind = Int 4 false; nullable = None; default = None }) Unsaid ∷ []); tables = (record { schema = record { name = codes "t"; columns = (record { name = codes "id"; kind = Int 4 false; nullable = false; default = None } ∷ record { name = codes "m"; kind = VarChar 5; nullable = true; default = (Some Null) } ∷ []); uniques = (record { name = None; places = (0 ∷ []) } ∷ record { name = (Some (codes "m")); places = (1 ∷ []) } ∷ []); indexes = []; comment = [] }; rows = (((Num (pos 2)) ∷ (Text (codes "y")) ∷ []) ∷ ((Num (pos 3)) ∷ Null ∷ []) ∷ ((Num (pos 4)) ∷ Null ∷ []) ∷ []) } ∷ []); clients = ((record { line = 1; word = (words.Do (statements.Insert (codes "t") None ((Num (pos 1)) ∷ (Text (codes "x")) ∷ []))) } ∷ record { line = 2; word = (words.Do (statements.Delete (codes "t") (conditions.Equal (record { column = codes "id"; value = (Num (pos 1)) } ∷ [])))) } ∷ record { line = 3; word = (words.Do (statements.Update (codes "t") (record { column = codes "m"; value = (Text (codes "x")) } ∷ []) (conditions.Equal (record { column = codes "id"; value = (Num (pos 2)) } ∷ [])))) } ∷ []) ∷ []); operator = []; faults = []; turns = (record { actor = Insp; times = 5 } ∷ record { actor = (Client 1); times = 3 } ∷ record { actor = Copy; times = 6 } ∷ record { actor = Apply; times = 7 } ∷ []); options = record { chunk_size = 1000; dml_batch_size = 10; default_retries = 60; max_backlog = 100; drain_limit = 2000; client_wait = 20000; tool_wait = 2000; max_load = 64; turn_limit = 200000; approve_renamed_columns = false; initially_drop_ghost_table = false; initially_drop_old_table = false; ok_to_drop_table = false; postpone = false; show_history = true; show_turns = true; show_tables = true; show_replies = true } }
+abbrev plan_displaced : PlanData
+plan_displaced = record { table = codes "t"; alter = (clauses.Add (record { name = codes "b"; kind = Int 4 false; nullable = None; default = None }) Unsaid ∷ []); tables = (record { schema = record { name = codes "t"; columns = (record { name = codes "id"; kind = Int 4 false; nullable = false; default = None } ∷ record { name = codes "m"; kind = VarChar 5; nullable = true; default = (Some Null) } ∷ []); uniques = (record { name = None; places = (0 ∷ []) } ∷ record { name = (Some (codes "m")); places = (1 ∷ []) } ∷ []); indexes = []; comment = [] }; rows = (((Num (pos 2)) ∷ (Text (codes "y")) ∷ []) ∷ ((Num (pos 3)) ∷ Null ∷ []) ∷ ((Num (pos 4)) ∷ Null ∷ []) ∷ []) } ∷ []); clients = ((record { line = 1; word = (words.Do (statements.Insert (codes "t") None ((Num (pos 1)) ∷ (Text (codes "x")) ∷ []))) } ∷ record { line = 2; word = (words.Do (statements.Delete (codes "t") (conditions.Equal (record { column = codes "id"; value = (Num (pos 1)) } ∷ [])))) } ∷ record { line = 3; word = (words.Do (statements.Update (codes "t") (record { column = codes "m"; value = (Text (codes "x")) } ∷ []) (conditions.Equal (record { column = codes "id"; value = (Num (pos 2)) } ∷ [])))) } ∷ []) ∷ []); operator = []; faults = []; turns = (record { actor = Insp; times = 5 } ∷ record { actor = (Client 1); times = 3 } ∷ record { actor = Copy; times = 6 } ∷ record { actor = Apply; times = 7 } ∷ []); options = record { chunk_size = 1000; dml_batch_size = 10; default_retries = 60; max_backlog = 100; drain_limit = 2000; client_wait = 20000; tool_wait = 2000; max_load = 64; turn_limit = 200000; approve_renamed_columns = false; initially_drop_ghost_table = false; initially_drop_old_table = false; ok_to_drop_table = false; postpone = false; show_history = true; show_turns = true; show_tables = true; show_replies = true } }
 
-abbrev journal_9 : List Entry
-journal_9 =
+abbrev journal_displaced : List Entry
+journal_displaced =
     record { actor = Insp; session = 1; asked = Call requests.ShowTables; side = None; answer = answers.Tables (record { name = codes "t"; comment = [] } ∷ []); missed = None }
     ∷ record { actor = Insp; session = 1; asked = Call (requests.Create (record { name = codes "_t_ghc"; columns = (record { name = codes "id"; kind = Int 8 false; nullable = false; default = None } ∷ record { name = codes "hint"; kind = VarChar 64; nullable = false; default = None } ∷ record { name = codes "value"; kind = VarChar 255; nullable = false; default = None } ∷ []); uniques = (record { name = None; places = (0 ∷ []) } ∷ []); indexes = []; comment = [] })); side = None; answer = answers.Ok 0; missed = None }
     ∷ record { actor = Insp; session = 1; asked = Call (requests.Create (record { name = codes "_t_gho"; columns = (record { name = codes "id"; kind = Int 4 false; nullable = false; default = None } ∷ record { name = codes "m"; kind = VarChar 5; nullable = true; default = (Some Null) } ∷ record { name = codes "b"; kind = Int 4 false; nullable = true; default = (Some Null) } ∷ []); uniques = (record { name = None; places = (0 ∷ []) } ∷ record { name = (Some (codes "m")); places = (1 ∷ []) } ∷ []); indexes = []; comment = [] })); side = None; answer = answers.Ok 0; missed = None }
@@ -101,9 +101,9 @@ journal_9 =
     ∷ record { actor = (Client 1); session = 2; asked = Call (requests.Do (statements.Update (codes "t") (record { column = codes "m"; value = (Text (codes "x")) } ∷ []) (conditions.Equal (record { column = codes "id"; value = (Num (pos 2)) } ∷ [])))); side = None; answer = answers.Ok 1; missed = None }
     ∷ record { actor = Copy; session = 3; asked = Call (requests.ChunkEnd (codes "t") (Closed ((Num (pos 2)) ∷ [])) ((Num (pos 4)) ∷ []) 1000); side = None; answer = answers.End ((Num (pos 4)) ∷ []); missed = None }
     ∷ record { actor = Copy; session = 3; asked = Call (requests.BeginSpan (codes "t") (record { low = (Closed ((Num (pos 2)) ∷ [])); high = (Closed ((Num (pos 4)) ∷ [])) }) 1000); side = None; answer = answers.Keys (((Num (pos 2)) ∷ []) ∷ ((Num (pos 3)) ∷ []) ∷ ((Num (pos 4)) ∷ []) ∷ []) ((Num (pos 4)) ∷ []); missed = None }
-    ∷ record { actor = Copy; session = 3; asked = Call (requests.CopyRow (codes "t") (codes "_t_gho") map_9 ((Num (pos 2)) ∷ [])); side = None; answer = answers.Ok 1; missed = None }
-    ∷ record { actor = Copy; session = 3; asked = Call (requests.CopyRow (codes "t") (codes "_t_gho") map_9 ((Num (pos 3)) ∷ [])); side = None; answer = answers.Ok 1; missed = None }
-    ∷ record { actor = Copy; session = 3; asked = Call (requests.CopyRow (codes "t") (codes "_t_gho") map_9 ((Num (pos 4)) ∷ [])); side = None; answer = answers.Ok 1; missed = None }
+    ∷ record { actor = Copy; session = 3; asked = Call (requests.CopyRow (codes "t") (codes "_t_gho") map_displaced ((Num (pos 2)) ∷ [])); side = None; answer = answers.Ok 1; missed = None }
+    ∷ record { actor = Copy; session = 3; asked = Call (requests.CopyRow (codes "t") (codes "_t_gho") map_displaced ((Num (pos 3)) ∷ [])); side = None; answer = answers.Ok 1; missed = None }
+    ∷ record { actor = Copy; session = 3; asked = Call (requests.CopyRow (codes "t") (codes "_t_gho") map_displaced ((Num (pos 4)) ∷ [])); side = None; answer = answers.Ok 1; missed = None }
     ∷ record { actor = Copy; session = 3; asked = Call requests.Commit; side = None; answer = answers.Ok 0; missed = None }
     ∷ record { actor = Apply; session = 4; asked = Call (requests.ReadLog 0 10 (codes "t" ∷ codes "_t_ghc" ∷ [])); side = None; answer = answers.Events (record { table = codes "t"; change = changes.Write ((Num (pos 1)) ∷ (Text (codes "x")) ∷ []) } ∷ record { table = codes "t"; change = changes.Delete ((Num (pos 1)) ∷ (Text (codes "x")) ∷ []) } ∷ record { table = codes "t"; change = changes.Update ((Num (pos 2)) ∷ (Text (codes "y")) ∷ []) ((Num (pos 2)) ∷ (Text (codes "x")) ∷ []) } ∷ []) 6; missed = None }
     ∷ record { actor = Apply; session = 4; asked = Call requests.Begin; side = None; answer = answers.Ok 0; missed = None }
@@ -126,8 +126,8 @@ journal_9 =
     ∷ record { actor = Insp; session = 1; asked = Call (requests.Drop (codes "_t_ghc")); side = None; answer = answers.Ok 0; missed = None }
     ∷ []
 
-abbrev told_9 : Told
-told_9 =
+abbrev told_displaced : Told
+told_displaced =
     record {
       verdict = verdicts.Done;
       ended = (Some (1, 1) ∷ Some (1, 2) ∷ Some (1, 3) ∷ None ∷ []);
@@ -138,19 +138,19 @@ told_9 =
       replies = (((1, 1, (Some (replies.Ok 1))) ∷ (2, 1, (Some (replies.Ok 1))) ∷ (3, 1, (Some (replies.Ok 1))) ∷ [])) ∷ [];
     }
 
-worked_9 : IsWorked plan_9 journal_9 told_9
+worked_displaced : IsWorked plan_displaced journal_displaced told_displaced
 unfolding computing
-worked_9 = record { asks = refl; sessions = refl; answers = refl; sides = refl; struck = refl; verdict = refl; ended = refl; order = refl; left = refl; serial = refl; alone = refl; over = refl; online = refl; bounded = refl; replies = refl }
+worked_displaced = record { asks = refl; sessions = refl; answers = refl; sides = refl; struck = refl; verdict = refl; ended = refl; order = refl; left = refl; serial = refl; alone = refl; over = refl; online = refl; bounded = refl; replies = refl }
 
--- Row 12
-abbrev map_12 : List MapColumn
-map_12 = (record { kind = Int 4 false; nullable = false; origin = from.Old 0 } ∷ record { kind = Int 4 false; nullable = false; origin = from.Added (Num (pos 7)) } ∷ [])
+-- LOCK TABLES waits behind an open transaction, a client waits behind it, and runs behind the RENAME on the new table.
+abbrev map_behind_lock : List MapColumn
+map_behind_lock = (record { kind = Int 4 false; nullable = false; origin = from.Old 0 } ∷ record { kind = Int 4 false; nullable = false; origin = from.Added (Num (pos 7)) } ∷ [])
 
-abbrev pub plan_12 : PlanData
-plan_12 = record { table = codes "t"; alter = (clauses.Add (record { name = codes "b"; kind = Int 4 false; nullable = (Some false); default = (Some (Num (pos 7))) }) Unsaid ∷ []); tables = (record { schema = record { name = codes "t"; columns = (record { name = codes "id"; kind = Int 4 false; nullable = false; default = None } ∷ []); uniques = (record { name = None; places = (0 ∷ []) } ∷ []); indexes = []; comment = [] }; rows = (((Num (pos 1)) ∷ []) ∷ []) } ∷ []); clients = ((record { line = 1; word = words.Begin } ∷ record { line = 2; word = (words.Do (statements.Insert (codes "t") None ((Num (pos 2)) ∷ []))) } ∷ record { line = 3; word = words.Commit } ∷ []) ∷ (record { line = 1; word = (words.Do (statements.Insert (codes "t") None ((Num (pos 3)) ∷ []))) } ∷ []) ∷ []); operator = []; faults = []; turns = (record { actor = Insp; times = 5 } ∷ record { actor = Copy; times = 4 } ∷ record { actor = (Client 1); times = 2 } ∷ record { actor = Lock; times = 2 } ∷ record { actor = (Client 2); times = 1 } ∷ record { actor = (Client 1); times = 1 } ∷ record { actor = Lock; times = 1 } ∷ []); options = record { chunk_size = 1000; dml_batch_size = 10; default_retries = 60; max_backlog = 100; drain_limit = 2000; client_wait = 20000; tool_wait = 2000; max_load = 64; turn_limit = 200000; approve_renamed_columns = false; initially_drop_ghost_table = false; initially_drop_old_table = false; ok_to_drop_table = false; postpone = false; show_history = true; show_turns = true; show_tables = true; show_replies = true } }
+abbrev pub plan_behind_lock : PlanData
+plan_behind_lock = record { table = codes "t"; alter = (clauses.Add (record { name = codes "b"; kind = Int 4 false; nullable = (Some false); default = (Some (Num (pos 7))) }) Unsaid ∷ []); tables = (record { schema = record { name = codes "t"; columns = (record { name = codes "id"; kind = Int 4 false; nullable = false; default = None } ∷ []); uniques = (record { name = None; places = (0 ∷ []) } ∷ []); indexes = []; comment = [] }; rows = (((Num (pos 1)) ∷ []) ∷ []) } ∷ []); clients = ((record { line = 1; word = words.Begin } ∷ record { line = 2; word = (words.Do (statements.Insert (codes "t") None ((Num (pos 2)) ∷ []))) } ∷ record { line = 3; word = words.Commit } ∷ []) ∷ (record { line = 1; word = (words.Do (statements.Insert (codes "t") None ((Num (pos 3)) ∷ []))) } ∷ []) ∷ []); operator = []; faults = []; turns = (record { actor = Insp; times = 5 } ∷ record { actor = Copy; times = 4 } ∷ record { actor = (Client 1); times = 2 } ∷ record { actor = Lock; times = 2 } ∷ record { actor = (Client 2); times = 1 } ∷ record { actor = (Client 1); times = 1 } ∷ record { actor = Lock; times = 1 } ∷ []); options = record { chunk_size = 1000; dml_batch_size = 10; default_retries = 60; max_backlog = 100; drain_limit = 2000; client_wait = 20000; tool_wait = 2000; max_load = 64; turn_limit = 200000; approve_renamed_columns = false; initially_drop_ghost_table = false; initially_drop_old_table = false; ok_to_drop_table = false; postpone = false; show_history = true; show_turns = true; show_tables = true; show_replies = true } }
 
-abbrev pub journal_12 : List Entry
-journal_12 =
+abbrev pub journal_behind_lock : List Entry
+journal_behind_lock =
     record { actor = Insp; session = 1; asked = Call requests.ShowTables; side = None; answer = answers.Tables (record { name = codes "t"; comment = [] } ∷ []); missed = None }
     ∷ record { actor = Insp; session = 1; asked = Call (requests.Create (record { name = codes "_t_ghc"; columns = (record { name = codes "id"; kind = Int 8 false; nullable = false; default = None } ∷ record { name = codes "hint"; kind = VarChar 64; nullable = false; default = None } ∷ record { name = codes "value"; kind = VarChar 255; nullable = false; default = None } ∷ []); uniques = (record { name = None; places = (0 ∷ []) } ∷ []); indexes = []; comment = [] })); side = None; answer = answers.Ok 0; missed = None }
     ∷ record { actor = Insp; session = 1; asked = Call (requests.Create (record { name = codes "_t_gho"; columns = (record { name = codes "id"; kind = Int 4 false; nullable = false; default = None } ∷ record { name = codes "b"; kind = Int 4 false; nullable = false; default = (Some (Num (pos 7))) } ∷ []); uniques = (record { name = None; places = (0 ∷ []) } ∷ []); indexes = []; comment = [] })); side = None; answer = answers.Ok 0; missed = None }
@@ -158,7 +158,7 @@ journal_12 =
     ∷ record { actor = Insp; session = 1; asked = Call (requests.Ends (codes "t")); side = None; answer = answers.Ends (Some (record { least = ((Num (pos 1)) ∷ []); greatest = ((Num (pos 1)) ∷ []) })); missed = None }
     ∷ record { actor = Copy; session = 2; asked = Call (requests.ChunkEnd (codes "t") (Closed ((Num (pos 1)) ∷ [])) ((Num (pos 1)) ∷ []) 1000); side = None; answer = answers.End ((Num (pos 1)) ∷ []); missed = None }
     ∷ record { actor = Copy; session = 2; asked = Call (requests.BeginSpan (codes "t") (record { low = (Closed ((Num (pos 1)) ∷ [])); high = (Closed ((Num (pos 1)) ∷ [])) }) 1000); side = None; answer = answers.Keys (((Num (pos 1)) ∷ []) ∷ []) ((Num (pos 1)) ∷ []); missed = None }
-    ∷ record { actor = Copy; session = 2; asked = Call (requests.CopyRow (codes "t") (codes "_t_gho") map_12 ((Num (pos 1)) ∷ [])); side = None; answer = answers.Ok 1; missed = None }
+    ∷ record { actor = Copy; session = 2; asked = Call (requests.CopyRow (codes "t") (codes "_t_gho") map_behind_lock ((Num (pos 1)) ∷ [])); side = None; answer = answers.Ok 1; missed = None }
     ∷ record { actor = Copy; session = 2; asked = Call requests.Commit; side = None; answer = answers.Ok 0; missed = None }
     ∷ record { actor = (Client 1); session = 3; asked = Call requests.Begin; side = None; answer = answers.Ok 0; missed = None }
     ∷ record { actor = (Client 1); session = 3; asked = Call (requests.Do (statements.Insert (codes "t") None ((Num (pos 2)) ∷ []))); side = None; answer = answers.Ok 1; missed = None }
@@ -188,8 +188,8 @@ journal_12 =
     ∷ record { actor = Insp; session = 1; asked = Call (requests.Drop (codes "_t_ghc")); side = None; answer = answers.Ok 0; missed = None }
     ∷ []
 
-abbrev told_12 : Told
-told_12 =
+abbrev told_behind_lock : Told
+told_behind_lock =
     record {
       verdict = verdicts.Done;
       ended = (Some (1, 1) ∷ None ∷ Some (2, 1) ∷ []);
@@ -200,19 +200,19 @@ told_12 =
       replies = (((1, 1, (Some (replies.Ok 0))) ∷ (1, 2, (Some (replies.Ok 1))) ∷ (1, 3, (Some (replies.Ok 0))) ∷ [])) ∷ (((1, 1, (Some (replies.Error 1136))) ∷ [])) ∷ [];
     }
 
-worked_12 : IsWorked plan_12 journal_12 told_12
+worked_behind_lock : IsWorked plan_behind_lock journal_behind_lock told_behind_lock
 unfolding computing
-worked_12 = record { asks = refl; sessions = refl; answers = refl; sides = refl; struck = refl; verdict = refl; ended = refl; order = refl; left = refl; serial = refl; alone = refl; over = refl; online = refl; bounded = refl; replies = refl }
+worked_behind_lock = record { asks = refl; sessions = refl; answers = refl; sides = refl; struck = refl; verdict = refl; ended = refl; order = refl; left = refl; serial = refl; alone = refl; over = refl; online = refl; bounded = refl; replies = refl }
 
--- Row 13
-abbrev map_13 : List MapColumn
-map_13 = (record { kind = Int 4 false; nullable = false; origin = from.Old 0 } ∷ record { kind = Int 4 false; nullable = false; origin = from.Added (Num (pos 7)) } ∷ [])
+-- The lock session is lost with the sentry standing: the RENAME is refused, the sentry is dropped, and a second attempt succeeds.
+abbrev map_lost_lock : List MapColumn
+map_lost_lock = (record { kind = Int 4 false; nullable = false; origin = from.Old 0 } ∷ record { kind = Int 4 false; nullable = false; origin = from.Added (Num (pos 7)) } ∷ [])
 
-abbrev pub plan_13 : PlanData
-plan_13 = record { table = codes "t"; alter = (clauses.Add (record { name = codes "b"; kind = Int 4 false; nullable = (Some false); default = (Some (Num (pos 7))) }) Unsaid ∷ []); tables = (record { schema = record { name = codes "t"; columns = (record { name = codes "id"; kind = Int 4 false; nullable = false; default = None } ∷ []); uniques = (record { name = None; places = (0 ∷ []) } ∷ []); indexes = []; comment = [] }; rows = [] } ∷ []); clients = []; operator = []; faults = (losses.Nth Lock 3 sides_at.Before ∷ []); turns = []; options = record { chunk_size = 1000; dml_batch_size = 10; default_retries = 60; max_backlog = 100; drain_limit = 2000; client_wait = 20000; tool_wait = 2000; max_load = 64; turn_limit = 200000; approve_renamed_columns = false; initially_drop_ghost_table = false; initially_drop_old_table = false; ok_to_drop_table = false; postpone = false; show_history = true; show_turns = true; show_tables = true; show_replies = true } }
+abbrev pub plan_lost_lock : PlanData
+plan_lost_lock = record { table = codes "t"; alter = (clauses.Add (record { name = codes "b"; kind = Int 4 false; nullable = (Some false); default = (Some (Num (pos 7))) }) Unsaid ∷ []); tables = (record { schema = record { name = codes "t"; columns = (record { name = codes "id"; kind = Int 4 false; nullable = false; default = None } ∷ []); uniques = (record { name = None; places = (0 ∷ []) } ∷ []); indexes = []; comment = [] }; rows = [] } ∷ []); clients = []; operator = []; faults = (losses.Nth Lock 3 sides_at.Before ∷ []); turns = []; options = record { chunk_size = 1000; dml_batch_size = 10; default_retries = 60; max_backlog = 100; drain_limit = 2000; client_wait = 20000; tool_wait = 2000; max_load = 64; turn_limit = 200000; approve_renamed_columns = false; initially_drop_ghost_table = false; initially_drop_old_table = false; ok_to_drop_table = false; postpone = false; show_history = true; show_turns = true; show_tables = true; show_replies = true } }
 
-abbrev pub journal_13 : List Entry
-journal_13 =
+abbrev pub journal_lost_lock : List Entry
+journal_lost_lock =
     record { actor = Insp; session = 1; asked = Call requests.ShowTables; side = None; answer = answers.Tables (record { name = codes "t"; comment = [] } ∷ []); missed = None }
     ∷ record { actor = Insp; session = 1; asked = Call (requests.Create (record { name = codes "_t_ghc"; columns = (record { name = codes "id"; kind = Int 8 false; nullable = false; default = None } ∷ record { name = codes "hint"; kind = VarChar 64; nullable = false; default = None } ∷ record { name = codes "value"; kind = VarChar 255; nullable = false; default = None } ∷ []); uniques = (record { name = None; places = (0 ∷ []) } ∷ []); indexes = []; comment = [] })); side = None; answer = answers.Ok 0; missed = None }
     ∷ record { actor = Insp; session = 1; asked = Call (requests.Create (record { name = codes "_t_gho"; columns = (record { name = codes "id"; kind = Int 4 false; nullable = false; default = None } ∷ record { name = codes "b"; kind = Int 4 false; nullable = false; default = (Some (Num (pos 7))) } ∷ []); uniques = (record { name = None; places = (0 ∷ []) } ∷ []); indexes = []; comment = [] })); side = None; answer = answers.Ok 0; missed = None }
@@ -242,8 +242,8 @@ journal_13 =
     ∷ record { actor = Insp; session = 1; asked = Call (requests.Drop (codes "_t_ghc")); side = None; answer = answers.Ok 0; missed = None }
     ∷ []
 
-abbrev told_13 : Told
-told_13 =
+abbrev told_lost_lock : Told
+told_lost_lock =
     record {
       verdict = verdicts.Done;
       ended = (None ∷ []);
@@ -254,19 +254,19 @@ told_13 =
       replies = [];
     }
 
-worked_13 : IsWorked plan_13 journal_13 told_13
+worked_lost_lock : IsWorked plan_lost_lock journal_lost_lock told_lost_lock
 unfolding computing
-worked_13 = record { asks = refl; sessions = refl; answers = refl; sides = refl; struck = refl; verdict = refl; ended = refl; order = refl; left = refl; serial = refl; alone = refl; over = refl; online = refl; bounded = refl; replies = refl }
+worked_lost_lock = record { asks = refl; sessions = refl; answers = refl; sides = refl; struck = refl; verdict = refl; ended = refl; order = refl; left = refl; serial = refl; alone = refl; over = refl; online = refl; bounded = refl; replies = refl }
 
--- Row 15
-abbrev map_15 : List MapColumn
-map_15 = (record { kind = Int 4 false; nullable = false; origin = from.Old 0 } ∷ record { kind = Int 4 false; nullable = false; origin = from.Added (Num (pos 7)) } ∷ [])
+-- The sentry is dropped and the lock session lost with the answer: the RENAME runs before the client that waits.
+abbrev map_lost_drop : List MapColumn
+map_lost_drop = (record { kind = Int 4 false; nullable = false; origin = from.Old 0 } ∷ record { kind = Int 4 false; nullable = false; origin = from.Added (Num (pos 7)) } ∷ [])
 
-abbrev pub plan_15 : PlanData
-plan_15 = record { table = codes "t"; alter = (clauses.Add (record { name = codes "b"; kind = Int 4 false; nullable = (Some false); default = (Some (Num (pos 7))) }) Unsaid ∷ []); tables = (record { schema = record { name = codes "t"; columns = (record { name = codes "id"; kind = Int 4 false; nullable = false; default = None } ∷ []); uniques = (record { name = None; places = (0 ∷ []) } ∷ []); indexes = []; comment = [] }; rows = [] } ∷ []); clients = ((record { line = 1; word = (words.Do (statements.Insert (codes "t") (Some (codes "id" ∷ [])) ((Num (pos 4)) ∷ []))) } ∷ []) ∷ []); operator = []; faults = (losses.Nth Lock 3 sides_at.After ∷ []); turns = (record { actor = Insp; times = 5 } ∷ record { actor = Lock; times = 2 } ∷ record { actor = (Client 1); times = 1 } ∷ record { actor = Insp; times = 1 } ∷ record { actor = Apply; times = 1 } ∷ record { actor = Ren; times = 1 } ∷ record { actor = Insp; times = 1 } ∷ record { actor = Lock; times = 1 } ∷ record { actor = (Client 1); times = 1 } ∷ record { actor = Ren; times = 1 } ∷ []); options = record { chunk_size = 1000; dml_batch_size = 10; default_retries = 60; max_backlog = 100; drain_limit = 2000; client_wait = 20000; tool_wait = 2000; max_load = 64; turn_limit = 200000; approve_renamed_columns = false; initially_drop_ghost_table = false; initially_drop_old_table = false; ok_to_drop_table = false; postpone = false; show_history = true; show_turns = true; show_tables = true; show_replies = true } }
+abbrev pub plan_lost_drop : PlanData
+plan_lost_drop = record { table = codes "t"; alter = (clauses.Add (record { name = codes "b"; kind = Int 4 false; nullable = (Some false); default = (Some (Num (pos 7))) }) Unsaid ∷ []); tables = (record { schema = record { name = codes "t"; columns = (record { name = codes "id"; kind = Int 4 false; nullable = false; default = None } ∷ []); uniques = (record { name = None; places = (0 ∷ []) } ∷ []); indexes = []; comment = [] }; rows = [] } ∷ []); clients = ((record { line = 1; word = (words.Do (statements.Insert (codes "t") (Some (codes "id" ∷ [])) ((Num (pos 4)) ∷ []))) } ∷ []) ∷ []); operator = []; faults = (losses.Nth Lock 3 sides_at.After ∷ []); turns = (record { actor = Insp; times = 5 } ∷ record { actor = Lock; times = 2 } ∷ record { actor = (Client 1); times = 1 } ∷ record { actor = Insp; times = 1 } ∷ record { actor = Apply; times = 1 } ∷ record { actor = Ren; times = 1 } ∷ record { actor = Insp; times = 1 } ∷ record { actor = Lock; times = 1 } ∷ record { actor = (Client 1); times = 1 } ∷ record { actor = Ren; times = 1 } ∷ []); options = record { chunk_size = 1000; dml_batch_size = 10; default_retries = 60; max_backlog = 100; drain_limit = 2000; client_wait = 20000; tool_wait = 2000; max_load = 64; turn_limit = 200000; approve_renamed_columns = false; initially_drop_ghost_table = false; initially_drop_old_table = false; ok_to_drop_table = false; postpone = false; show_history = true; show_turns = true; show_tables = true; show_replies = true } }
 
-abbrev pub journal_15 : List Entry
-journal_15 =
+abbrev pub journal_lost_drop : List Entry
+journal_lost_drop =
     record { actor = Insp; session = 1; asked = Call requests.ShowTables; side = None; answer = answers.Tables (record { name = codes "t"; comment = [] } ∷ []); missed = None }
     ∷ record { actor = Insp; session = 1; asked = Call (requests.Create (record { name = codes "_t_ghc"; columns = (record { name = codes "id"; kind = Int 8 false; nullable = false; default = None } ∷ record { name = codes "hint"; kind = VarChar 64; nullable = false; default = None } ∷ record { name = codes "value"; kind = VarChar 255; nullable = false; default = None } ∷ []); uniques = (record { name = None; places = (0 ∷ []) } ∷ []); indexes = []; comment = [] })); side = None; answer = answers.Ok 0; missed = None }
     ∷ record { actor = Insp; session = 1; asked = Call (requests.Create (record { name = codes "_t_gho"; columns = (record { name = codes "id"; kind = Int 4 false; nullable = false; default = None } ∷ record { name = codes "b"; kind = Int 4 false; nullable = false; default = (Some (Num (pos 7))) } ∷ []); uniques = (record { name = None; places = (0 ∷ []) } ∷ []); indexes = []; comment = [] })); side = None; answer = answers.Ok 0; missed = None }
@@ -287,8 +287,8 @@ journal_15 =
     ∷ record { actor = Insp; session = 1; asked = Call (requests.Drop (codes "_t_ghc")); side = None; answer = answers.Ok 0; missed = None }
     ∷ []
 
-abbrev told_15 : Told
-told_15 =
+abbrev told_lost_drop : Told
+told_lost_drop =
     record {
       verdict = verdicts.Done;
       ended = (None ∷ Some (1, 1) ∷ []);
@@ -299,19 +299,19 @@ told_15 =
       replies = (((1, 1, (Some (replies.Ok 1))) ∷ [])) ∷ [];
     }
 
-worked_15 : IsWorked plan_15 journal_15 told_15
+worked_lost_drop : IsWorked plan_lost_drop journal_lost_drop told_lost_drop
 unfolding computing
-worked_15 = record { asks = refl; sessions = refl; answers = refl; sides = refl; struck = refl; verdict = refl; ended = refl; order = refl; left = refl; serial = refl; alone = refl; over = refl; online = refl; bounded = refl; replies = refl }
+worked_lost_drop = record { asks = refl; sessions = refl; answers = refl; sides = refl; struck = refl; verdict = refl; ended = refl; order = refl; left = refl; serial = refl; alone = refl; over = refl; online = refl; bounded = refl; replies = refl }
 
--- Row 16
-abbrev map_16 : List MapColumn
-map_16 = (record { kind = Int 4 false; nullable = false; origin = from.Old 0 } ∷ record { kind = Int 4 false; nullable = false; origin = from.Added (Num (pos 7)) } ∷ [])
+-- An open transaction keeps the one attempt from the table lock, which times out, and all is reverted.
+abbrev map_one_try : List MapColumn
+map_one_try = (record { kind = Int 4 false; nullable = false; origin = from.Old 0 } ∷ record { kind = Int 4 false; nullable = false; origin = from.Added (Num (pos 7)) } ∷ [])
 
-abbrev pub plan_16 : PlanData
-plan_16 = record { table = codes "t"; alter = (clauses.Add (record { name = codes "b"; kind = Int 4 false; nullable = (Some false); default = (Some (Num (pos 7))) }) Unsaid ∷ []); tables = (record { schema = record { name = codes "t"; columns = (record { name = codes "id"; kind = Int 4 false; nullable = false; default = None } ∷ []); uniques = (record { name = None; places = (0 ∷ []) } ∷ []); indexes = []; comment = [] }; rows = [] } ∷ []); clients = ((record { line = 1; word = words.Begin } ∷ record { line = 2; word = (words.Do (statements.Select (codes "t") shown.All conditions.All)) } ∷ record { line = 3; word = words.Commit } ∷ []) ∷ []); operator = []; faults = []; turns = (record { actor = Insp; times = 5 } ∷ record { actor = (Client 1); times = 2 } ∷ record { actor = Lock; times = 4 } ∷ []); options = record { chunk_size = 1000; dml_batch_size = 10; default_retries = 1; max_backlog = 100; drain_limit = 2000; client_wait = 20000; tool_wait = 2; max_load = 64; turn_limit = 200000; approve_renamed_columns = false; initially_drop_ghost_table = false; initially_drop_old_table = false; ok_to_drop_table = false; postpone = false; show_history = true; show_turns = true; show_tables = true; show_replies = true } }
+abbrev pub plan_one_try : PlanData
+plan_one_try = record { table = codes "t"; alter = (clauses.Add (record { name = codes "b"; kind = Int 4 false; nullable = (Some false); default = (Some (Num (pos 7))) }) Unsaid ∷ []); tables = (record { schema = record { name = codes "t"; columns = (record { name = codes "id"; kind = Int 4 false; nullable = false; default = None } ∷ []); uniques = (record { name = None; places = (0 ∷ []) } ∷ []); indexes = []; comment = [] }; rows = [] } ∷ []); clients = ((record { line = 1; word = words.Begin } ∷ record { line = 2; word = (words.Do (statements.Select (codes "t") shown.All conditions.All)) } ∷ record { line = 3; word = words.Commit } ∷ []) ∷ []); operator = []; faults = []; turns = (record { actor = Insp; times = 5 } ∷ record { actor = (Client 1); times = 2 } ∷ record { actor = Lock; times = 4 } ∷ []); options = record { chunk_size = 1000; dml_batch_size = 10; default_retries = 1; max_backlog = 100; drain_limit = 2000; client_wait = 20000; tool_wait = 2; max_load = 64; turn_limit = 200000; approve_renamed_columns = false; initially_drop_ghost_table = false; initially_drop_old_table = false; ok_to_drop_table = false; postpone = false; show_history = true; show_turns = true; show_tables = true; show_replies = true } }
 
-abbrev pub journal_16 : List Entry
-journal_16 =
+abbrev pub journal_one_try : List Entry
+journal_one_try =
     record { actor = Insp; session = 1; asked = Call requests.ShowTables; side = None; answer = answers.Tables (record { name = codes "t"; comment = [] } ∷ []); missed = None }
     ∷ record { actor = Insp; session = 1; asked = Call (requests.Create (record { name = codes "_t_ghc"; columns = (record { name = codes "id"; kind = Int 8 false; nullable = false; default = None } ∷ record { name = codes "hint"; kind = VarChar 64; nullable = false; default = None } ∷ record { name = codes "value"; kind = VarChar 255; nullable = false; default = None } ∷ []); uniques = (record { name = None; places = (0 ∷ []) } ∷ []); indexes = []; comment = [] })); side = None; answer = answers.Ok 0; missed = None }
     ∷ record { actor = Insp; session = 1; asked = Call (requests.Create (record { name = codes "_t_gho"; columns = (record { name = codes "id"; kind = Int 4 false; nullable = false; default = None } ∷ record { name = codes "b"; kind = Int 4 false; nullable = false; default = (Some (Num (pos 7))) } ∷ []); uniques = (record { name = None; places = (0 ∷ []) } ∷ []); indexes = []; comment = [] })); side = None; answer = answers.Ok 0; missed = None }
@@ -328,8 +328,8 @@ journal_16 =
     ∷ record { actor = Insp; session = 1; asked = Call (requests.Drop (codes "_t_del")); side = None; answer = answers.Ok 0; missed = None }
     ∷ []
 
-abbrev told_16 : Told
-told_16 =
+abbrev told_one_try : Told
+told_one_try =
     record {
       verdict = verdicts.Reverted (causes.Spent tasks.CutOver (11 ∷ []));
       ended = (Some (1, 1) ∷ []);
@@ -340,6 +340,6 @@ told_16 =
       replies = (((1, 1, (Some (replies.Ok 0))) ∷ (1, 2, (Some (replies.Rows []))) ∷ (1, 3, (Some (replies.Ok 0))) ∷ [])) ∷ [];
     }
 
-worked_16 : IsWorked plan_16 journal_16 told_16
+worked_one_try : IsWorked plan_one_try journal_one_try told_one_try
 unfolding computing
-worked_16 = record { asks = refl; sessions = refl; answers = refl; sides = refl; struck = refl; verdict = refl; ended = refl; order = refl; left = refl; serial = refl; alone = refl; over = refl; online = refl; bounded = refl; replies = refl }
+worked_one_try = record { asks = refl; sessions = refl; answers = refl; sides = refl; struck = refl; verdict = refl; ended = refl; order = refl; left = refl; serial = refl; alone = refl; over = refl; online = refl; bounded = refl; replies = refl }
