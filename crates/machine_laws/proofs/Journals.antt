@@ -138,16 +138,16 @@ module _ (plan : PlanData) (journal : List Entry) (entry : Entry) (is : IsTogeth
   -- A TURN OF THIS ACTOR
 
   -- the turn is about a request
-  about : (actor : Actor) (request : Request) → entry.actor ≡ actor → IsAbout request (has actor) entry.asked → IsAbout request (has entry.actor) entry.asked
+  pub about : (actor : Actor) (request : Request) → entry.actor ≡ actor → IsAbout request (has actor) entry.asked → IsAbout request (has entry.actor) entry.asked
   about actor request same is = subst (λ (a : Actor). IsAbout request (has a) entry.asked) (sym same) is
 
-  has_now : (actor : Actor) (request : Request) → entry.actor ≡ actor → IsAbout request (has actor) entry.asked → now_has actor ≡ answered request entry.answer (has actor)
+  pub has_now : (actor : Actor) (request : Request) → entry.actor ≡ actor → IsAbout request (has actor) entry.asked → now_has actor ≡ answered request entry.answer (has actor)
   has_now actor request same is_about = subst (λ (a : Actor). now_has a ≡ answered request entry.answer (has a)) same (own_stands plan journal entry is.known served request (about actor request same is_about))
 
   fits : (actor : Actor) (request : Request) → entry.actor ≡ actor → IsAbout request (has actor) entry.asked → answers_to request entry.answer ≡ true
   fits actor request same is_about = own_fits plan journal entry is.known served request (about actor request same is_about)
 
-  others_same : (actor : Actor) → entry.actor ≡ actor → (a : Actor) → same_actor actor a ≡ false → now_has a ≡ has a
+  pub others_same : (actor : Actor) → entry.actor ≡ actor → (a : Actor) → same_actor actor a ≡ false → now_has a ≡ has a
   others_same actor same a differ = others a (ap (λ (b : Actor). same_actor b a) same ∙ differ)
 
   some_not_none : (actor : Actor) (request : Request) → has actor ≡ free → (has actor).waits ≡ Some request → ⊥
@@ -165,7 +165,7 @@ module _ (plan : PlanData) (journal : List Entry) (entry : Entry) (is : IsTogeth
 
   -- THE COPIER
 
-  copy_about : (work : Work) → now.tool.course ≡ Migrating work → WorkStands journal (is_reverting now.tool.reason) has work → is_reverting now.tool.reason ≡ false → Asking plan journal Copy entry.asked
+  pub copy_about : (work : Work) → now.tool.course ≡ Migrating work → WorkStands journal (is_reverting now.tool.reason) has work → is_reverting now.tool.reason ≡ false → Asking plan journal Copy entry.asked
       → (P : Type 0) → ((request : Request) → IsAbout request (has Copy) entry.asked → copier_asks work.copier.step request ≡ true → P) → P
   copy_about work course at going (calls_so request asks idle call) P then =
       then request (is_called asks idle)
@@ -177,7 +177,7 @@ module _ (plan : PlanData) (journal : List Entry) (entry : Entry) (is : IsTogeth
     by (inl reverting) = going_not reverting going
     by (inr stands) = waits_asks (copier_asks work.copier.step) (has Copy).waits request stands.waits some
 
-  copier_had : (work : Work) → WorkStands journal (is_reverting now.tool.reason) has work → is_reverting now.tool.reason ≡ false → Stands (copier_asks work.copier.step) (copier_busy work.copier.step) [] (has Copy)
+  pub copier_had : (work : Work) → WorkStands journal (is_reverting now.tool.reason) has work → is_reverting now.tool.reason ≡ false → Stands (copier_asks work.copier.step) (copier_busy work.copier.step) [] (has Copy)
   copier_had work at going = by at.copier where
     by : (is_reverting now.tool.reason ≡ true) ⊎ Stands (copier_asks work.copier.step) (copier_busy work.copier.step) [] (has Copy) → Stands (copier_asks work.copier.step) (copier_busy work.copier.step) [] (has Copy)
     by (inl reverting) = going_not reverting going
@@ -196,13 +196,13 @@ module _ (plan : PlanData) (journal : List Entry) (entry : Entry) (is : IsTogeth
 
   -- THE APPLIER
 
-  applier_had : (work : Work) → WorkStands journal (is_reverting now.tool.reason) has work → is_reverting now.tool.reason ≡ false → ApplierStands journal work.applier (has Apply)
+  pub applier_had : (work : Work) → WorkStands journal (is_reverting now.tool.reason) has work → is_reverting now.tool.reason ≡ false → ApplierStands journal work.applier (has Apply)
   applier_had work at going = by at.applier where
     by : (is_reverting now.tool.reason ≡ true) ⊎ ApplierStands journal work.applier (has Apply) → ApplierStands journal work.applier (has Apply)
     by (inl reverting) = going_not reverting going
     by (inr stands) = stands
 
-  apply_about : (work : Work) → now.tool.course ≡ Migrating work → WorkStands journal (is_reverting now.tool.reason) has work → is_reverting now.tool.reason ≡ false → Asking plan journal Apply entry.asked
+  pub apply_about : (work : Work) → now.tool.course ≡ Migrating work → WorkStands journal (is_reverting now.tool.reason) has work → is_reverting now.tool.reason ≡ false → Asking plan journal Apply entry.asked
       → (P : Type 0) → ((request : Request) → IsAbout request (has Apply) entry.asked → applier_asks work.applier.step request ≡ true → P) → P
   unfolding appliers.next
   apply_about work course at going (calls_so request asks idle call) P then =

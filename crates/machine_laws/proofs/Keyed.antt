@@ -500,7 +500,7 @@ pub record IsKeyedRun (plan : PlanData) (journal : List Entry) (entry : Entry) :
   pub run : IsRun plan journal entry
   pub orderly : IsOrderly (state_at plan journal).tables
 
-keyed_more : (plan : PlanData) → IsFitting plan → (journal : List Entry) (entry : Entry) → IsKeyedRun plan journal entry → IsKeyedAll plan journal → IsKeyedAll plan (journal ++ entry ∷ [])
+pub keyed_more : (plan : PlanData) → IsFitting plan → (journal : List Entry) (entry : Entry) → IsKeyedRun plan journal entry → IsKeyedAll plan journal → IsKeyedAll plan (journal ++ entry ∷ [])
 keyed_more plan fit journal entry one is = record {
   tabled = tabled_more plan journal entry one.run is.tabled;
   waits = waits_more (KeyedAt plan) plan journal entry is.tabled.all is.waits one.run (λ request asks gives. called_keyed plan journal entry is.tabled is.waits is.course is.sized one.orderly one.run fit entry.actor request gives);
@@ -508,11 +508,11 @@ keyed_more plan fit journal entry one is = record {
   sized = operator_sized plan journal entry is.tabled is.waits is.course is.sized one.orderly one.run fit;
 }
 
-keyed_begins : (plan : PlanData) → IsFitting plan → TableStands plan → IsKeyedAll plan []
+pub keyed_begins : (plan : PlanData) → IsFitting plan → TableStands plan → IsKeyedAll plan []
 unfolding moment
 keyed_begins plan fit stands = record { tabled = tabled_begins plan fit stands; waits = waits_begin (KeyedAt plan) plan; course = tt; sized = fit.chunk }
 
-keyed_runs : (plan : PlanData) (before journal : List Entry) → Along (IsRun plan) before journal → Along (λ some entry. IsOrderly (state_at plan some).tables) before journal → Along (IsKeyedRun plan) before journal
+pub keyed_runs : (plan : PlanData) (before journal : List Entry) → Along (IsRun plan) before journal → Along (λ some entry. IsOrderly (state_at plan some).tables) before journal → Along (IsKeyedRun plan) before journal
 keyed_runs plan before [] runs orderly = tt
 keyed_runs plan before (entry ∷ journal) runs orderly = (record { run = runs.0; orderly = orderly.0 }, keyed_runs plan (before ++ entry ∷ []) journal runs.1 orderly.1)
 

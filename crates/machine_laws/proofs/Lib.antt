@@ -1,30 +1,30 @@
-mod Served
-mod Fitting
-mod Seated
-mod Copying
-mod Applying
-mod CuttingOver
-mod Lifting
-mod Turns
-mod Counting
-mod Asking
-mod Journals
-mod Clients
-mod ClientJournals
-mod Forming
-mod Calling
-mod Making
-mod Numbering
-mod Polling
-mod Schemas
-mod Tabling
-mod Spare
-mod Staying
-mod Keys
-mod Answering
-mod Keyed
-mod Whole
-mod Phases
-mod Renaming
-mod Marks
-mod Verdicts
+pub mod Served
+pub mod Fitting
+pub mod Seated
+pub mod Copying
+pub mod Applying
+pub mod CuttingOver
+pub mod Lifting
+pub mod Turns
+pub mod Counting
+pub mod Asking
+pub mod Journals
+pub mod Clients
+pub mod ClientJournals
+pub mod Forming
+pub mod Calling
+pub mod Making
+pub mod Numbering
+pub mod Polling
+pub mod Schemas
+pub mod Tabling
+pub mod Spare
+pub mod Staying
+pub mod Keys
+pub mod Answering
+pub mod Keyed
+pub mod Whole
+pub mod Phases
+pub mod Renaming
+pub mod Marks
+pub mod Verdicts

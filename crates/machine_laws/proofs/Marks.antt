@@ -79,11 +79,11 @@ tails_apart a b off front = by (bytes_eq (front ++ a) (front ++ b)) refl where
   by true same = let one : a ≡ b = append_cancel_left front a b (are_same (front ++ a) (front ++ b) same) in absurd (true≢false (sym (same_bytes a) ∙ ap (bytes_eq a) one ∙ off))
   by false same = refl
 
-ghost_not_old : (table : List ℕ) → bytes_eq (ghost_name table) (old_name table) ≡ false
+pub ghost_not_old : (table : List ℕ) → bytes_eq (ghost_name table) (old_name table) ≡ false
 unfolding ghost_name old_name
 ghost_not_old table = tails_apart (codes "_gho") (codes "_del") refl (codes "_" ++ table)
 
-ghost_not_log : (table : List ℕ) → bytes_eq (ghost_name table) (log_name table) ≡ false
+pub ghost_not_log : (table : List ℕ) → bytes_eq (ghost_name table) (log_name table) ≡ false
 unfolding ghost_name log_name
 ghost_not_log table = tails_apart (codes "_gho") (codes "_ghc") refl (codes "_" ++ table)
 
@@ -92,7 +92,7 @@ ghost_not_log table = tails_apart (codes "_gho") (codes "_ghc") refl (codes "_" 
 abbrev KeepsGhost : List ℕ → Request → Type 0
 KeepsGhost table request = keeps_table (ghost_name table) request ≡ true
 
-locker_keeps : (table : List ℕ) (hold : Hold) (phase : Phase) (request : Request) → LockerAsks table hold phase request → KeepsGhost table request
+pub locker_keeps : (table : List ℕ) (hold : Hold) (phase : Phase) (request : Request) → LockerAsks table hold phase request → KeepsGhost table request
 unfolding sentry_schema
 locker_keeps table hold phase request asks = by hold phase asks where
   makes_sentry : request ≡ requests.Create (sentry_schema table) → KeepsGhost table request
@@ -112,14 +112,14 @@ locker_keeps table hold phase request asks = by hold phase asks where
   by Locks (Ending clearing) is = one_of _ is refl
   by Locks phase is = absurd is
 
-first_keeps : (table : List ℕ) (left : Leftovers) → left.new_table ≡ false → KeepsGhost table (requests.Drop (first_name table left))
+pub first_keeps : (table : List ℕ) (left : Leftovers) → left.new_table ≡ false → KeepsGhost table (requests.Drop (first_name table left))
 first_keeps table left none = ap not (by left.log left.new_table none) where
   by : (a b : Bool) → b ≡ false → bytes_eq (ghost_name table) (cond a (log_name table) (cond b (ghost_name table) (old_name table))) ≡ false
   by true b is = ghost_not_log table
   by false true is = absurd (true≢false is)
   by false false is = ghost_not_old table
 
-inspector_keeps : (cutover : CutOver) (request : Request) → cutovers.next Inspector cutover ≡ Some request → IsUndone cutover.phase → KeepsGhost cutover.table request
+pub inspector_keeps : (cutover : CutOver) (request : Request) → cutovers.next Inspector cutover ≡ Some request → IsUndone cutover.phase → KeepsGhost cutover.table request
 unfolding cutovers.next
 inspector_keeps cutover request is undone = by cutover.phase is undone where
   ends : (b : Bool) (clearing : Cleared) → cond b (clears cutover.table clearing) None ≡ Some request → DropsOther (Ending clearing) → KeepsGhost cutover.table request
@@ -136,7 +136,7 @@ inspector_keeps cutover request is undone = by cutover.phase is undone where
   by Finished is undone = absurd cc
   by Resting is undone = absurd cc
 
-only_shows : (request : Request) (tables : List TableName) → serves_to request (answers.Tables tables) ≡ true → request ≡ requests.ShowTables
+pub only_shows : (request : Request) (tables : List TableName) → serves_to request (answers.Tables tables) ≡ true → request ≡ requests.ShowTables
 only_shows requests.ShowTables tables fits = refl
 only_shows request tables fits = absurd cc
 
@@ -225,7 +225,7 @@ poll_waits request answers.Lost old waited is = refl
 poll_waits request (answers.TimedOut time) old waited is = refl
 poll_waits request answer old waited is = refl
 
-insp_given : (plan : PlanData) (journal : List Entry) (asked : Asked) → given plan journal Insp ≡ Some asked → tool_asks plan journal (moment plan journal) Insp ≡ Some asked
+pub insp_given : (plan : PlanData) (journal : List Entry) (asked : Asked) → given plan journal Insp ≡ Some asked → tool_asks plan journal (moment plan journal) Insp ≡ Some asked
 unfolding given
 insp_given plan journal asked gives = gives
 
@@ -613,10 +613,10 @@ module _ (plan : PlanData) (journal : List Entry) (entry : Entry) (is : IsTabled
 
 -- WHOLE JOURNALS
 
-marking_more : (plan : PlanData) (journal : List Entry) (entry : Entry) → IsRun plan journal entry → IsMarking plan journal → IsMarking plan (journal ++ entry ∷ [])
+pub marking_more : (plan : PlanData) (journal : List Entry) (entry : Entry) → IsRun plan journal entry → IsMarking plan journal → IsMarking plan (journal ++ entry ∷ [])
 marking_more plan journal entry run is = record { tabled = tabled_more plan journal entry run is.tabled; agree = agree_more plan journal entry is.tabled is.agree run; course = marking_course plan journal entry is.tabled is.agree run is.course }
 
-marking_begins : (plan : PlanData) → IsFitting plan → TableStands plan → IsMarking plan []
+pub marking_begins : (plan : PlanData) → IsFitting plan → TableStands plan → IsMarking plan []
 unfolding moment live_session request_waiting
 marking_begins plan fit stands = record { tabled = tabled_begins plan fit stands; agree = λ a. refl; course = inr tt }
 

@@ -84,7 +84,7 @@ defaults_fit (column ∷ columns) all = (by column.default all.0.default, defaul
   by None is = tt
   by (Some value) is = is
 
-lawful_table : (schema : Schema) → IsLawful schema → IsOrderlyTable (record { schema = schema; rows = [] })
+pub lawful_table : (schema : Schema) → IsLawful schema → IsOrderlyTable (record { schema = schema; rows = [] })
 lawful_table schema is = record { keyed = lawful_keyed schema is; defaults = defaults_fit schema.columns is.columns; is_table = record { rows_fit = tt; ascends = tt; apart = tt } }
 
 -- WHAT IS ASKED

@@ -67,7 +67,7 @@ use Rattle.copy_laws.proofs.Served.{busy_face}
 -- THE SETUP'S CALLS
 
 -- each leaves the migrated table
-setup_keeps : (plan : PlanData) (setup : Setup) (request : Request) → setup_call plan setup ≡ Some request → keeps_table plan.table request ≡ true
+pub setup_keeps : (plan : PlanData) (setup : Setup) (request : Request) → setup_call plan setup ≡ Some request → keeps_table plan.table request ≡ true
 unfolding log_schema
 setup_keeps plan Listing request is = some_request (λ r. keeps_table plan.table r ≡ true) _ request is refl
 setup_keeps plan (Clearing left) request is = some_request (λ r. keeps_table plan.table r ≡ true) _ request is (rw (not_first plan.table left) refl)
@@ -128,7 +128,7 @@ behind request answers.Lost old = rests refl
 behind request (answers.TimedOut waited) old = rests refl
 behind request answer old = rests refl
 
-waits_copied : (turn : ℕ) (copier : Copier) (by : ℕ) → (copiers.took turn copier (answers.Waits by)).is_copied ≡ copier.is_copied
+pub waits_copied : (turn : ℕ) (copier : Copier) (by : ℕ) → (copiers.took turn copier (answers.Waits by)).is_copied ≡ copier.is_copied
 unfolding copiers.took
 waits_copied turn copier by = at copier.step where
   at : (step : CopyStep) → (copiers.after_answer turn copier step (answers.Waits by)).is_copied ≡ copier.is_copied
@@ -137,12 +137,12 @@ waits_copied turn copier by = at copier.step where
   at (copying.Copying chunk copied) = refl
   at (copying.Committing chunk) = refl
 
-lost_copied : (turn : ℕ) (copier : Copier) → (copiers.took turn copier answers.Lost).is_copied ≡ copier.is_copied
+pub lost_copied : (turn : ℕ) (copier : Copier) → (copiers.took turn copier answers.Lost).is_copied ≡ copier.is_copied
 unfolding copiers.took
 lost_copied turn copier = refl
 
 -- who has nothing has no work
-free_idle : (state : State) (n : ℕ) → standing_in state (Some n) ≡ free → has_work state n ≡ false
+pub free_idle : (state : State) (n : ℕ) → standing_in state (Some n) ≡ free → has_work state n ≡ false
 free_idle state n is =
     let busy : is_in_transaction (session_of n state.sessions) ≡ false = busy_face (session_of n state.sessions) ∙ ap (λ (s : Standing). s.busy) is in
     let locked : holds_tables (session_of n state.sessions) ≡ false = Rattle.machine_laws.proofs.Asking.unlocked_holds (session_of n state.sessions) (ap (λ (s : Standing). s.locked) is) in
@@ -347,7 +347,7 @@ module _ (plan : PlanData) (journal : List Entry) (entry : Entry) (is : AllToget
   -- THE COPIER
 
   -- once all is copied it isn't asked, but to roll back
-  copied_idle : (work : Work) → now.tool.course ≡ Migrating work → work.copier.is_copied ≡ true → (has Copy).waits ≡ None → Asking plan journal Copy entry.asked → (is_reverting now.tool.reason ≡ true) × IsAbout requests.Rollback (has Copy) entry.asked
+  pub copied_idle : (work : Work) → now.tool.course ≡ Migrating work → work.copier.is_copied ≡ true → (has Copy).waits ≡ None → Asking plan journal Copy entry.asked → (is_reverting now.tool.reason ≡ true) × IsAbout requests.Rollback (has Copy) entry.asked
   copied_idle work course on none (polls_so request asks some) = absurd (no (sym none ∙ some)) where
     no : None ≡ Some request → ⊥
     no same = cc
@@ -444,7 +444,7 @@ module _ (plan : PlanData) (journal : List Entry) (entry : Entry) (is : AllToget
   }
 
   -- while rows are left none of them is asked
-  work_stands : (work : Work) → now.tool.course ≡ Migrating work → WorkStands journal (is_reverting now.tool.reason) has work
+  pub work_stands : (work : Work) → now.tool.course ≡ Migrating work → WorkStands journal (is_reverting now.tool.reason) has work
   work_stands work course = subst (CourseStands journal has (is_reverting now.tool.reason)) course is.tool.stands
 
   none_some : (P : Type 0) (request : Request) (waits : Option Request) → waits ≡ None → waits ≡ Some request → P
@@ -452,14 +452,14 @@ module _ (plan : PlanData) (journal : List Entry) (entry : Entry) (is : AllToget
     no : None ≡ Some request → ⊥
     no both = cc
 
-  insp_none : (work : Work) → now.tool.course ≡ Migrating work → Uncopied plan before has work → Asking plan journal Insp entry.asked → ⊥
+  pub insp_none : (work : Work) → now.tool.course ≡ Migrating work → Uncopied plan before has work → Asking plan journal Insp entry.asked → ⊥
   unfolding cutovers.next
   insp_none work course at (polls_so request asks some) = none_some ⊥ request (has Insp).waits at.inspector some
   insp_none work course at (calls_so request asks idle call) = no (ap (cutovers.inspector_call work.cutover) (sym at.phase) ∙ ap (λ (c : Course). tool_call plan now.server journal now.tool c Insp) (sym course) ∙ call) where
     no : None ≡ Some request → ⊥
     no both = cc
 
-  ren_none : (work : Work) → now.tool.course ≡ Migrating work → Uncopied plan before has work → Asking plan journal Ren entry.asked → ⊥
+  pub ren_none : (work : Work) → now.tool.course ≡ Migrating work → Uncopied plan before has work → Asking plan journal Ren entry.asked → ⊥
   unfolding cutovers.next
   ren_none work course at (polls_so request asks some) =
       none_some ⊥ request (has Ren).waits (ap (λ (s : Standing). s.waits) ((work_stands work course).renamer ∙ ap (renaming work.cutover.table) at.renamer)) some
@@ -467,10 +467,10 @@ module _ (plan : PlanData) (journal : List Entry) (entry : Entry) (is : AllToget
     no : None ≡ Some request → ⊥
     no both = cc
 
-  lock_free : (work : Work) → now.tool.course ≡ Migrating work → Uncopied plan before has work → has Lock ≡ free
+  pub lock_free : (work : Work) → now.tool.course ≡ Migrating work → Uncopied plan before has work → has Lock ≡ free
   lock_free work course at = (work_stands work course).locker ∙ ap (held work.cutover.table) (subst (λ (p : Phase). PhaseHolds p work.cutover.hold) at.phase (work_stands work course).phase)
 
-  lock_none : (work : Work) → now.tool.course ≡ Migrating work → work.copier.is_copied ≡ false → Uncopied plan before has work → Asking plan journal Lock entry.asked → ⊥
+  pub lock_none : (work : Work) → now.tool.course ≡ Migrating work → work.copier.is_copied ≡ false → Uncopied plan before has work → Asking plan journal Lock entry.asked → ⊥
   lock_none work course off at (polls_so request asks some) = none_some ⊥ request (has Lock).waits (ap (λ (s : Standing). s.waits) (lock_free work course at)) some
   lock_none work course off at (calls_so request asks idle call) = no (ap (λ (c : Course). tool_call plan now.server journal now.tool c Lock) (sym course) ∙ call) where
     never : may_begin plan now.server now.tool work ≡ false
