@@ -89,7 +89,7 @@ ghost_not_log table = tails_apart (codes "_gho") (codes "_ghc") refl (codes "_" 
 
 -- WHO KEEPS THE NEW TABLE
 
-abbrev KeepsGhost : List ℕ → Request → Type 0
+abbrev pub KeepsGhost : List ℕ → Request → Type 0
 KeepsGhost table request = keeps_table (ghost_name table) request ≡ true
 
 pub locker_keeps : (table : List ℕ) (hold : Hold) (phase : Phase) (request : Request) → LockerAsks table hold phase request → KeepsGhost table request
@@ -210,7 +210,7 @@ module _ (plan : PlanData) (actor : Actor) (setup : Setup) (answer : Answer) whe
 
 -- WHAT THE JOURNAL SAYS OF WAITS
 
-abbrev Agrees : PlanData → List Entry → Type 0
+abbrev pub Agrees : PlanData → List Entry → Type 0
 Agrees plan journal = (a : Actor) → request_waiting journal a ≡ (standing_of plan journal a).waits
 
 call_waits : (request : Request) (answer : Answer) (old : Standing) (waited : Option Request) → waits_behind (Call request) answer waited ≡ (answered request answer old).waits
@@ -231,16 +231,16 @@ insp_given plan journal asked gives = gives
 
 -- WHAT HOLDS UNTIL THE MARK
 
-abbrev is_marked : PlanData → List Entry → Bool
+abbrev pub is_marked : PlanData → List Entry → Bool
 is_marked plan journal = list_any is_alter (history plan journal)
 
 -- the new table stands, the cut-over isn't done, and what the inspector waits with keeps the new table
 pub record Unmarked (plan : PlanData) (journal : List Entry) (work : Work) : Type 0 where
-  ghost : schema_of (ghost_name plan.table) (state_at plan journal).tables ≡ Some (ghost_schema plan)
-  undone : IsUndone work.cutover.phase
-  waits : (request : Request) → (standing_of plan journal Insp).waits ≡ Some request → KeepsGhost plan.table request
+  pub ghost : schema_of (ghost_name plan.table) (state_at plan journal).tables ≡ Some (ghost_schema plan)
+  pub undone : IsUndone work.cutover.phase
+  pub waits : (request : Request) → (standing_of plan journal Insp).waits ≡ Some request → KeepsGhost plan.table request
 
-abbrev IfUnmarked : PlanData → List Entry → Course → Type 0
+abbrev pub IfUnmarked : PlanData → List Entry → Course → Type 0
 IfUnmarked plan journal (SettingUp setup tries) = Unit {0}
 IfUnmarked plan journal (Migrating work) = Unmarked plan journal work
 
@@ -249,7 +249,7 @@ pub record IsMarking (plan : PlanData) (journal : List Entry) : Type 0 where
   pub agree : Agrees plan journal
   pub course : (is_marked plan journal ≡ true) ⊎ IfUnmarked plan journal (moment plan journal).tool.course
 
-history_more : (plan : PlanData) (journal : List Entry) (entry : Entry) → is_marked plan (journal ++ entry ∷ []) ≡ (is_marked plan journal || list_any is_alter (entry_adds plan journal entry))
+pub history_more : (plan : PlanData) (journal : List Entry) (entry : Entry) → is_marked plan (journal ++ entry ∷ []) ≡ (is_marked plan journal || list_any is_alter (entry_adds plan journal entry))
 unfolding history
 history_more plan journal entry = ap (list_any is_alter) (gathered-more (entry_adds plan) [] journal entry) ∙ list_any-append is_alter (gathered (entry_adds plan) [] journal) (entry_adds plan journal entry)
 

@@ -162,7 +162,7 @@ polled_same name state number request waits keeps = at (waiting_of number state.
 
 -- A NEW TABLE
 
-new_found : (name : List ℕ) (tables : Database) (new : TableRows) → has_table name tables ≡ false → is_named name new ≡ true → find_table name (tables ++ new ∷ []) ≡ Some new
+pub new_found : (name : List ℕ) (tables : Database) (new : TableRows) → has_table name tables ≡ false → is_named name new ≡ true → find_table name (tables ++ new ∷ []) ≡ Some new
 new_found name [] new none is = rw is refl
 new_found name (table ∷ tables) new none is = at (is_named name table) refl (new_found name tables new (nor_right (is_named name table) (has_table name tables) none) is) where
   at : (b : Bool) → is_named name table ≡ b → find_table name (tables ++ new ∷ []) ≡ Some new → cond b (Some table) (find_table name (tables ++ new ∷ [])) ≡ Some new

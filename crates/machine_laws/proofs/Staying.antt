@@ -104,7 +104,7 @@ word_may plan words.Rollback is = tt
 word_may plan (words.Do statement) is = far_other plan _ (client_far plan _ is)
 
 -- each line that a client has left is one of its script
-lines_named : (plan : PlanData) (journal : List Entry) (c : ℕ) → AllByRecursion (λ line. NamesTable (client_names plan) line.word) (client_at plan journal c).left
+pub lines_named : (plan : PlanData) (journal : List Entry) (c : ℕ) → AllByRecursion (λ line. NamesTable (client_names plan) line.word) (client_at plan journal c).left
 unfolding client_at
 lines_named plan journal c = along (new_client (unwrap_or (script_of c plan) [])) journal (script_lines plan c) where
   turn : (client : Reached) (entry : Entry) (b : Bool) → AllByRecursion (λ line. NamesTable (client_names plan) line.word) client.left → AllByRecursion (λ line. NamesTable (client_names plan) line.word) (cond b (client_after (became client entry) client) client).left
@@ -144,7 +144,7 @@ given_may plan journal Ren request fit gives = tool_given plan journal Ren reque
 
 -- WHAT COMES OUTSIDE A TRANSACTION
 
-rest_if : (busy : Bool) (request : Request) → (is_quiet request ≡ false → busy ≡ false) → AtRest busy (Some request)
+pub rest_if : (busy : Bool) (request : Request) → (is_quiet request ≡ false → busy ≡ false) → AtRest busy (Some request)
 rest_if busy (requests.Create schema) is = is refl
 rest_if busy (requests.Drop name) is = is refl
 rest_if busy (requests.Rename pairs) is = is refl
@@ -161,7 +161,7 @@ renaming_rests table true = refl
 renaming_rests table false = refl
 
 -- an actor that defines tables is in no transaction
-defines_out : (plan : PlanData) (journal : List Entry) (reverting : Bool) (course : Course) (actor : Actor) → CourseStands journal (standing_of plan journal) reverting course → may_define actor ≡ true → (standing_of plan journal actor).busy ≡ false
+pub defines_out : (plan : PlanData) (journal : List Entry) (reverting : Bool) (course : Course) (actor : Actor) → CourseStands journal (standing_of plan journal) reverting course → may_define actor ≡ true → (standing_of plan journal actor).busy ≡ false
 defines_out plan journal reverting (SettingUp setup tries) Insp at may = at.inspector.busy
 defines_out plan journal reverting (Migrating work) Insp at may = at.inspector.busy
 defines_out plan journal reverting (SettingUp setup tries) Lock at may = ap (λ (s : Standing). s.busy) at.locker
