@@ -44,6 +44,17 @@ connects told state after number tool behind fresh is made =
     let after_made : after.made ≡ number = ap (λ (s : State). s.made) same in
     rw dead (record { made = rw after_made (omega (arith, more)); same = same ∙ ap (λ (n : ℕ). numbered n (connected number tool told)) (sym after_made) })
 
+-- the one that is live stays the one that is opened, and a new one is the one that is opened
+pub opened_live : (state : State) (session : ℕ) (tool : Bool) → kind_of session state.sessions ≡ Some tool → state ≡ opens_if false tool session state
+unfolding opens_if
+opened_live state session tool kind = rw (kind_live (session_of session state.sessions) tool kind) refl
+
+pub opened_fresh : (state after : State) (number : ℕ) (tool : Bool) → ((k : ℕ) → state.made < k → kind_of k state.sessions ≡ None) → number ≡ state.made + 1 → after ≡ connected number tool state → after ≡ opens_if false tool number state
+unfolding opens_if
+opened_fresh state after number tool fresh is made =
+    let more : state.made < number = omega (arith, is) in
+    rw (none_live (session_of number state.sessions) (fresh number more)) made
+
 -- one that is lost again
 pub closes : (told state after : State) (session : ℕ) (tool : Bool) → kind_of session told.sessions ≡ None → is_waiting told session ≡ false → IsBehind (connected session tool told) state → after ≡ loses session state → IsBehind told after
 closes told state after session tool none idle behind is =
@@ -52,6 +63,10 @@ closes told state after session tool none idle behind is =
     let after_made : after.made ≡ state.made = ap (λ (s : State). s.made) same in
     let most : max told.made session ≤ state.made = behind.made in
     record { made = rw after_made (omega (arith, most)); same = same ∙ ap (λ (n : ℕ). numbered n told) (sym after_made) }
+
+pub made_lost : (state : State) (session : ℕ) → (loses session state).made ≡ state.made
+unfolding loses
+made_lost state session = refl
 
 -- a session that is live may be lost between calls
 pub may_lose : (state : State) (session : ℕ) → is_live state session ≡ true → MayLose state session None Cut
@@ -62,6 +77,11 @@ pub opens_ok : {E : Type 0} (r : Result ℕ E) (state after : State) (actor : Ac
     → IfOk r (λ number. (told : State) → IsBehind told state → IsSessionOf told actor None → IsBehind (opens_if false (not (is_client actor)) number told) after)
 opens_ok (Ok number) state after actor is made = λ told behind fresh. connects told state after number (not (is_client actor)) behind fresh is (made ∙ ap (λ (n : ℕ). connected n (not (is_client actor)) state) (sym is))
 opens_ok (Err e) state after actor is made = tt
+
+pub opened_ok : {E : Type 0} (r : Result ℕ E) (state after : State) (actor : Actor) → IfOk r (λ number. number ≡ state.made + 1) → OnOk r (after ≡ connected (state.made + 1) (not (is_client actor)) state)
+    → IfOk r (λ number. IsSessionOf state actor None → after ≡ opens_if false (not (is_client actor)) number state)
+opened_ok (Ok number) state after actor is made = λ fresh. opened_fresh state after number (not (is_client actor)) fresh is (made ∙ ap (λ (n : ℕ). connected n (not (is_client actor)) state) (sym is))
+opened_ok (Err e) state after actor is made = tt
 
 -- what a call that succeeds gives
 pub on_ok : {A E : Type 0} (r : Result A E) (P : Type 0) → OnOk r P → IsOk r → P

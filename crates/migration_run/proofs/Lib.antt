@@ -1,2 +1,4 @@
 pub mod Connecting
+pub mod Counted
+pub mod Results
 pub mod Weights

@@ -6,6 +6,7 @@ ghost use Rattle.plain_server.specs.States.{State, connected, is_live, is_waitin
 ghost use Rattle.journal_words.specs.Journals.{opens_if};
 ghost use Rattle.run_laws.specs.Counting.{IsBehind, kind_of};
 ghost use Rattle.migration_run.specs.Sessions.{IsSessionOf};
+ghost use Rattle.migration_run.specs.Turning.{session_for};
 
 use actor_seats::is_client;
 use plain_server::{Asked, Serve};
@@ -13,7 +14,7 @@ use script_text::Actor;
 use std::alloc::AllocError;
 
 /// The actor's session: the one that it has, else a new one.
-#[tactic(auto, using(crate::proofs::Connecting::goes_on, crate::proofs::Connecting::connects))]
+#[tactic(auto, using(crate::proofs::Connecting::goes_on, crate::proofs::Connecting::connects, crate::proofs::Connecting::opened_live, crate::proofs::Connecting::opened_fresh))]
 pub fn open_session<V: Serve>(
     server: &mut V,
     session: Option<u32>,
@@ -23,6 +24,8 @@ pub fn open_session<V: Serve>(
     ensures session { IfOk result (λ number. (told : State) → IsBehind told (V.state server.old) → IsSessionOf told actor session → IsBehind (opens_if false (not (is_client actor)) number told) (V.state server.new)) }
     ensures number { IfOk result (λ number. session ≡ None → number ≡ (V.state server.old).made + 1) }
     ensures own { IfOk result (λ number. (own : ℕ) → session ≡ Some own → number ≡ own) }
+    ensures next { IfOk result (λ number. number ≡ session_for session (V.state server.old).made) }
+    ensures opened { IfOk result (λ number. IsSessionOf (V.state server.old) actor session → V.state server.new ≡ opens_if false (not (is_client actor)) number (V.state server.old)) }
     ensures err { OnErr result (V.state server.new ≡ V.state server.old) }
 {
     match session {
@@ -35,7 +38,8 @@ pub fn open_session<V: Serve>(
 #[tactic(auto, using(crate::proofs::Connecting::closes, crate::proofs::Connecting::may_lose))]
 pub fn close_session<V: Serve>(server: &mut V, session: u32)
     requires { is_live (V.state server.old) session ≡ true }
-    ensures { (told : State) (is_tool : Bool) → kind_of session told.sessions ≡ None → is_waiting told session ≡ false → IsBehind (connected session is_tool told) (V.state server.old) → IsBehind told (V.state server.new) }
+    ensures made { (V.state server.new).made ≡ (V.state server.old).made }
+    ensures left { (told : State) (is_tool : Bool) → kind_of session told.sessions ≡ None → is_waiting told session ≡ false → IsBehind (connected session is_tool told) (V.state server.old) → IsBehind told (V.state server.new) }
 {
     match server.lose(session, None, &Asked::Cut) {
         Ok(_) => {}
