@@ -1,0 +1,8 @@
+use Rattle.std.proofs.Common.{◌≡◌, take}
+use Rattle.row_store.specs.Databases.{database}
+use Rattle.paged_tables.specs.PagedDatabases.{stored}
+use Rattle.paged_tables.proofs.copying.paged_tables.Given as goal
+
+-- the tables so far are made
+abbrev pub invariant-loop-place : goal.invariant-loop-place
+invariant-loop-place l = database (stored l.paged.items) ≡ database (take l.place l.tables)

@@ -1,0 +1,9 @@
+//! The database of the program: tables in pages, kept by name, by the contracts of `row_store`'s plain list.
+#![tactic(auto)]
+
+mod copying;
+mod finding;
+mod renaming;
+mod tables;
+
+pub use tables::Tables;
