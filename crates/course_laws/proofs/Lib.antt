@@ -1,0 +1,4 @@
+pub mod CopyAnswers
+pub mod CourseTurns
+pub mod Hearing
+pub mod Owners
