@@ -1,0 +1,4 @@
+mod Sparing
+mod Uncopied
+mod Sizes
+mod Onlines
