@@ -2,7 +2,6 @@
 use Rattle.std.proofs.Common.{◌≡◌, ℕ, Bool, true, false, not, List, [], ◌∷◌, ◌++◌, Option, Some, None, refl, sym, ap, ◌∙◌, subst}
 use Rattle.std.specs.Prelude.{◌==◌}
 use Rattle.event_codec.specs.declared.event.RowEvent.{RowEvent}
-use Rattle.row_locks.specs.declared.lock.Lock.{Lock}
 use Rattle.row_store.specs.Databases.{Database}
 use Rattle.script_text.specs.declared.actor.Side.{Side}
 use Rattle.script_text.specs.declared.actor.Side.TheVariants.{Before, After}
@@ -12,7 +11,6 @@ use Rattle.plain_server.specs.declared.entry.Asked.TheVariants.{Call, Poll, Cut,
 use Rattle.plain_server.specs.declared.entry.Entry.{Entry}
 use Rattle.plain_server.specs.declared.request.Request.{Request}
 use Rattle.plain_server.specs.declared.session.Limits.{Limits}
-use Rattle.plain_server.specs.declared.session.Session.{Session}
 use Rattle.plain_server.specs.declared.session.Waiting.{Waiting}
 use Rattle.plain_server.specs.Entries.{is_client, is_command, is_cut}
 use Rattle.plain_server.specs.Jobs.{after_events}

@@ -1,4 +1,5 @@
 pub mod Granted
+pub mod Leaves
 pub mod Others
 pub mod Moving
 pub mod Migrating

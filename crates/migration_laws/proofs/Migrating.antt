@@ -1,18 +1,16 @@
 -- Every turn of the migration, and every move between turns, keeps it standing; and the law over journals.
-use Rattle.std.proofs.Common.{◌≡◌, ◌<◌, ◌≤◌, ℕ, suc, ◌+◌, ◌-◌, Bool, true, false, cond, List, [], ◌∷◌, ◌++◌, drop, length, Some, None, refl, sym, ap, ◌∙◌, subst, arith}
+use Rattle.std.proofs.Common.{◌≡◌, ◌≤◌, ℕ, ◌+◌, Bool, true, false, cond, List, [], ◌∷◌, ◌++◌, drop, length, Some, None, refl, sym, ap, ◌∙◌, subst, arith}
 use Rattle.std.specs.Prelude.{◌==◌}
 use Rattle.std.specs.List.{slice_get}
 use Rattle.std.specs.Str.{bytes_eq}
 use Rattle.gho_schema.specs.Clustering.{clustered_place}
-use Rattle.event_codec.specs.declared.event.Change.{Change}
 use Rattle.event_codec.specs.declared.event.RowEvent.{RowEvent}
 use Rattle.plain_server.specs.declared.entry.Entry.{Entry}
 use Rattle.plain_server.specs.declared.session.Limits.{Limits}
 use Rattle.plain_server.specs.States.{State, opened}
 use Rattle.changelog_table.specs.ToolNames.{ghost_name}
 use Rattle.chunk_copier.specs.declared.copier.Copier.{Copier}
-use Rattle.chunk_copier.specs.declared.copier.CopyStep.{CopyStep}
-use Rattle.chunk_copier.specs.declared.copier.CopyStep.TheVariants.{Choosing, Spanning}
+use Rattle.chunk_copier.specs.declared.copier.CopyStep.TheVariants.{Choosing}
 use Rattle.event_applier.specs.declared.applier.Applier.{Applier}
 use Rattle.event_applier.specs.declared.applier.ApplyStep.{ApplyStep}
 use Rattle.event_applier.specs.declared.applier.ApplyStep.TheVariants.{Reading, Beginning, Applying, Committing}
@@ -55,7 +53,7 @@ use Rattle.apply_laws.proofs.Appliers.{appliers_keep}
 use Rattle.apply_laws.proofs.Knowing as knowing
 use Rattle.migration_laws.specs.Away.{OthersAway}
 use Rattle.migration_laws.specs.Laws.{JournalsAlter, MovesKeep, TurnsKeep}
-use Rattle.migration_laws.specs.Machines.{IsCut, IsMigrationEnd, IsMigrationStart, IsUnbusy, Machines, MigrationMove, MigrationRun, MigrationStands, MigrationTurn, StandsAway, Step, journal_behind, machines_behind, moment_at}
+use Rattle.migration_laws.specs.Machines.{IsCut, IsMigrationEnd, IsMigrationStart, IsUnbusy, Machines, MigrationRun, MigrationStands, MigrationTurn, StandsAway, Step, journal_behind, machines_behind, moment_at}
 use Rattle.migration_laws.specs.Machines.MigrationMove.{copier_moves, applier_moves, chunks_resize, span_resizes}
 use Rattle.migration_laws.specs.Machines.MigrationTurn.{copier_turns, applier_turns, others_turn, copier_is_cut, copier_is_idle, applier_is_cut, applier_is_idle}
 use Rattle.migration_laws.specs.Machines.Step.{Turned, Moved}
@@ -312,7 +310,7 @@ runs_keep m at rows place plan is_place finds named limits scene journal now (Mo
     runs_keep m at rows place plan is_place finds named limits scene journal next steps run turns.1 (moves_keep m at rows limits scene journal now next turns.0 was)
 
 -- the start
-starts : (m : Migration) (at : Clustered m.schema) (rows : List Row) → IsPlanned m rows → (limits : Limits) (scene : Scene) (journal : List Entry) (now : Machines) → IsMigrationStart m rows limits scene journal now → MigrationStands m at rows limits scene journal now
+pub starts : (m : Migration) (at : Clustered m.schema) (rows : List Row) → IsPlanned m rows → (limits : Limits) (scene : Scene) (journal : List Entry) (now : Machines) → IsMigrationStart m rows limits scene journal now → MigrationStands m at rows limits scene journal now
 starts m at rows plan limits scene journal now start =
     record {
       tool = record { stands = start_stands m at rows now.copier_session now.applier_session (moment_at m (scene_state limits scene journal) journal now) plan start.start; away = start.away };
@@ -345,7 +343,7 @@ unfolding planned own_changes
 no_plan m = refl
 
 -- the mark
-ends : (m : Migration) (at : Clustered m.schema) (rows : List Row) (place : ℕ) → IsPlanned m rows → clustered_place m.new ≡ Some place → (limits : Limits) (scene : Scene) (journal : List Entry) (now : Machines) → IsSceneRun limits scene journal → IsMigrationEnd m (scene_state limits scene journal) now
+pub ends : (m : Migration) (at : Clustered m.schema) (rows : List Row) (place : ℕ) → IsPlanned m rows → clustered_place m.new ≡ Some place → (limits : Limits) (scene : Scene) (journal : List Entry) (now : Machines) → IsSceneRun limits scene journal → IsMigrationEnd m (scene_state limits scene journal) now
     → MigrationStands m at rows limits scene journal now → IsAltered m (scene_state limits scene journal).tables
 ends m at rows place plan is_place limits scene journal now run end was =
     let state : State = scene_state limits scene journal in

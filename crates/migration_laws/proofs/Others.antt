@@ -1,88 +1,99 @@
 -- Other sessions' turns keep the tool standing.
-use Rattle.std.proofs.Common.{◌≡◌, ℕ, ◌+◌, Bool, true, false, cond, ◌||◌, List, [], ◌∷◌, ◌++◌, Option, Some, None, Result, Ok, Err, refl, sym, ap, ◌∙◌, subst}
+use Rattle.std.proofs.Common.{◌≡◌, ℕ, Bool, true, false, ◌||◌, List, [], ◌∷◌, ◌++◌, length, Option, Some, Result, Ok, Err, refl, sym, ap, ◌∙◌, subst}
 use Rattle.std.specs.Prelude.{◌==◌}
 use Rattle.std.specs.List.{AllByRecursion, list_any}
 use Rattle.std.specs.Str.{bytes_eq}
-use Rattle.std.proofs.lemmas.List.{append-nil}
 use Rattle.gho_schema.specs.declared.schema.Schema.{Schema}
 use Rattle.gho_schema.specs.Clustering.{clustered_place}
-use Rattle.event_codec.specs.declared.event.RowEvent.{RowEvent}
-use Rattle.row_locks.specs.declared.lock.Lock.{Lock}
-use Rattle.row_store.specs.Databases.{Database, TableRows, find_table, has_table, rename_tables, without_table}
+use Rattle.row_store.specs.Databases.{Database, find_table, has_table, rename_tables, without_table}
 use Rattle.row_store.specs.declared.renaming.NotRenamed.{NotRenamed}
 use Rattle.row_store.specs.declared.renaming.Pair.{Pair}
-use Rattle.script_text.specs.declared.actor.Side.{Side}
 use Rattle.plain_server.specs.declared.answer.Answer.{Answer}
-use Rattle.plain_server.specs.declared.answer.Answer.TheVariants as answers
-use Rattle.plain_server.specs.declared.entry.Asked.{Asked}
-use Rattle.plain_server.specs.declared.entry.Asked.TheVariants.{Cut}
 use Rattle.plain_server.specs.declared.entry.Entry.{Entry}
-use Rattle.plain_server.specs.declared.need.Need.{Need}
 use Rattle.plain_server.specs.declared.request.Request.{Request}
 use Rattle.plain_server.specs.declared.request.Request.TheVariants as requests
 use Rattle.plain_server.specs.declared.session.Limits.{Limits}
-use Rattle.plain_server.specs.Answers.{ok, refuses}
-use Rattle.plain_server.specs.Deeds.{Deed, all_stand, begins, created, deed, deed_within, defined, dropped, locks_if, nothing_needed, renamed_or}
-use Rattle.plain_server.specs.Deeds.Deed.{Rests, Grows, Writes, Forgets, Moves, Locks, Unlocks}
-use Rattle.plain_server.specs.Entries.{is_cut}
-use Rattle.plain_server.specs.Jobs.{Job, after_events, copy_job, job_needs, job_of, job_says, result_in, table_of}
-use Rattle.plain_server.specs.Locking.{need_within}
-use Rattle.plain_server.specs.Saying.{tells}
+use Rattle.plain_server.specs.Answers.{ok}
+use Rattle.plain_server.specs.Deeds.{created, dropped, renamed_or}
 use Rattle.plain_server.specs.States.{State, pair_names}
-use Rattle.journal_words.specs.Journals.{may_lose, opens}
-use Rattle.statement_laws.specs.Agreeing.{Within}
-use Rattle.statement_laws.specs.Covering.{Apart}
-use Rattle.statement_laws.specs.Databases.{IsOrderly, TaskSound}
-use Rattle.statement_laws.proofs.Points.{within-itself, within-left, within-right}
-use Rattle.statement_laws.proofs.Stables.{statement_sound}
-use Rattle.statement_laws.proofs.Tests.{are_one, same_number, turned_bytes}
+use Rattle.statement_laws.proofs.Tests.{are_one, turned_bytes}
 use Rattle.history_laws.specs.Scenes.{Besides, Scene, SessionHold, no_hold}
-use Rattle.history_laws.specs.Holdings.{face_of, stored}
-use Rattle.history_laws.specs.Turns.{IsSceneRun, IsTold, about, scene_state, told_at}
-use Rattle.history_laws.proofs.Answering.{apart_both}
-use Rattle.history_laws.proofs.Kept.{apart-turn}
+use Rattle.history_laws.specs.Holdings.{stored}
+use Rattle.history_laws.specs.Turns.{IsSceneRun, scene_state, told_at}
 use Rattle.history_laws.proofs.Moves.{behind_other, drop_moves, rename_moves}
-use Rattle.history_laws.proofs.Tooling.{copies_sound, names_two}
-use Rattle.history_laws.proofs.Words.{names_last, names_left}
 use Rattle.ghost_rows.specs.Moments.{Row}
 use Rattle.ghost_rows.specs.Timelines.{IsPlanned, Migration}
-use Rattle.ghost_laws.specs.Given.{IsGiven}
 use Rattle.ghost_laws.specs.Holding.{Clustered}
 use Rattle.ghost_laws.specs.Invariant.{IsServed, NotOf}
-use Rattle.ghost_laws.specs.Leaving.{DeedLeaves, deed_answer, is_lost, told_done, undone_hold, unless_lost, was_done, where_done, with_grant}
 use Rattle.ghost_laws.specs.Running.{ApplyPlan, ToolMoment, ToolStands, ToolTurn}
-use Rattle.ghost_laws.specs.Running.ToolTurn.{other_commits, other_does_single, other_goes_on}
+use Rattle.ghost_laws.specs.Running.ToolTurn.{other_goes_on}
 use Rattle.ghost_laws.specs.Tool.{CopyState}
-use Rattle.ghost_laws.proofs.Fitting.{orderly_events}
-use Rattle.ghost_laws.proofs.Leaving.{deeds_are_done, holds_of}
+use Rattle.ghost_laws.proofs.Leaving.{holds_of}
 use Rattle.ghost_laws.proofs.Running.{stands_over, turn_keeps}
-use Rattle.ghost_laws.proofs.Tooling.{tool_moves, tool_rests}
-use Rattle.ghost_laws.proofs.Turns.{along_next, run_front, writes_fit}
-use Rattle.ghost_laws.proofs.Undone.{cuts_are_left, deeds_answer, undone_is_left}
+use Rattle.ghost_laws.proofs.Tooling.{client_commits, tool_moves, tool_rests}
+use Rattle.ghost_laws.proofs.Turns.{run_front, writes_fit}
 use Rattle.copy_laws.specs.Copying.{moment_of}
-use Rattle.copy_laws.proofs.Rows.{not_of}
-use Rattle.copy_laws.proofs.Served.{Deeded, deeded, seen_of}
-use Rattle.copy_laws.proofs.Served.Deeded.{outside_so, within_so}
 use Rattle.migration_laws.specs.Away.{IsOther, IsOtherTurn, KeepsAway, OthersAway}
 use Rattle.migration_laws.specs.Laws.{OthersKeep}
 use Rattle.migration_laws.specs.Machines.{StandsAway}
-use Rattle.migration_laws.proofs.Granted.{needs_apart, nothing_asked}
+use Rattle.migration_laws.proofs.Leaves.{Cases, IsMoved, WritesAway, turn_leaves}
 
--- WHAT IS WRITTEN
+-- TABLES THAT MOVE
 
-not_both : (name : List ℕ) (a b : List RowEvent) → NotOf name a → NotOf name b → NotOf name (a ++ b)
-not_both name [] b one two = two
-not_both name (event ∷ a) b one two = (one.0, not_both name a b one.1 two)
+-- the table of this name stays where none of it is made, dropped or renamed
+abbrev pub LeavesName : List ℕ → Option Answer → Request → Type 0
+LeavesName name told (requests.Create schema) = bytes_eq name schema.name ≡ false
+LeavesName name told (requests.Drop dropped) = bytes_eq name dropped ≡ false
+LeavesName name told (requests.Rename pairs) = told ≡ Some ok → AllByRecursion (λ other. bytes_eq name other ≡ false) (pair_names pairs)
+LeavesName name told request = Unit {0}
 
-says_away : (name : List ℕ) (seen : Database) (job : Job) → bytes_eq job.table name ≡ false → NotOf name (job_says seen job).events
-unfolding job_says
-says_away name seen job differ = at (find_table job.table seen)
-  where
-    at : (found : Option TableRows) → NotOf name (result_in job found).events
-    at None = tt
-    at (Some table) = not_of name job.table (tells table.schema table.rows (job.work table.schema)).changes differ
+created_stays : (name : List ℕ) (schema : Schema) (b : Bool) (tables made : Database) → bytes_eq name schema.name ≡ false → created b schema tables ≡ Ok made → find_table name made ≡ find_table name tables
+created_stays name schema true tables made other is = absurd cc
+created_stays name schema false tables made other is = let same : tables ++ record { schema = schema; rows = [] } ∷ [] ≡ made = cc in ap (find_table name) (sym same) ∙ behind_other name tables _ (turned_bytes name schema.name other)
 
--- another session's turn
+or_none : (b : Bool) → b ≡ false → (b || false) ≡ false
+or_none b is = rw is refl
+
+dropped_stays : (name gone : List ℕ) (b : Bool) (tables made : Database) → bytes_eq name gone ≡ false → dropped b gone tables ≡ Ok made → find_table name made ≡ find_table name tables
+dropped_stays name gone true tables made other is = let same : without_table gone tables ≡ made = cc in ap (find_table name) (sym same) ∙ (drop_moves gone tables).others name (or_none (bytes_eq name gone) other)
+dropped_stays name gone false tables made other is = absurd cc
+
+none_named : (P : List ℕ → Bool) (names : List (List ℕ)) → AllByRecursion (λ name. P name ≡ false) names → list_any P names ≡ false
+none_named P [] all = refl
+none_named P (name ∷ names) all = rw (all.0, none_named P names all.1) refl
+
+renamed_stays : (name : List ℕ) (pairs : List Pair) (result : Result Database NotRenamed) (tables made : Database) → rename_tables pairs tables ≡ result → AllByRecursion (λ other. bytes_eq name other ≡ false) (pair_names pairs) → renamed_or result ≡ Ok made → find_table name made ≡ find_table name tables
+renamed_stays name pairs (Ok found) tables made done_so other is = let one : found ≡ made = cc in ap (find_table name) (sym one) ∙ (rename_moves pairs tables found done_so).others name (none_named (bytes_eq name) (pair_names pairs) other)
+renamed_stays name pairs (Err reason) tables made done_so other is = absurd cc
+
+pub moved_stays : (name : List ℕ) (told : Option Answer) (tables : Database) (request : Request) (made : Database) → LeavesName name told request → IsMoved told tables request made → find_table name made ≡ find_table name tables
+moved_stays name told tables (requests.Create schema) made leaves moved = created_stays name schema (has_table schema.name tables) tables made leaves moved
+moved_stays name told tables (requests.Drop gone) made leaves moved = dropped_stays name gone (has_table gone tables) tables made leaves moved
+moved_stays name told tables (requests.Rename pairs) made leaves moved = renamed_stays name pairs (rename_tables pairs tables) tables made refl (leaves moved.0) moved.1
+moved_stays name told tables request made leaves moved = absurd moved
+
+others_old : (m : Migration) (names : List (List ℕ)) → AllByRecursion (IsOther m) names → AllByRecursion (λ name. bytes_eq m.name name ≡ false) names
+others_old m [] all = tt
+others_old m (name ∷ names) all = (all.0.0, others_old m names all.1)
+
+others_new : (m : Migration) (names : List (List ℕ)) → AllByRecursion (IsOther m) names → AllByRecursion (λ name. bytes_eq m.new.name name ≡ false) names
+others_new m [] all = tt
+others_new m (name ∷ names) all = (all.0.1, others_new m names all.1)
+
+-- who keeps away leaves both
+leaves_both : (m : Migration) (told : Option Answer) (request : Request) → KeepsAway m told request → LeavesName m.name told request × LeavesName m.new.name told request
+leaves_both m told (requests.Create schema) away = away
+leaves_both m told (requests.Drop name) away = away
+leaves_both m told (requests.Rename pairs) away = ((λ done. others_old m (pair_names pairs) (away done)), λ done. others_new m (pair_names pairs) (away done))
+leaves_both m told request away = (tt, tt)
+
+writes_away : (m : Migration) (told : Option Answer) (request : Request) → KeepsAway m told request → WritesAway m request
+writes_away m told (requests.Do statement) away = away
+writes_away m told (requests.CopyRow from into map key) away = away
+writes_away m told request away = tt
+
+-- ANOTHER SESSION'S TURN
+
 module _ (m : Migration) (at : Clustered m.schema) (rows : List Row) (place : ℕ) (planned : IsPlanned m rows) (is_place : clustered_place m.new ≡ Some place) (limits : Limits) (scene : Scene) (journal : List Entry) (entry : Entry) (copy : CopyState) (plan : ApplyPlan) (position copier applier : ℕ)
     (more : IsSceneRun limits scene (journal ++ entry ∷ [])) (turn : IsOtherTurn m limits scene journal entry copier applier) (was : StandsAway m at rows copier applier (moment_of (scene_state limits scene journal) copy plan position)) where
   abbrev before : State
@@ -106,14 +117,8 @@ module _ (m : Migration) (at : Clustered m.schema) (rows : List Row) (place : �
   abbrev Goal : Type 0
   Goal = StandsAway m at rows copier applier then
 
-  run : IsSceneRun limits scene journal
-  run = run_front limits scene journal (entry ∷ []) more
-
-  entry_told : IsTold limits scene journal entry
-  entry_told = along_next (IsTold limits scene) [] journal entry [] more.told
-
   served : IsServed (stored before) (holds_of before)
-  served = writes_fit limits scene journal run
+  served = writes_fit limits scene journal (run_front limits scene journal (entry ∷ []) more)
 
   own_away : NotOf m.new.name own.writes
   own_away = was.away number turn.no_copier turn.no_applier
@@ -129,255 +134,43 @@ module _ (m : Migration) (at : Clustered m.schema) (rows : List Row) (place : �
   leads : ToolTurn m at rows place copier applier now then → ToolStands m at rows copier applier then
   leads one = turn_keeps m at rows place copier applier planned is_place now then served was.stands one
 
-  -- nothing is committed
-  goes_on : (held : SessionHold) → NotOf m.new.name held.writes → stored after ≡ stored before → Besides number (holds_of before) (holds_of after) held → Goal
-  goes_on held none same besides = record { stands = leads (other_goes_on number held turn.no_copier turn.no_applier besides same refl (refl, refl)); away = away_then held none besides }
-
-  lost_away : (b : Bool) (held : SessionHold) → NotOf m.new.name held.writes → NotOf m.new.name (unless_lost b held).writes
-  lost_away true held none = tt
-  lost_away false held none = none
-
-  -- a session that is lost between calls, and an entry about nothing
-  cut_goal : is_cut entry.asked ≡ true → may_lose entry.asked ≡ false → Goal
-  cut_goal is no_side = let left = cuts_are_left limits scene journal entry is (turn.sides no_side) in goes_on no_hold tt left.0 left.1
-
-  nothing_goal : about (opens entry before) number entry.asked ≡ None → is_cut entry.asked ≡ false → Goal
-  nothing_goal none uncut = let left = nothing_asked limits scene journal entry none uncut in goes_on (unless_lost (is_lost entry.side) own) (lost_away (is_lost entry.side) own own_away) left.stays left.besides
-
-  module _ (request : Request) (asked : about (opens entry before) number entry.asked ≡ Some request) (uncut : is_cut entry.asked ≡ false) where
-    -- what was not done
-    undone : told_done (told_at entry.side entry.answer entry.missed) ≡ false → Goal
-    undone none =
-        let left = undone_is_left limits scene journal entry request run entry_told uncut asked none in
-        goes_on (undone_hold entry.side entry.answer own) (held entry.side entry.answer) left.0 left.1
-      where
-        held : (side : Option Side) (answer : Answer) → NotOf m.new.name (undone_hold side answer own).writes
-        held None (answers.Waits by) = own_away
-        held None answer = tt
-        held (Some side) answer = tt
-
-    abbrev deed_now : Deed
-    deed_now = deed (where_done entry.asked number (opens entry before)) number request
-
-    abbrev lost : Bool
-    lost = is_lost entry.side
-
-    abbrev seen : Database
-    seen = seen_of before number
-
-    abbrev the_need : Need
-    the_need = need_within seen request
-
-    module _ (given : Answer) (told : told_at entry.side entry.answer entry.missed ≡ Some given) (done : was_done given ≡ true) where
-      left : DeedLeaves deed_now lost number (stored before) (stored after) (holds_of before) (holds_of after)
-      left = deeds_are_done limits scene journal entry request given run entry_told asked told done
-
-      says_so : given ≡ deed_answer deed_now
-      says_so = deeds_answer limits scene journal entry request given run entry_told asked told done
-
-      left_as : (one : Deed) → deed_now ≡ one → DeedLeaves one lost number (stored before) (stored after) (holds_of before) (holds_of after)
-      left_as one is = subst (λ (d : Deed). DeedLeaves d lost number (stored before) (stored after) (holds_of before) (holds_of after)) is left
-
-      by_rests : (answer : Answer) → deed_now ≡ Rests answer → Goal
-      by_rests answer is = let all = left_as (Rests answer) is in goes_on (unless_lost lost own) (lost_away lost own own_away) all.0 all.1
-
-      by_forgets : (answer : Answer) → deed_now ≡ Forgets answer → Goal
-      by_forgets answer is = let all = left_as (Forgets answer) is in goes_on no_hold tt all.0 all.1
-
-      by_locks : (answer : Answer) (names : List (List ℕ)) → deed_now ≡ Locks answer names → Goal
-      by_locks answer names is = let all = left_as (Locks answer names) is in goes_on (unless_lost lost own) (lost_away lost own own_away) all.0 all.1
-
-      by_unlocks : (answer : Answer) → deed_now ≡ Unlocks answer → Goal
-      by_unlocks answer is = let all = left_as (Unlocks answer) is in goes_on (unless_lost lost own) (lost_away lost own own_away) all.0 all.1
-
-      by_grows : (answer : Answer) (need : Need) (events : List RowEvent) → NotOf m.new.name events → deed_now ≡ Grows answer need events → Goal
-      by_grows answer need events none is =
-          let all = left_as (Grows answer need events) is in
-          goes_on (unless_lost lost (with_grant own need events)) (lost_away lost (with_grant own need events) (not_both m.new.name own.writes events own_away none)) all.0 all.1
-
-      -- what was written is committed
-      by_commit : (answer : Answer) → deed_now ≡ Writes answer [] → Goal
-      by_commit answer is =
-          let all = left_as (Writes answer []) is in
-          let tables : (stored after).tables ≡ after_events before.tables own.writes = all.0 ∙ ap (λ (w : List RowEvent). after_events before.tables w) (append-nil own.writes) in
-          let log : (stored after).log ≡ before.log ++ own.writes = all.1 ∙ ap (λ (w : List RowEvent). before.log ++ w) (append-nil own.writes) in
-          record {
-            stands = leads (other_commits number turn.no_copier turn.no_applier own_away (record { besides = all.2; tables = tables; log = log }) refl (refl, refl));
-            away = away_then no_hold tt all.2;
-          }
-
-      -- a job that is granted outside a transaction is committed at once
-      module _ (answer : Answer) (job : Job) (sound : TaskSound job seen) (named : list_any (bytes_eq job.table) (own.names ++ the_need.names) ≡ true) (needs_it : job_needs seen job ≡ the_need.locks) (other : bytes_eq job.table m.new.name ≡ false) (is : deed_now ≡ Writes answer (job_says seen job).events) where
-        abbrev single : SessionHold
-        single = with_grant own the_need (job_says seen job).events
-
-        abbrev middle : ℕ → SessionHold
-        middle n = cond (n == number) single (holds_of before n)
-
-        middle_there : (n : ℕ) → (n == number) ≡ false → middle n ≡ holds_of before n
-        middle_there n differ = rw differ refl
-
-        middle_here : middle number ≡ single
-        middle_here = rw (same_number number) refl
-
-        apart : (n : ℕ) → (n == number) ≡ false → Apart single.locks (holds_of before n).locks
-        apart n differ = apart_both own.locks the_need.locks (holds_of before n).locks (apart-turn (holds_of before n).locks own.locks (served.apart n number differ)) (needs_apart limits scene journal entry request given run entry_told asked told done n differ)
-
-        gives : IsGiven (stored before) (holds_of before) number job single
-        gives =
-            record {
-              kept = within-left own.locks own.locks the_need.locks (within-itself own.locks);
-              needed = subst (λ (l : List Lock). Within l (own.locks ++ the_need.locks)) (sym needs_it) (within-right the_need.locks own.locks the_need.locks (within-itself the_need.locks));
-              apart = apart;
-              wrote = refl;
-            }
-
-        single_away : NotOf m.new.name single.writes
-        single_away = not_both m.new.name own.writes (job_says seen job).events own_away (says_away m.new.name seen job other)
-
-        by_single : Goal
-        by_single =
-            let all = left_as (Writes answer (job_says seen job).events) is in
+  cases : Cases m limits scene journal entry more Goal
+  cases =
+      record {
+        holds = λ held none same besides. record { stands = leads (other_goes_on number held turn.no_copier turn.no_applier besides same refl (refl, refl)); away = away_then held none besides };
+        commits = λ middle held besides given none tables log last.
             record {
               stands =
-                  leads
-                  (other_does_single number middle single job turn.no_copier turn.no_applier sound gives (names_left own.names the_need.names) named (record { there = middle_there; here = middle_here }) (subst (λ (h : SessionHold). NotOf m.new.name h.writes) (sym middle_here) single_away)
-                  (record {
-                    besides = record { there = λ n differ. (all.2).there n differ ∙ sym (middle_there n differ); here = (all.2).here };
-                    tables = all.0 ∙ ap (λ (h : SessionHold). after_events before.tables h.writes) (sym middle_here);
-                    log = all.1 ∙ ap (λ (h : SessionHold). before.log ++ h.writes) (sym middle_here);
-                  }) refl (refl, refl));
-              away = away_then no_hold tt all.2;
-            }
-
-      -- tables are made, dropped or renamed
-      by_moves : (answer : Answer) (tables : Database) → find_table m.name tables ≡ find_table m.name before.tables → find_table m.new.name tables ≡ find_table m.new.name before.tables → deed_now ≡ Moves answer tables → Goal
-      by_moves answer tables old new is =
-          let all = left_as (Moves answer tables) is in
-          record {
-            stands =
-                stands_over m at rows copier applier now then (refl, refl)
-                (λ apply kept. record {
-                  progress = kept.progress;
-                  ghost = kept.ghost;
-                  here = kept.here;
-                  tool =
-                      tool_rests m at rows copy apply kept.progress kept.ghost copier applier number (stored after) (holds_of before) (holds_of after) (unless_lost lost own)
-                      (tool_moves m at rows copy apply kept.progress kept.ghost copier applier (stored before) (stored after) (holds_of before) kept.tool all.1 (ap (find_table m.name) all.0 ∙ old) (ap (find_table m.new.name) all.0 ∙ new)) turn.no_copier turn.no_applier all.2;
-                }) was.stands;
-            away = away_then (unless_lost lost own) (lost_away lost own own_away) all.2;
-          }
-
-      by_defined : (tables : Result Database ℕ) → ((all : Database) → tables ≡ Ok all → (find_table m.name all ≡ find_table m.name before.tables) × (find_table m.new.name all ≡ find_table m.new.name before.tables)) → deed_now ≡ defined tables → Goal
-      by_defined (Ok tables) stay is = by_moves ok tables (stay tables refl).0 (stay tables refl).1 is
-      by_defined (Err reason) stay is = by_rests (refuses reason) is
-
-      created_stays : (schema : Schema) (b : Bool) (tables all : Database) → IsOther m schema.name → tables ≡ before.tables → created b schema tables ≡ Ok all → (find_table m.name all ≡ find_table m.name before.tables) × (find_table m.new.name all ≡ find_table m.new.name before.tables)
-      created_stays schema true tables all other same is = absurd cc
-      created_stays schema false tables all other same is =
-          let made : tables ++ record { schema = schema; rows = [] } ∷ [] ≡ all = cc in (
-            ap (find_table m.name) (sym made) ∙ behind_other m.name tables _ (turned_bytes m.name schema.name other.0) ∙ ap (find_table m.name) same,
-            ap (find_table m.new.name) (sym made) ∙ behind_other m.new.name tables _ (turned_bytes m.new.name schema.name other.1) ∙ ap (find_table m.new.name) same,
-          )
-
-      or_none : (b : Bool) → b ≡ false → (b || false) ≡ false
-      or_none b is = rw is refl
-
-      dropped_stays : (name : List ℕ) (b : Bool) (tables all : Database) → IsOther m name → tables ≡ before.tables → dropped b name tables ≡ Ok all → (find_table m.name all ≡ find_table m.name before.tables) × (find_table m.new.name all ≡ find_table m.new.name before.tables)
-      dropped_stays name true tables all other same is =
-          let made : without_table name tables ≡ all = cc in (
-            ap (find_table m.name) (sym made) ∙ (drop_moves name tables).others m.name (or_none (bytes_eq m.name name) other.0) ∙ ap (find_table m.name) same,
-            ap (find_table m.new.name) (sym made) ∙ (drop_moves name tables).others m.new.name (or_none (bytes_eq m.new.name name) other.1) ∙ ap (find_table m.new.name) same,
-          )
-      dropped_stays name false tables all other same is = absurd cc
-
-      none_named : (P : List ℕ → Bool) (names : List (List ℕ)) → AllByRecursion (λ name. P name ≡ false) names → list_any P names ≡ false
-      none_named P [] all = refl
-      none_named P (name ∷ names) all = rw (all.0, none_named P names all.1) refl
-
-      others_old : (names : List (List ℕ)) → AllByRecursion (IsOther m) names → AllByRecursion (λ name. bytes_eq m.name name ≡ false) names
-      others_old [] all = tt
-      others_old (name ∷ names) all = (all.0.0, others_old names all.1)
-
-      others_new : (names : List (List ℕ)) → AllByRecursion (IsOther m) names → AllByRecursion (λ name. bytes_eq m.new.name name ≡ false) names
-      others_new [] all = tt
-      others_new (name ∷ names) all = (all.0.1, others_new names all.1)
-
-      renamed_stays : (pairs : List Pair) (result : Result Database NotRenamed) (tables all : Database) → rename_tables pairs tables ≡ result → AllByRecursion (IsOther m) (pair_names pairs) → tables ≡ before.tables → renamed_or result ≡ Ok all
-          → (find_table m.name all ≡ find_table m.name before.tables) × (find_table m.new.name all ≡ find_table m.new.name before.tables)
-      renamed_stays pairs (Ok made) tables all done_so other same is =
-          let one : made ≡ all = cc in (
-            ap (find_table m.name) (sym one) ∙ (rename_moves pairs tables made done_so).others m.name (none_named (bytes_eq m.name) (pair_names pairs) (others_old (pair_names pairs) other)) ∙ ap (find_table m.name) same,
-            ap (find_table m.new.name) (sym one) ∙ (rename_moves pairs tables made done_so).others m.new.name (none_named (bytes_eq m.new.name) (pair_names pairs) (others_new (pair_names pairs) other)) ∙ ap (find_table m.new.name) same,
-          )
-      renamed_stays pairs (Err reason) tables all done_so other same is = absurd cc
-
-      view_sound : (P : Database → Type 0) → ((d : Database) → IsOrderly d → P d) → P seen
-      view_sound P each = each seen (orderly_events before.tables own.writes served.orderly (served.fits number))
-
-      -- by what is asked
-      by_request : (asks : Request) → asks ≡ request → KeepsAway m (told_at entry.side entry.answer entry.missed) asks → (busy : Bool) (there : State) → there.tables ≡ before.tables → deed_now ≡ deed_within busy seen there asks → Goal
-      by_request requests.Begin asks away busy there same is = by_grows ok nothing_needed [] tt is
-      by_request requests.Commit asks away busy there same is = by_commit ok is
-      by_request requests.Rollback asks away busy there same is = by_forgets ok is
-      by_request (requests.Do statement) asks away true there same is = by_grows _ (need_within seen (requests.Do statement)) _ (says_away m.new.name seen (job_of statement) away) is
-      by_request (requests.Do statement) asks away false there same is =
-          by_single (job_says seen (job_of statement)).answer (job_of statement) (view_sound (λ d. TaskSound (job_of statement) d) (λ d orderly. statement_sound d statement orderly))
-          (subst (λ (r : Request). list_any (bytes_eq (table_of statement)) (own.names ++ (need_within seen r).names) ≡ true) asks (names_last own.names (table_of statement))) (ap (λ (r : Request). (need_within seen r).locks) asks) away is
-      by_request (requests.Ends table) asks away busy there same is = by_rests _ is
-      by_request (requests.ChunkEnd table low top size) asks away busy there same is = by_rests _ is
-      by_request (requests.BeginSpan table span size) asks away busy there same is = by_found (find_table table there.tables) is
-        where
-          by_found : (found : Option TableRows) → deed_now ≡ begins found span size (need_within seen (requests.BeginSpan table span size)) → Goal
-          by_found None so = by_rests _ so
-          by_found (Some t) so = by_grows _ (need_within seen (requests.BeginSpan table span size)) [] tt so
-      by_request (requests.CopyRow from into columns key) asks away true there same is = by_grows _ (need_within seen (requests.CopyRow from into columns key)) _ (says_away m.new.name seen (copy_job seen from into columns key) away) is
-      by_request (requests.CopyRow from into columns key) asks away false there same is =
-          by_single (job_says seen (copy_job seen from into columns key)).answer (copy_job seen from into columns key) (view_sound (λ d. TaskSound (copy_job d from into columns key) d) (λ d orderly. copies_sound d from into columns key orderly))
-          (subst (λ (r : Request). list_any (bytes_eq into) (own.names ++ (need_within seen r).names) ≡ true) asks (names_two own.names from into)) (ap (λ (r : Request). (need_within seen r).locks) asks) away is
-      by_request (requests.LockTables names) asks away busy there same is = by_all (all_stand names there.tables) is
-        where
-          by_all : (b : Bool) → deed_now ≡ locks_if b names → Goal
-          by_all true so = by_locks ok names so
-          by_all false so = by_rests _ so
-      by_request requests.Unlock asks away busy there same is = by_unlocks ok is
-      by_request (requests.Create schema) asks away busy there same is = by_defined (created (has_table schema.name there.tables) schema there.tables) (λ all so. created_stays schema (has_table schema.name there.tables) there.tables all away same so) is
-      by_request (requests.Drop name) asks away busy there same is = by_defined (dropped (has_table name there.tables) name there.tables) (λ all so. dropped_stays name (has_table name there.tables) there.tables all away same so) is
-      by_request (requests.Rename pairs) asks away busy there same is = by_result (rename_tables pairs there.tables) refl is
-        where
-          by_result : (result : Result Database NotRenamed) → rename_tables pairs there.tables ≡ result → deed_now ≡ defined (renamed_or result) → Goal
-          by_result (Ok made) made_so so = by_defined (Ok made) (λ all is_all. renamed_stays pairs (Ok made) there.tables all made_so (away (told ∙ ap (λ (a : Answer). Some a) (says_so ∙ ap deed_answer so))) same is_all) so
-          by_result (Err reason) made_so so = by_rests _ so
-      by_request requests.LogEnd asks away busy there same is = by_rests _ is
-      by_request (requests.ReadLog from limit tables) asks away busy there same is = by_rests _ is
-      by_request requests.ShowTables asks away busy there same is = by_rests _ is
-      by_request requests.ShowWaiting asks away busy there same is = by_rests _ is
-
-      done_goal : Goal
-      done_goal = by (deeded entry before request)
-        where
-          by : Deeded before number request deed_now → Goal
-          by (outside_so is) = by_rests (refuses 1100) is
-          by (within_so there same log is) = by_request request refl (turn.away request asked) (face_of before.sessions number).busy there same is
-
-    told_goal : (given : Option Answer) → told_at entry.side entry.answer entry.missed ≡ given → (b : Bool) → told_done given ≡ b → Goal
-    told_goal given told false none = undone (ap told_done told ∙ none)
-    told_goal None told true done = absurd (let no : false ≡ true = done in cc)
-    told_goal (Some given) told true done = done_goal given told done
-
-    asked_goal : Goal
-    asked_goal = told_goal (told_at entry.side entry.answer entry.missed) refl (told_done (told_at entry.side entry.answer entry.missed)) refl
-
-  uncut_goal : is_cut entry.asked ≡ false → (asks : Option Request) → about (opens entry before) number entry.asked ≡ asks → Goal
-  uncut_goal uncut None asked = nothing_goal asked uncut
-  uncut_goal uncut (Some request) asked = asked_goal request asked uncut
+                  stands_over m at rows copier applier now then (refl, refl)
+                  (λ apply kept. record {
+                    progress = record (kept.progress) { end = length (stored after).log };
+                    ghost = kept.ghost;
+                    here = kept.here;
+                    tool =
+                        client_commits m at rows copy apply kept.progress kept.ghost copier applier number (stored before) (stored after) middle (holds_of after) planned given
+                        (tool_rests m at rows copy apply kept.progress kept.ghost copier applier number (stored before) (holds_of before) middle held kept.tool turn.no_copier turn.no_applier besides) turn.no_copier turn.no_applier none last tables log;
+                  }) was.stands;
+              away = away_then no_hold tt (record { there = λ n differ. last.there n differ ∙ besides.there n differ; here = last.here });
+            };
+        moves = λ request tables held asked moved made log none besides.
+            let leaves = leaves_both m (told_at entry.side entry.answer entry.missed) request (turn.away request asked) in
+            record {
+              stands =
+                  stands_over m at rows copier applier now then (refl, refl)
+                  (λ apply kept. record {
+                    progress = kept.progress;
+                    ghost = kept.ghost;
+                    here = kept.here;
+                    tool =
+                        tool_rests m at rows copy apply kept.progress kept.ghost copier applier number (stored after) (holds_of before) (holds_of after) held
+                        (tool_moves m at rows copy apply kept.progress kept.ghost copier applier (stored before) (stored after) (holds_of before) kept.tool log (ap (find_table m.name) made ∙ moved_stays m.name _ before.tables request tables leaves.0 moved) (ap (find_table m.new.name) made ∙ moved_stays m.new.name _ before.tables request tables leaves.1 moved)) turn.no_copier turn.no_applier besides;
+                  }) was.stands;
+              away = away_then held none besides;
+            };
+      }
 
   goal : Goal
-  goal = by entry.asked refl
-    where
-      by : (asks : Asked) → entry.asked ≡ asks → Goal
-      by Cut is = cut_goal (ap is_cut is) (ap may_lose is)
-      by asks is = uncut_goal (ap is_cut is) (about (opens entry before) number entry.asked) refl
+  goal = turn_leaves m limits scene journal entry more turn.sides own_away (λ request asked. writes_away m (told_at entry.side entry.answer entry.missed) request (turn.away request asked)) Goal cases
 
 -- *Others keep the relation*
 pub others_keep : OthersKeep

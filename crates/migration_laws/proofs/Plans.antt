@@ -1,7 +1,6 @@
 -- What the law over journals asks of a migration holds of each migratable plan.
 use Rattle.gho_values.specs.Laws.{StoresAgain}
 use Rattle.alter_schema.specs.Altering.{altered}
-use Rattle.plain_server.specs.declared.entry.Entry.{Entry}
 use Rattle.history_laws.specs.Plans.{limits_of, scene_of}
 use Rattle.history_laws.proofs.PlanJournals.{plan_runs_are_scene_runs}
 use Rattle.ghost_rows.specs.Timelines.{IsPlanned, Migration}

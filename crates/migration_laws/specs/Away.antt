@@ -1,5 +1,5 @@
 -- Turns of sessions that are neither the copier's nor the applier's, and keep away from the new table.
-use Rattle.std.specs.Prelude.{◌≡◌, ℕ, ◌==◌, false, List, [], ◌∷◌, ◌++◌, Option, Some, None}
+use Rattle.std.specs.Prelude.{◌≡◌, ℕ, ◌==◌, false, List, Option, Some, None}
 use Rattle.std.specs.List.{AllByRecursion}
 use Rattle.std.specs.Str.{bytes_eq}
 use Rattle.plain_server.specs.declared.answer.Answer.{Answer}

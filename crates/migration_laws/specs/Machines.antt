@@ -1,5 +1,5 @@
 -- The copier and the applier beside all other sessions, over a journal's turns.
-use Rattle.std.specs.Prelude.{◌≡◌, ◌<◌, ◌≤◌, ℕ, ◌+◌, ◌==◌, true, false, List, [], ◌∷◌, ◌++◌, drop, length, Some, None}
+use Rattle.std.specs.Prelude.{◌≡◌, ◌<◌, ℕ, ◌+◌, ◌==◌, true, false, List, [], ◌∷◌, ◌++◌, drop, length, Some, None}
 use Rattle.plain_server.specs.declared.entry.Entry.{Entry}
 use Rattle.plain_server.specs.declared.outcome.Progress.TheVariants.{Unfit}
 use Rattle.plain_server.specs.declared.request.Request.{Request}
@@ -10,12 +10,11 @@ use Rattle.changelog_table.specs.ToolNames.{ghost_name}
 use Rattle.journal_words.specs.Journals.{opens}
 use Rattle.chunk_copier.specs.declared.copier.Copier.{Copier}
 use Rattle.chunk_copier.specs.declared.copier.CopyStep.{CopyStep}
-use Rattle.chunk_copier.specs.declared.copier.CopyStep.TheVariants.{Choosing, Spanning, Copying}
+use Rattle.chunk_copier.specs.declared.copier.CopyStep.TheVariants.{Choosing, Spanning}
 use Rattle.chunk_copier.specs.Copiers as copiers
 use Rattle.event_applier.specs.declared.applier.Applier.{Applier}
 use Rattle.event_applier.specs.declared.applier.ApplyStep.{ApplyStep}
 use Rattle.event_applier.specs.declared.applier.ApplyStep.TheVariants.{Reading, Applying}
-use Rattle.event_applier.specs.declared.applier.ApplyStep.TheVariants as steps
 use Rattle.event_applier.specs.Appliers.{events_of}
 use Rattle.event_applier.specs.Appliers as appliers
 use Rattle.history_laws.specs.Scenes.{Scene, SessionHold, no_hold}
