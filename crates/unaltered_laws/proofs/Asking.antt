@@ -8,6 +8,7 @@ use Rattle.script_text.specs.declared.actor.Actor.{Actor}
 use Rattle.script_text.specs.declared.actor.Actor.TheVariants.{Op, Insp, Copy, Apply, Lock, Ren, Client}
 use Rattle.script_text.specs.declared.script.ScriptWord.{ScriptWord}
 use Rattle.script_text.specs.declared.script.ScriptWord.TheVariants as words
+use Rattle.row_store.specs.declared.renaming.Pair.{Pair}
 use Rattle.plain_server.specs.declared.entry.Asked.TheVariants.{Call, Poll}
 use Rattle.plain_server.specs.declared.entry.Entry.{Entry}
 use Rattle.plain_server.specs.declared.request.Request.{Request}
@@ -16,7 +17,7 @@ use Rattle.plain_server.specs.Jobs.{table_of}
 use Rattle.plan_words.specs.PlanData.{PlanData}
 use Rattle.changelog_table.specs.ToolNames.{ghost_name, log_name, is_tool_name}
 use Rattle.journal_words.specs.Clients.{client_at, client_asks, word_asks}
-use Rattle.journal_words.specs.Histories.{takes_away}
+use Rattle.journal_words.specs.Histories.{renames_away, takes_away}
 use Rattle.journal_words.specs.Keeping.{words_of}
 use Rattle.journal_words.specs.Sessions.{live_session}
 use Rattle.chunk_copier.specs.declared.copier.Copier.{Copier}
@@ -60,7 +61,7 @@ use Rattle.machine_laws.proofs.Polling.{no_word}
 use Rattle.machine_laws.proofs.Staying.{lines_named}
 
 -- the inspector writes rows of the changelog, the copier and the applier of the new table; tables of the tool's are made and
--- dropped; and a RENAME takes the migrated table away
+-- dropped; and the RENAME is the exchange
 abbrev pub ToolCall : PlanData → Request → Actor → Type 0
 ToolCall plan (requests.Do statement) Insp = table_of statement ≡ log_name plan.table
 ToolCall plan (requests.Do statement) Apply = table_of statement ≡ ghost_name plan.table
@@ -69,7 +70,7 @@ ToolCall plan (requests.CopyRow from into map key) Copy = into ≡ ghost_name pl
 ToolCall plan (requests.CopyRow from into map key) actor = ⊥
 ToolCall plan (requests.Create schema) actor = is_tool_name plan.table schema.name ≡ true
 ToolCall plan (requests.Drop name) actor = is_tool_name plan.table name ≡ true
-ToolCall plan (requests.Rename pairs) actor = takes_away plan.table pairs ≡ true
+ToolCall plan (requests.Rename pairs) actor = requests.Rename pairs ≡ cutovers.exchange plan.table
 ToolCall plan request actor = Unit {0}
 
 -- what an actor asks, or waits with
@@ -209,7 +210,11 @@ rolled_rows plan actor true request is = some_request (RowCall plan actor) reque
 rolled_rows plan actor false request is = absurd cc
 
 exchange_rows : (plan : PlanData) (table : List ℕ) → table ≡ plan.table → RowCall plan Ren (cutovers.exchange table)
-exchange_rows plan table own = or_left (bytes_eq table plan.table) _ (ap (bytes_eq table) (sym own) ∙ same_bytes table)
+exchange_rows plan table own = ap cutovers.exchange own
+
+-- it takes the migrated table away
+pub exchange_takes : (table : List ℕ) (pairs : List Pair) → requests.Rename pairs ≡ cutovers.exchange table → takes_away table pairs ≡ true
+exchange_takes table pairs is = subst (λ (r : Request). renames_away table (Some r) ≡ true) (sym is) (or_left (bytes_eq table table) _ (same_bytes table))
 
 module _ (plan : PlanData) (journal : List Entry) where
   abbrev now : Moment

@@ -48,7 +48,7 @@ use Rattle.machine_laws.proofs.Seated.{IsServed, own_waiting}
 use Rattle.machine_laws.proofs.Staying.{defines_out, lawful_table, rest_if}
 use Rattle.machine_laws.proofs.Tabling.{QuietAt, given_quiet, may_define}
 use Rattle.unaltered_laws.specs.Laws.{IsUnaltered}
-use Rattle.unaltered_laws.proofs.Asking.{AskedAs, ToolCall, given_asked}
+use Rattle.unaltered_laws.proofs.Asking.{AskedAs, ToolCall, exchange_takes, given_asked}
 
 -- WHAT HOLDS BEHIND EVERY JOURNAL
 
@@ -143,7 +143,7 @@ module _ (plan : PlanData) (serial : IsSerialPlan plan) where
   tool_may (requests.CopyRow from into map key) (Client c) asks made = absurd asks
   tool_may (requests.Create schema) actor asks made = (tool_not_mine plan schema.name serial asks, lawful_table schema (made schema refl))
   tool_may (requests.Drop name) actor asks made = tool_not_mine plan name serial asks
-  tool_may (requests.Rename pairs) actor asks made = inr (refl, asks)
+  tool_may (requests.Rename pairs) actor asks made = inr (refl, exchange_takes plan.table pairs asks)
   tool_may request actor asks made = tt
 
 pub as_tool : (plan : PlanData) (actor : Actor) (request : Request) → is_client actor ≡ false → AskedAs plan actor request → ToolCall plan request actor
@@ -173,7 +173,7 @@ unaltered_entry plan front entry off = (none_or (list_any is_alter (histories.hi
 
 -- ONE TURN OF THE TOOL'S
 
-module _ (plan : PlanData) (serial : IsSerialPlan plan) (journal : List Entry) (entry : Entry) (fit : IsFitting plan) (is : IsKnownAsked plan journal) (run : IsRun plan journal entry) (off : IsUnaltered plan (journal ++ entry ∷ [])) (tool : is_client entry.actor ≡ false) where
+module _ (plan : PlanData) (serial : IsSerialPlan plan) (journal : List Entry) (entry : Entry) (fit : IsFitting plan) (is : IsKnownAsked plan journal) (run : IsRun plan journal entry) (tool : is_client entry.actor ≡ false) where
   abbrev now : State
   now = state_at plan journal
 
@@ -221,8 +221,20 @@ module _ (plan : PlanData) (serial : IsSerialPlan plan) (journal : List Entry) (
   rests_at Cut asks gives = rests_waiting (ap is_command asks) (request_waiting journal entry.actor) refl
   rests_at (Command word) asks gives = tt
 
+  -- where the RENAME, if it is done, exchanges the table
+  abbrev pub Exchanges : Type 0
+  Exchanges = told_in entry.asked entry.side entry.answer entry.missed ≡ Some ok → RenamesSo (scene_of plan []) now.tables (histories.about journal entry)
+
+  tool_away : Exchanges → IsAway plan journal entry
+  tool_away exchanges = record {
+    asks = asks_away entry.asked run.followed.given;
+    idle = asks_idle entry.asked refl run.followed.given;
+    rests = rests_at entry.asked refl run.followed.given;
+    exchanges = exchanges;
+  }
+
   -- a RENAME of the migrated table that was done is an ALTER
-  tool_adds : (actor : Actor) → is_client actor ≡ false → adds plan journal entry actor ≡ alters plan (histories.about journal entry) (told_in entry.asked entry.side entry.answer entry.missed)
+  pub tool_adds : (actor : Actor) → is_client actor ≡ false → adds plan journal entry actor ≡ alters plan (histories.about journal entry) (told_in entry.asked entry.side entry.answer entry.missed)
   tool_adds Op is = refl
   tool_adds Insp is = refl
   tool_adds Copy is = refl
@@ -231,34 +243,41 @@ module _ (plan : PlanData) (serial : IsSerialPlan plan) (journal : List Entry) (
   tool_adds Ren is = refl
   tool_adds (Client c) is = absurd (true≢false is)
 
+  -- what the turn is about is what its actor asks
+  pub about_asked : (request : Request) → histories.about journal entry ≡ Some request → ToolCall plan request entry.actor
+  about_asked request asked_so = as_tool plan entry.actor request tool (by entry.asked refl run.followed.given asked_so) where
+    by : (asked : Asked) → entry.asked ≡ asked → IsGiven plan journal entry asked → histories.asked_about asked (request_waiting journal entry.actor) ≡ Some request → AskedAs plan entry.actor request
+    by (Call called) asks gives same = let one : called ≡ request = cc in subst (AskedAs plan entry.actor) one (given_asked plan journal entry.actor called gives)
+    by Poll asks gives same = is.asks entry.actor request (sym (is.marking.agree entry.actor) ∙ same)
+    by Cut asks gives same = is.asks entry.actor request (sym (is.marking.agree entry.actor) ∙ same)
+    by (Command word) asks gives same = absurd cc
+
+pub keeps_away_so : (plan : PlanData) (serial : IsSerialPlan plan) (journal : List Entry) (entry : Entry) (fit : IsFitting plan) (is : IsKnownAsked plan journal) (run : IsRun plan journal entry) → ((tool : is_client entry.actor ≡ false) → Exchanges plan serial journal entry fit is run tool) → KeepsAway plan journal entry entry.actor
+keeps_away_so plan serial journal entry fit is run so = by entry.actor refl where
+  by : (actor : Actor) → entry.actor ≡ actor → KeepsAway plan journal entry actor
+  by (Client c) same = tt
+  by Op same = tool_away plan serial journal entry fit is run (ap is_client same) (so (ap is_client same))
+  by Insp same = tool_away plan serial journal entry fit is run (ap is_client same) (so (ap is_client same))
+  by Copy same = tool_away plan serial journal entry fit is run (ap is_client same) (so (ap is_client same))
+  by Apply same = tool_away plan serial journal entry fit is run (ap is_client same) (so (ap is_client same))
+  by Lock same = tool_away plan serial journal entry fit is run (ap is_client same) (so (ap is_client same))
+  by Ren same = tool_away plan serial journal entry fit is run (ap is_client same) (so (ap is_client same))
+
+-- UNTIL THE RENAME IS DONE
+
+module _ (plan : PlanData) (serial : IsSerialPlan plan) (journal : List Entry) (entry : Entry) (fit : IsFitting plan) (is : IsKnownAsked plan journal) (run : IsRun plan journal entry) (off : IsUnaltered plan (journal ++ entry ∷ [])) (tool : is_client entry.actor ≡ false) where
   pub never_away : (pairs : List Pair) → histories.about journal entry ≡ Some (requests.Rename pairs) → told_in entry.asked entry.side entry.answer entry.missed ≡ Some ok → takes_away plan.table pairs ≡ true → ⊥
   never_away pairs about told takes =
-      true≢false (sym alters_here ∙ ap (list_any is_alter) (sym (tool_adds entry.actor tool)) ∙ unaltered_entry plan journal entry off) where
+      true≢false (sym alters_here ∙ ap (list_any is_alter) (sym (tool_adds plan serial journal entry fit is run tool entry.actor tool)) ∙ unaltered_entry plan journal entry off) where
         alters_here : list_any is_alter (alters plan (histories.about journal entry) (told_in entry.asked entry.side entry.answer entry.missed)) ≡ true
         alters_here =
             ap (λ (r : Option Request). list_any is_alter (alters plan r (told_in entry.asked entry.side entry.answer entry.missed))) about
             ∙ ap (λ (t : Option Answer). list_any is_alter (alters plan (Some (requests.Rename pairs)) t)) told ∙ ap (λ (b : Bool). list_any is_alter (cond b (Alter ∷ []) [])) takes
 
-  renames_so : (asks : Option Request) → histories.about journal entry ≡ asks → told_in entry.asked entry.side entry.answer entry.missed ≡ Some ok → RenamesSo (scene_of plan []) now.tables asks
+  renames_so : (asks : Option Request) → histories.about journal entry ≡ asks → told_in entry.asked entry.side entry.answer entry.missed ≡ Some ok → RenamesSo (scene_of plan []) (state_at plan journal).tables asks
   renames_so None about told = tt
   renames_so (Some (requests.Rename pairs)) about told = λ may takes after renamed. absurd (never_away pairs about told takes)
   renames_so (Some request) about told = tt
 
-  tool_away : IsAway plan journal entry
-  tool_away = record {
-    asks = asks_away entry.asked run.followed.given;
-    idle = asks_idle entry.asked refl run.followed.given;
-    rests = rests_at entry.asked refl run.followed.given;
-    exchanges = renames_so (histories.about journal entry) refl;
-  }
-
 pub keeps_away : (plan : PlanData) → IsSerialPlan plan → (journal : List Entry) (entry : Entry) → IsFitting plan → IsKnownAsked plan journal → IsRun plan journal entry → IsUnaltered plan (journal ++ entry ∷ []) → KeepsAway plan journal entry entry.actor
-keeps_away plan serial journal entry fit is run off = by entry.actor refl where
-  by : (actor : Actor) → entry.actor ≡ actor → KeepsAway plan journal entry actor
-  by (Client c) same = tt
-  by Op same = tool_away plan serial journal entry fit is run off (ap is_client same)
-  by Insp same = tool_away plan serial journal entry fit is run off (ap is_client same)
-  by Copy same = tool_away plan serial journal entry fit is run off (ap is_client same)
-  by Apply same = tool_away plan serial journal entry fit is run off (ap is_client same)
-  by Lock same = tool_away plan serial journal entry fit is run off (ap is_client same)
-  by Ren same = tool_away plan serial journal entry fit is run off (ap is_client same)
+keeps_away plan serial journal entry fit is run off = keeps_away_so plan serial journal entry fit is run (λ tool. renames_so plan serial journal entry fit is run off tool (histories.about journal entry) refl)

@@ -34,7 +34,7 @@ unaltered_runs plan journal runs serial kept off = record {
   away = aways plan serial runs.fitting [] journal (all_runs plan [] journal kept.faithful kept.follows) (asked_begins plan runs) off;
 }
 
-none_counted : (items : List HistoryItem) → list_any is_alter items ≡ false → count_by is_alter items ≡ 0
+pub none_counted : (items : List HistoryItem) → list_any is_alter items ≡ false → count_by is_alter items ≡ 0
 none_counted [] off = refl
 none_counted (item ∷ items) off = by (is_alter item) refl off (none_counted items) where
   by : (b : Bool) → is_alter item ≡ b → (b || list_any is_alter items) ≡ false → (list_any is_alter items ≡ false → count_by is_alter items ≡ 0) → count_by is_alter (item ∷ items) ≡ 0
