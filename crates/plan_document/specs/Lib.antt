@@ -1,0 +1,6 @@
+pub mod Clients
+pub mod Openings
+pub mod Orders
+pub mod Plans
+pub mod Refusals
+pub mod Running

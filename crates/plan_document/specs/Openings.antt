@@ -1,0 +1,63 @@
+-- *Opening* of a plan: the tables that stand before the migration, the ALTER, and what it makes of the migrated table. This
+-- project's rule, and gh-ost's where it has the option.
+use Rattle.std.specs.Prelude.{ℕ, Bool, not, ◌&&◌, ◌||◌, if◌then◌else◌, List, Result, Ok, Err}
+use Rattle.std.specs.List.{list_any}
+use Rattle.std.specs.Str.{bytes_eq}
+use Rattle.alter_image.specs.declared.clause.Clause.{Clause}
+use Rattle.gho_schema.specs.declared.schema.Schema.{Schema}
+use Rattle.row_store.specs.Databases.{Database, TableRows, find_table}
+use Rattle.schema_rules.specs.Results.{◌>>=◌}
+use Rattle.alter_schema.specs.Altering.{altered}
+use Rattle.alter_text.specs.Reading.{alter_at}
+use Rattle.changelog_table.specs.ToolNames.{ghost_name, old_name}
+use Rattle.changelog_table.specs.ToolTables.{sentry_comment}
+use Rattle.plan_words.specs.declared.options.Options.{Options}
+use Rattle.plan_words.specs.PlanData.{Altered}
+use Rattle.plan_keys.specs.PlanKeys.{KeyData}
+use Rattle.plan_tables.specs.Tables.{tables_of}
+use Rattle.plan_document.specs.declared.fault.PlanRefusal.{PlanRefusal}
+use Rattle.plan_document.specs.declared.fault.PlanRefusal.TheVariants.{NoTable, Leftover}
+use Rattle.plan_document.specs.Refusals.{of_tables, of_alter, or_refused}
+
+-- the opening tables, the clauses of the ALTER, and what they make of the migrated table
+pub record OpeningData : Type 0 where
+  pub tables : Database
+  pub alter : List Clause
+  pub new : Altered
+
+-- ---- what an earlier run left
+
+-- A new table that an earlier run left, where it may not be dropped (gh-ost, `--initially-drop-ghost-table`).
+abbrev pub is_left_ghost : List ℕ → Options → Schema → Bool
+is_left_ghost migrated options schema = bytes_eq schema.name (ghost_name migrated) && not options.initially_drop_ghost_table
+
+-- An old table that an earlier run left, where it may not be dropped (gh-ost, `--initially-drop-old-table`). An earlier
+-- run's sentry, which its comment tells, is always dropped.
+abbrev pub is_left_old : List ℕ → Options → Schema → Bool
+is_left_old migrated options schema =
+    bytes_eq schema.name (old_name migrated) && not options.initially_drop_old_table && not (bytes_eq schema.comment sentry_comment)
+
+-- one of the tables is left, and may not be dropped; a changelog is always dropped
+abbrev pub has_leftover : List ℕ → Options → Database → Bool
+has_leftover migrated options tables = list_any (λ table. is_left_ghost migrated options table.schema || is_left_old migrated options table.schema) tables
+
+-- the tables, none of which is left without being allowed to
+abbrev pub without_leftovers : List ℕ → Options → Database → Result Database PlanRefusal
+without_leftovers migrated options tables = if has_leftover migrated options tables then Err Leftover else Ok tables
+
+-- ---- the opening
+
+-- the table to migrate
+abbrev pub migrated_in : List ℕ → Database → Result TableRows PlanRefusal
+migrated_in migrated tables = or_refused NoTable (find_table migrated tables)
+
+-- *Opening*: the tables are refused first, then that the one to migrate isn't there, then one that is left, then the text of
+-- the ALTER, then what it would make of the table.
+unfoldable pub opening_of : KeyData → Result OpeningData PlanRefusal
+opening_of keys = do
+  tables ← of_tables (tables_of keys.texts.table keys.texts.tables)
+  table ← migrated_in keys.texts.table tables
+  tables ← without_leftovers keys.texts.table keys.options tables
+  clauses ← of_alter (alter_at keys.texts.table keys.texts.alter)
+  new ← of_alter (altered keys.options.approve_renamed_columns table.schema clauses)
+  Ok (record { tables = tables; alter = clauses; new = new })
