@@ -1,5 +1,5 @@
 -- *Clients* of a plan: a script a client, or the first line that is refused. This project's rule.
-use Rattle.std.specs.Prelude.{ℕ, ◌+◌, ◌-◌, ◌^◌, min, Bool, true, false, not, ◌&&◌, ◌||◌, nat_lt, if◌then◌else◌, List, [], ◌∷◌, Result, Ok, Err}
+use Rattle.std.specs.Prelude.{ℕ, Bool, true, false, not, ◌&&◌, ◌||◌, nat_lt, if◌then◌else◌, List, [], ◌∷◌, Result, Ok, Err}
 use Rattle.std.specs.List.{count_by, sum_by}
 use Rattle.schema_rules.specs.Results.{◌>>=◌}
 use Rattle.changelog_table.specs.ToolNames.{ghost_name, log_name, old_name}
@@ -18,6 +18,7 @@ use Rattle.plan_document.specs.declared.limits.TheConstants.{STATEMENT_LIMIT, OP
 use Rattle.plan_document.specs.declared.fault.PlanRefusal.{PlanRefusal}
 use Rattle.plan_document.specs.declared.fault.PlanRefusal.TheVariants.{Keys}
 use Rattle.plan_document.specs.Refusals.{of_script}
+use Rattle.plan_document.specs.Walks.{each_from}
 
 -- ---- how many statements there are
 
@@ -67,17 +68,12 @@ few_statements scripts = if has_many_statements scripts then Err (Keys TooMany) 
 
 -- ---- the scripts
 
--- clients count from 1 (and stand still at the greatest number of 32 bits)
-abbrev pub next_client : ℕ → ℕ
-next_client client = min (client + 1) (2 ^ 32 - 1)
+-- the script of the client of this number, where these are the tool's tables
+abbrev pub client_script : List (List ℕ) → ℕ → List ℕ → Result (List ScriptLine) PlanRefusal
+client_script tools client text = of_script client (script_of tools text)
 
--- the scripts of the clients from here on, where these are the tool's tables
-unfoldable pub scripts_from : List (List ℕ) → ℕ → List (List ℕ) → Result (List (List ScriptLine)) PlanRefusal
-scripts_from tools client [] = Ok []
-scripts_from tools client (text ∷ texts) = do
-  script ← of_script client (script_of tools text)
-  others ← scripts_from tools (next_client client) texts
-  Ok (script ∷ others)
+abbrev pub scripts_of : List (List ℕ) → List (List ℕ) → Result (List (List ScriptLine)) PlanRefusal
+scripts_of tools texts = each_from (client_script tools) 1 texts
 
 -- the names of the tool's tables, which no client may name
 abbrev pub tool_names : List ℕ → List (List ℕ)
@@ -85,4 +81,4 @@ tool_names migrated = ghost_name migrated ∷ log_name migrated ∷ old_name mig
 
 -- *Clients*: each script is read first, and only then it is counted how many statements there are.
 unfoldable pub clients_of : List ℕ → List (List ℕ) → Result (List (List ScriptLine)) PlanRefusal
-clients_of migrated texts = scripts_from (tool_names migrated) 1 texts >>= few_statements
+clients_of migrated texts = scripts_of (tool_names migrated) texts >>= few_statements

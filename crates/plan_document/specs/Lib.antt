@@ -4,3 +4,4 @@ pub mod Orders
 pub mod Plans
 pub mod Refusals
 pub mod Running
+pub mod Walks

@@ -1,11 +1,10 @@
 -- *Opening* of a plan: the tables that stand before the migration, the ALTER, and what it makes of the migrated table. This
 -- project's rule, and gh-ost's where it has the option.
-use Rattle.std.specs.Prelude.{ℕ, Bool, not, ◌&&◌, ◌||◌, if◌then◌else◌, List, Result, Ok, Err}
-use Rattle.std.specs.List.{list_any}
+use Rattle.std.specs.Prelude.{ℕ, Bool, not, ◌&&◌, ◌||◌, if◌then◌else◌, false, List, Option, Some, None, Result, Ok, Err}
 use Rattle.std.specs.Str.{bytes_eq}
 use Rattle.alter_image.specs.declared.clause.Clause.{Clause}
 use Rattle.gho_schema.specs.declared.schema.Schema.{Schema}
-use Rattle.row_store.specs.Databases.{Database, TableRows, find_table}
+use Rattle.row_store.specs.Databases.{Database, TableRows, find_table, has_table, database}
 use Rattle.schema_rules.specs.Results.{◌>>=◌}
 use Rattle.alter_schema.specs.Altering.{altered}
 use Rattle.alter_text.specs.Reading.{alter_at}
@@ -17,6 +16,7 @@ use Rattle.plan_keys.specs.PlanKeys.{KeyData}
 use Rattle.plan_tables.specs.Tables.{tables_of}
 use Rattle.plan_document.specs.declared.fault.PlanRefusal.{PlanRefusal}
 use Rattle.plan_document.specs.declared.fault.PlanRefusal.TheVariants.{NoTable, Leftover}
+use Rattle.plan_document.specs.declared.openings.Opening.{Opening}
 use Rattle.plan_document.specs.Refusals.{of_tables, of_alter, or_refused}
 
 -- the opening tables, the clauses of the ALTER, and what they make of the migrated table
@@ -27,23 +27,22 @@ pub record OpeningData : Type 0 where
 
 -- ---- what an earlier run left
 
--- A new table that an earlier run left, where it may not be dropped (gh-ost, `--initially-drop-ghost-table`).
-abbrev pub is_left_ghost : List ℕ → Options → Schema → Bool
-is_left_ghost migrated options schema = bytes_eq schema.name (ghost_name migrated) && not options.initially_drop_ghost_table
+-- A new table that an earlier run left stands, and may not be dropped (gh-ost, `--initially-drop-ghost-table`).
+abbrev pub has_left_ghost : List ℕ → Options → Database → Bool
+has_left_ghost migrated options tables = has_table (ghost_name migrated) tables && not options.initially_drop_ghost_table
 
--- An old table that an earlier run left, where it may not be dropped (gh-ost, `--initially-drop-old-table`). An earlier
--- run's sentry, which its comment tells, is always dropped.
-abbrev pub is_left_old : List ℕ → Options → Schema → Bool
-is_left_old migrated options schema =
-    bytes_eq schema.name (old_name migrated) && not options.initially_drop_old_table && not (bytes_eq schema.comment sentry_comment)
+-- a table stands that is no earlier run's sentry, which its comment would tell
+abbrev pub is_no_sentry : Option TableRows → Bool
+is_no_sentry None = false
+is_no_sentry (Some table) = not (bytes_eq table.schema.comment sentry_comment)
 
--- one of the tables is left, and may not be dropped; a changelog is always dropped
-abbrev pub has_leftover : List ℕ → Options → Database → Bool
-has_leftover migrated options tables = list_any (λ table. is_left_ghost migrated options table.schema || is_left_old migrated options table.schema) tables
+-- An old table that an earlier run left stands, and may not be dropped (gh-ost, `--initially-drop-old-table`).
+abbrev pub has_left_old : List ℕ → Options → Database → Bool
+has_left_old migrated options tables = is_no_sentry (find_table (old_name migrated) tables) && not options.initially_drop_old_table
 
--- the tables, none of which is left without being allowed to
+-- The tables, where the tool may drop what an earlier run left. (It always drops a changelog and a sentry.)
 abbrev pub without_leftovers : List ℕ → Options → Database → Result Database PlanRefusal
-without_leftovers migrated options tables = if has_leftover migrated options tables then Err Leftover else Ok tables
+without_leftovers migrated options tables = if has_left_ghost migrated options tables || has_left_old migrated options tables then Err Leftover else Ok tables
 
 -- ---- the opening
 
@@ -61,3 +60,7 @@ opening_of keys = do
   clauses ← of_alter (alter_at keys.texts.table keys.texts.alter)
   new ← of_alter (altered keys.options.approve_renamed_columns table.schema clauses)
   Ok (record { tables = tables; alter = clauses; new = new })
+
+-- what the code found, seen as that
+abbrev pub opening_data : Opening → OpeningData
+opening_data opening = record { tables = database opening.tables; alter = opening.alter; new = (opening.new.schema, opening.new.map) }

@@ -1,6 +1,6 @@
 -- *Orders* of a plan: what the operator commands, which sessions are lost, and whose turns are asked for. This project's
 -- rule.
-use Rattle.std.specs.Prelude.{ℕ, ◌+◌, ◌-◌, ◌^◌, min, Bool, ◌||◌, nat_lt, if◌then◌else◌, List, [], ◌∷◌, Result, Ok, Err}
+use Rattle.std.specs.Prelude.{ℕ, Bool, ◌||◌, nat_lt, if◌then◌else◌, List, Result, Ok, Err}
 use Rattle.schema_rules.specs.Results.{◌>>=◌}
 use Rattle.script_text.specs.declared.loss.Loss.{Loss}
 use Rattle.script_text.specs.declared.operator.Command.{Command}
@@ -14,7 +14,9 @@ use Rattle.plan_keys.specs.PlanKeys.{KeyData}
 use Rattle.plan_document.specs.declared.limits.TheConstants.{COMMAND_LIMIT, ORDER_LIMIT}
 use Rattle.plan_document.specs.declared.fault.PlanRefusal.{PlanRefusal}
 use Rattle.plan_document.specs.declared.fault.PlanRefusal.TheVariants.{Keys}
+use Rattle.plan_document.specs.declared.orders.Orders.{Orders}
 use Rattle.plan_document.specs.Refusals.{of_operator, of_fault, of_turns}
+use Rattle.plan_document.specs.Walks.{each_from}
 
 pub record OrderData : Type 0 where
   -- the operator's commands
@@ -31,22 +33,21 @@ has_many_orders texts = nat_lt COMMAND_LIMIT (command_count texts.operator) || n
 abbrev pub few_orders : KeyData → Result KeyData PlanRefusal
 few_orders keys = if has_many_orders keys.texts then Err (Keys TooMany) else Ok keys
 
--- losses count from 1 (and stand still at the greatest number of 32 bits)
-abbrev pub next_fault : ℕ → ℕ
-next_fault fault = min (fault + 1) (2 ^ 32 - 1)
+-- the loss of this number of a plan with so many clients
+abbrev pub numbered_loss : ℕ → ℕ → List ℕ → Result Loss PlanRefusal
+numbered_loss clients fault text = of_fault fault (loss_of clients text)
 
--- the losses of a plan with so many clients, from here on
-unfoldable pub faults_from : ℕ → ℕ → List (List ℕ) → Result (List Loss) PlanRefusal
-faults_from clients fault [] = Ok []
-faults_from clients fault (text ∷ texts) = do
-  loss ← of_fault fault (loss_of clients text)
-  others ← faults_from clients (next_fault fault) texts
-  Ok (loss ∷ others)
+abbrev pub faults_of : ℕ → List (List ℕ) → Result (List Loss) PlanRefusal
+faults_of clients texts = each_from (numbered_loss clients) 1 texts
 
 -- *Orders* of a plan with so many clients: the operator's lines come first, then the losses, then the words of the turns.
 unfoldable pub orders_of : ℕ → TextData → Result OrderData PlanRefusal
 orders_of clients texts = do
   operator ← of_operator (operator_of texts.operator)
-  faults ← faults_from clients 1 texts.faults
+  faults ← faults_of clients texts.faults
   turns ← of_turns (turns_of clients texts.turns)
   Ok (record { operator = operator; faults = faults; turns = turns })
+
+-- what the code found, seen as that
+abbrev pub order_data : Orders → OrderData
+order_data orders = record { operator = orders.operator; faults = orders.faults; turns = orders.turns }

@@ -6,7 +6,7 @@ use Rattle.gho_schema.specs.declared.schema.Schema.{Schema}
 use Rattle.gho_schema.specs.declared.schema.Column.{Column}
 use Rattle.gho_schema.specs.Names.{same_name}
 use Rattle.gho_schema.specs.Rows.{key_places}
-use Rattle.row_store.specs.Databases.{Database}
+use Rattle.row_store.specs.Databases.{Database, TableRows}
 use Rattle.script_text.specs.declared.script.ScriptLine.{ScriptLine}
 use Rattle.script_text.specs.declared.script.ScriptWord.{ScriptWord}
 use Rattle.script_text.specs.declared.script.ScriptWord.TheVariants as words
@@ -52,11 +52,15 @@ runs_word schema word = false
 abbrev pub runs_script : Schema → List ScriptLine → Bool
 runs_script schema script = list_all (λ line. runs_word schema line.word) script
 
--- one table, and only statements that are run
-abbrev pub runs_clients : Database → List (List ScriptLine) → Bool
-runs_clients [] clients = false
-runs_clients (table ∷ []) clients = list_all (runs_script table.schema) clients
-runs_clients (table ∷ (next ∷ tables)) clients = false
+abbrev pub runs_clients : Option TableRows → List (List ScriptLine) → Bool
+runs_clients None clients = false
+runs_clients (Some table) clients = list_all (runs_script table.schema) clients
+
+-- the table of a plan that has one
+abbrev pub only_table : Database → Option TableRows
+only_table [] = None
+only_table (table ∷ []) = Some table
+only_table (table ∷ (next ∷ tables)) = None
 
 -- ---- options
 
@@ -88,4 +92,5 @@ is_none (x ∷ xs) = false
 -- `approve_renamed_columns`, and whose clients' statements are run.
 abbrev pub is_run : PlanData → Bool
 is_run plan =
-    runs_options plan.options && is_none plan.operator && is_none plan.faults && is_none plan.turns && runs_clients plan.tables plan.clients
+    runs_options plan.options && is_none plan.operator && is_none plan.faults && is_none plan.turns
+    && runs_clients (only_table plan.tables) plan.clients

@@ -1,12 +1,13 @@
 //! Why bytes are no plan.
 
 ghost use Rattle.std.specs.Prelude.{◌≡◌};
+ghost use Rattle.plan_document.specs.Refusals.{script_code, order_code, table_place, operator_place};
 
 use alter_schema::AlterCode;
 use order_reader::OrderRefusal;
 use plan_keys::KeyRefusal;
 use plan_tables::TableRefusal;
-use script_reader::ScriptRefusal;
+use script_reader::{ScriptCode, ScriptRefusal, StatementCode};
 use std::alloc::{AllocError, AllocFailed};
 use thiserror::Error;
 use turn_reader::TurnRefusal;
@@ -77,6 +78,96 @@ pub enum PlanRefusal {
     Turn(TurnRefusal),
     /// 60: the plan asks for what isn't run yet.
     NotBuilt,
+}
+
+fn script_code(code: ScriptCode) -> (u16, &'static str)
+    ensures { (result.0, result.1.now) ≡ script_code code }
+{
+    match code {
+        ScriptCode::Word => (40, "script_word"),
+        ScriptCode::Statement(StatementCode::Syntax) => (41, "statement_syntax"),
+        ScriptCode::Statement(StatementCode::Scope) => (42, "statement_scope"),
+        ScriptCode::BeginInside => (43, "begin_inside"),
+        ScriptCode::EndOutside => (44, "end_outside"),
+        ScriptCode::LeftOpen => (45, "left_open"),
+        ScriptCode::ToolTable => (46, "tool_table"),
+    }
+}
+
+fn order_code(refusal: OrderRefusal) -> (u16, &'static str)
+    ensures { (result.0, result.1.now) ≡ order_code refusal }
+{
+    match refusal {
+        OrderRefusal::Command { .. } => (47, "operator_word"),
+        OrderRefusal::Loss => (48, "fault_line"),
+        OrderRefusal::LossActor => (56, "unknown_name"),
+    }
+}
+
+fn table_place(refusal: TableRefusal) -> Place
+    ensures { result ≡ table_place refusal }
+{
+    match refusal {
+        TableRefusal::Schema { table, .. } => Place::Table(table),
+        TableRefusal::BadRow { table, row } => Place::Row { table, row },
+    }
+}
+
+fn operator_place(refusal: OrderRefusal) -> Place
+    ensures { result ≡ operator_place refusal }
+{
+    match refusal {
+        OrderRefusal::Command { line } => Place::Operator(line),
+        OrderRefusal::Loss => Place::Nowhere,
+        OrderRefusal::LossActor => Place::Nowhere,
+    }
+}
+
+impl PlanRefusal {
+    ghost use Rattle.plan_document.specs.Refusals.{refusal_code, refusal_place};
+
+    /// The refusal's number and its name.
+    pub fn code(self) -> (u16, &'static str)
+        ensures { (result.0, result.1.now) ≡ refusal_code self }
+    {
+        match self {
+            PlanRefusal::TooLong => (59, "too_long"),
+            PlanRefusal::NotToml => (50, "not_toml"),
+            PlanRefusal::Keys(refusal) => refusal.code(),
+            PlanRefusal::Tables(refusal) => refusal.code(),
+            PlanRefusal::NoTable => (56, "unknown_name"),
+            PlanRefusal::Leftover => (57, "leftover"),
+            PlanRefusal::Alter(code) => (code.number(), code.name()),
+            PlanRefusal::Script { refusal, .. } => script_code(refusal.code),
+            PlanRefusal::Operator(refusal) => order_code(refusal),
+            PlanRefusal::Fault { refusal, .. } => order_code(refusal),
+            PlanRefusal::Turn(_) => (56, "unknown_name"),
+            PlanRefusal::NotBuilt => (60, "not_built"),
+        }
+    }
+
+    /// Where in the plan it stands.
+    pub fn place(self) -> Place
+        ensures { result ≡ refusal_place self }
+    {
+        match self {
+            PlanRefusal::TooLong => Place::Nowhere,
+            PlanRefusal::NotToml => Place::Nowhere,
+            PlanRefusal::Keys(_) => Place::Nowhere,
+            PlanRefusal::Tables(refusal) => table_place(refusal),
+            PlanRefusal::NoTable => Place::Nowhere,
+            PlanRefusal::Leftover => Place::Nowhere,
+            PlanRefusal::Alter(_) => Place::Nowhere,
+            PlanRefusal::Script { client, refusal } => Place::Client {
+                client,
+                line: refusal.line,
+            },
+            PlanRefusal::Operator(refusal) => operator_place(refusal),
+            PlanRefusal::Fault { fault, .. } => Place::Fault(fault),
+            PlanRefusal::Turn(refusal) => Place::TurnWord(refusal.word),
+            PlanRefusal::NotBuilt => Place::Nowhere,
+        }
+    }
 }
 
 /// Why a plan isn't read.
