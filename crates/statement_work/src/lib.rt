@@ -6,3 +6,4 @@ mod needing;
 mod setting;
 
 pub use needing::needs;
+pub use setting::with_sets;
