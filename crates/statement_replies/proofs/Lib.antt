@@ -1,0 +1,5 @@
+pub mod ChangedRows
+pub mod FittingChanges
+pub mod NewKeys
+pub mod Shown
+pub mod UpdatedRows

@@ -1,0 +1,11 @@
+use Rattle.std.proofs.Common.{◌≡◌, drop}
+use Rattle.gho_schema.specs.Rows.{key_places}
+use Rattle.written_rows.specs.Written.{nothing, wrote_all}
+use Rattle.statement_replies.proofs.changing.written_by.Given as goal
+
+-- what the changes that are left write besides is what all write
+abbrev pub invariant-loop-change : goal.invariant-loop-change
+invariant-loop-change l = record {
+  schema : l.written.schema ≡ l.schema;
+  all : wrote_all (key_places l.schema) (drop l.change-index l.changes) l.written.written ≡ wrote_all (key_places l.schema) l.changes nothing;
+}

@@ -1,0 +1,13 @@
+use Rattle.std.proofs.Common.{List, sym, ◌∙◌, subst}
+use Rattle.gho_schema.specs.Rows.{key_places}
+use Rattle.row_store.proofs.Orders.{Row}
+use Rattle.plain_server.specs.Rows.{reaches}
+use Rattle.statement_replies.specs.Updating.{AreMet}
+use Rattle.statement_replies.proofs.ChangedRows.{are_met}
+use Rattle.statement_replies.proofs.updating.updated.Goals as goal
+
+pub updates-requires-clause-met : goal.updates-requires-clause-met
+updates-requires-clause-met c =
+    let table = c.args.seen.now in
+    subst (λ (rs : List Row). AreMet (key_places table.schema) rs table.rows) (sym (c.as_slice-in-Ok.ensures ∙ c.in_ok-met.ensures))
+    (are_met (key_places table.schema) (reaches table.schema c.args.reach.now) table.rows c.requires.orderly.is_table.ascends)

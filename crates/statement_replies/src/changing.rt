@@ -1,0 +1,81 @@
+//! What a statement says: its answer, and the changes that it makes.
+
+ghost use Rattle.std.specs.Prelude.{◌≡◌, [], map, IfOk};
+ghost use Rattle.gho_schema.specs.Rows.{key_places};
+ghost use Rattle.event_codec.specs.declared.event.Change.TheVariants as changes;
+ghost use Rattle.plain_server.specs.Jobs.{events_of};
+ghost use Rattle.plain_server.specs.Saying.{only};
+ghost use Rattle.statement_replies.specs.Told.{as_result};
+ghost use Rattle.written_rows.specs.Written.{nothing, wrote_all};
+
+use event_codec::{Change, Events, RowEvent};
+use gho_schema::Schema;
+use gho_values::{Duplicate, Name, Rows, Sequence};
+use plain_server::Answer;
+use std::alloc::{AllocError, Global};
+use written_rows::WrittenRows;
+
+/// Changes of the rows of one table, in order.
+pub type Changes = Sequence<Change>;
+
+/// What a statement says.
+#[derive(Debug, Drop)]
+pub struct Told {
+    /// The answer.
+    pub answer: Answer,
+    /// The changes of its table's rows.
+    pub changes: Changes,
+}
+
+/// An answer that changes nothing. It takes no memory.
+pub fn only(alloc: Global, answer: Answer) -> Told
+    ensures { as_result result ≡ only answer }
+{
+    Told {
+        answer,
+        changes: Sequence::new(alloc),
+    }
+}
+
+/// Removals of rows.
+pub fn deletes(alloc: Global, rows: Rows) -> Result<Changes, AllocError>
+    ensures { IfOk result (λ all. all ≡ map changes.Delete rows) }
+{
+    let deletes = rows
+        .into_vec()
+        .into_iter()
+        .map(|row| Change::Delete(row))
+        .collect(alloc)?;
+    Ok(Sequence::from_vec(deletes))
+}
+
+/// What changes write to a table of this schema.
+#[tactic(auto, unfolding(written_rows::specs::Written::wrote_all))]
+pub fn written_by(
+    alloc: Global,
+    schema: &Schema,
+    changes: &[Change],
+) -> Result<WrittenRows, AllocError>
+    ensures schema { IfOk result (λ written. written.schema ≡ schema.now) }
+    ensures written { IfOk result (λ written. written.written ≡ wrote_all (key_places schema.now) changes.now nothing) }
+{
+    let mut written = WrittenRows::new(alloc, schema)?;
+    for change in changes {
+        written.write(alloc, change)?;
+    }
+    Ok(written)
+}
+
+/// Changes of the table of this name, as events.
+pub fn events_of(alloc: Global, table: &Name, changes: Changes) -> Result<Events, AllocError>
+    ensures { IfOk result (λ events. events ≡ events_of table.now changes) }
+{
+    let mut events = Sequence::new(alloc);
+    for change in changes.into_vec() {
+        events.push(RowEvent {
+            table: table.copy()?,
+            change,
+        })?;
+    }
+    Ok(events)
+}

@@ -1,0 +1,12 @@
+//! What a statement says of its table, as a transaction sees it, and what it writes there.
+#![tactic(auto)]
+
+mod changing;
+mod columns;
+pub mod laws;
+mod selecting;
+mod telling;
+mod updating;
+
+pub use changing::{Changes, Told, events_of, written_by};
+pub use telling::tells;
