@@ -1,0 +1,3 @@
+pub mod OpenEvents
+pub mod Polls
+pub mod Ready
