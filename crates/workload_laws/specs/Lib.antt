@@ -1,0 +1,4 @@
+pub mod Rows
+pub mod Alters
+pub mod Scripts
+pub mod Laws

@@ -1,0 +1,27 @@
+//! The laws.
+
+ghost use Rattle.workload_laws.specs.Laws.{AltersAreTaken, TablesAreRead, TablesAreTables, ScriptsAreRead};
+
+use gho_values::laws::stored_values_store_again;
+use row_store::laws::put_keeps_tables;
+use schema_laws::read_schemas_are_lawful;
+
+/// A workload's CREATE TABLE and its ALTER are read, and both schemas are lawful.
+pub fn workload_alters_are_taken()
+    ensures { AltersAreTaken }
+{}
+
+/// Its rows are read as those of one table, in order, no two of which clash.
+pub fn workload_tables_are_read()
+    ensures read { TablesAreRead }
+    ensures tables { TablesAreTables }
+{
+    stored_values_store_again();
+    put_keeps_tables();
+    read_schemas_are_lawful();
+}
+
+/// Its clients' scripts are read, statement by statement.
+pub fn workload_scripts_are_read()
+    ensures { ScriptsAreRead }
+{}

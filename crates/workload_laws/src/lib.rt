@@ -1,0 +1,4 @@
+//! What holds of the workload of every number: each function's contract is a law.
+#![tactic(auto)]
+
+pub mod laws;
