@@ -1,0 +1,4 @@
+//! The turn that is due in a run: a loss between calls, or what is given to an actor; and that a journal with it is kept.
+#![tactic(auto)]
+
+pub mod laws;
