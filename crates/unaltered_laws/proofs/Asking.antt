@@ -2,7 +2,7 @@
 use Rattle.std.proofs.Common.{◌≡◌, ℕ, Bool, true, false, cond, not, ◌||◌, ◌&&◌, List, [], ◌∷◌, Option, Some, None, refl, sym, ap, ◌∙◌, subst}
 use Rattle.std.specs.List.{AllByRecursion, list_any, list_all, slice_get}
 use Rattle.std.specs.Str.{bytes_eq}
-use Rattle.std.proofs.lemmas.Bool.{true≢false, false≢true, or_left}
+use Rattle.std.proofs.lemmas.Bool.{true≢false, false≢true, and_parts, or_left, or_parts}
 use Rattle.gho_values.specs.declared.value.Value.{Value}
 use Rattle.script_text.specs.declared.actor.Actor.{Actor}
 use Rattle.script_text.specs.declared.actor.Actor.TheVariants.{Op, Insp, Copy, Apply, Lock, Ren, Client}
@@ -89,18 +89,10 @@ excluded : (a b : Bool) → cond a b true ≡ true → b ≡ false → a ≡ fal
 excluded true b well off = absurd (true≢false (sym well ∙ off))
 excluded false b well off = refl
 
-first_of : (a b : Bool) → (a && b) ≡ true → a ≡ true
-first_of true b is = refl
-first_of false b is = absurd (false≢true is)
-
-first_off : (a b : Bool) → (a || b) ≡ false → a ≡ false
-first_off true b is = is
-first_off false b is = refl
-
 -- a name that is defined is one of the tool's
 tool_named : (table name : List ℕ) → list_all (is_known table) (name ∷ []) ≡ true → list_any (bytes_eq table) (name ∷ []) ≡ false → is_tool_name table name ≡ true
 tool_named table name known off =
-    known_tool (bytes_eq name table) (is_tool_name table name) (first_of (is_known table name) true known) (turned_bytes table name (first_off (bytes_eq table name) false off))
+    known_tool (bytes_eq name table) (is_tool_name table name) (and_parts (is_known table name) true known).0 (turned_bytes table name (or_parts (bytes_eq table name) false off).0)
 
 -- ROWS AND THE RENAME
 

@@ -3,7 +3,7 @@ use Rattle.std.proofs.Common.{◌≡◌, ℕ, Bool, true, false, cond, not, ◌|
 use Rattle.gho_schema.specs.declared.schema.Schema.{Schema}
 use Rattle.std.specs.List.{AllByRecursion, list_any}
 use Rattle.std.specs.Str.{bytes_eq}
-use Rattle.std.proofs.lemmas.Bool.{true≢false, or_left, or_right}
+use Rattle.std.proofs.lemmas.Bool.{true≢false, or_left, or_parts, or_right}
 use Rattle.row_store.specs.Databases.{Database}
 use Rattle.row_store.specs.declared.renaming.Pair.{Pair}
 use Rattle.schema_rules.specs.Lawful.{IsLawful}
@@ -157,19 +157,15 @@ as_tool plan Ren request tool asks = asks
 
 -- UNALTERED
 
-none_or : (a b : Bool) → (a || b) ≡ false → (a ≡ false) × (b ≡ false)
-none_or true b is = absurd (true≢false is)
-none_or false b is = (refl, is)
-
 -- a journal in whose history the ALTER isn't has none in front
 pub unaltered_front : (plan : PlanData) (front rest : List Entry) → IsUnaltered plan (front ++ rest) → IsUnaltered plan front
 unaltered_front plan front [] off = subst (IsUnaltered plan) (append-nil front) off
 unaltered_front plan front (entry ∷ rest) off =
     let more : IsUnaltered plan (front ++ entry ∷ []) = unaltered_front plan (front ++ entry ∷ []) rest (subst (IsUnaltered plan) (sym (append_assoc front (entry ∷ []) rest)) off) in
-    (none_or (list_any is_alter (histories.history plan front)) (list_any is_alter (entry_adds plan front entry)) (sym (history_more plan front entry) ∙ more)).0
+    (or_parts (list_any is_alter (histories.history plan front)) (list_any is_alter (entry_adds plan front entry)) (sym (history_more plan front entry) ∙ more)).0
 
 pub unaltered_entry : (plan : PlanData) (front : List Entry) (entry : Entry) → IsUnaltered plan (front ++ entry ∷ []) → list_any is_alter (entry_adds plan front entry) ≡ false
-unaltered_entry plan front entry off = (none_or (list_any is_alter (histories.history plan front)) (list_any is_alter (entry_adds plan front entry)) (sym (history_more plan front entry) ∙ off)).1
+unaltered_entry plan front entry off = (or_parts (list_any is_alter (histories.history plan front)) (list_any is_alter (entry_adds plan front entry)) (sym (history_more plan front entry) ∙ off)).1
 
 -- ONE TURN OF THE TOOL'S
 
