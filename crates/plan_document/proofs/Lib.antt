@@ -1,3 +1,3 @@
-mod Openings
-mod Running
-mod Walks
+mod OneTable
+pub mod Opened
+pub mod Walks

@@ -1,5 +1,5 @@
 -- Reading texts one after the other, as a loop does.
-use Rattle.std.proofs.Common.{◌≡◌, ℕ, ◌+◌, ◌<◌, ◌≤◌, List, [], ◌∷◌, ◌++◌, length, drop, map, get_or, Result, Ok, Err, Bor, refl, sym, ap, ◌∙◌, append_assoc}
+use Rattle.std.proofs.Common.{◌≡◌, ℕ, ◌+◌, ◌<◌, ◌≤◌, List, [], ◌∷◌, ◌++◌, length, drop, map, get_or, Result, Ok, Err, Bor, refl, sym, ap, ◌∙◌, append_assoc, suc}
 use Rattle.std.proofs.lemmas.List.{append-nil, drop_all, drop_more, length-map}
 use Rattle.schema_rules.proofs.Steps.{bind_ok, ok_is}
 use Rattle.schema_rules.specs.Results.{◌>>=◌}
@@ -59,7 +59,7 @@ each_length {A} read number [] made is = sym (ap (λ (xs : List A). length xs) (
 each_length {A} read number (text ∷ all) made is =
     let first = bind_ok (read number text) _ made is in
     let others = bind_ok (each_from read (next_number number) all) (λ others. Ok (first.0 ∷ others)) made first.2 in
-    sym (ap (λ (xs : List A). length xs) (ok_is (first.0 ∷ others.0) made others.2)) ∙ ap (λ (n : ℕ). n + 1) (each_length read (next_number number) all others.0 others.1)
+    sym (ap (λ (xs : List A). length xs) (ok_is (first.0 ∷ others.0) made others.2)) ∙ ap (λ (n : ℕ). suc n) (each_length read (next_number number) all others.0 others.1)
 
 pub each_text : {A : Type 0} (read : ℕ → List ℕ → Result A PlanRefusal) (all : List (Bor (List ℕ))) (made : List A) → each_from read 1 (texts all) ≡ Ok made → length made ≡ length all
 each_text read all made is = each_length read 1 (texts all) made is ∙ length-map all (λ (text : Bor (List ℕ)). text.now)

@@ -23,7 +23,7 @@ use Rattle.plan_document.specs.Walks.{each_from}
 -- ---- how many statements there are
 
 -- the line is a statement; BEGIN, COMMIT and ROLLBACK are none
-abbrev pub is_statement : ScriptWord → Bool
+unfoldable pub is_statement : ScriptWord → Bool
 is_statement (words.Do statement) = true
 is_statement words.Begin = false
 is_statement words.Commit = false
@@ -49,7 +49,7 @@ is_open (Replace table columns values) = false
 is_open (Delete table condition) = false
 is_open (Update table sets condition) = false
 
-abbrev pub is_open_select : ScriptWord → Bool
+unfoldable pub is_open_select : ScriptWord → Bool
 is_open_select (words.Do statement) = is_open statement
 is_open_select words.Begin = false
 is_open_select words.Commit = false

@@ -3,7 +3,6 @@
 use Rattle.std.specs.Prelude.{ℕ, Bool, not, ◌&&◌, ◌||◌, if◌then◌else◌, false, List, Option, Some, None, Result, Ok, Err}
 use Rattle.std.specs.Str.{bytes_eq}
 use Rattle.alter_image.specs.declared.clause.Clause.{Clause}
-use Rattle.gho_schema.specs.declared.schema.Schema.{Schema}
 use Rattle.row_store.specs.Databases.{Database, TableRows, find_table, has_table, database}
 use Rattle.schema_rules.specs.Results.{◌>>=◌}
 use Rattle.alter_schema.specs.Altering.{altered}

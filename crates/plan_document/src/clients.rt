@@ -15,6 +15,7 @@ use script_reader::{ScriptFault, read_script};
 use script_text::{Condition, Script, ScriptLine, ScriptWord, Shown, Statement};
 use std::alloc::{AllocError, Global};
 
+#[tactic(auto, unfolding(crate::specs::Clients::is_statement))]
 fn is_statement(word: &ScriptWord) -> bool
     ensures { result ≡ is_statement word.now }
 {
@@ -63,6 +64,7 @@ fn is_open(statement: &Statement) -> bool
     }
 }
 
+#[tactic(auto, unfolding(crate::specs::Clients::is_open_select))]
 fn is_open_select(word: &ScriptWord) -> bool
     ensures { result ≡ is_open_select word.now }
 {
@@ -77,19 +79,25 @@ fn is_open_select(word: &ScriptWord) -> bool
 fn statements_in(script: &[ScriptLine]) -> usize
     ensures { result ≡ count_by (λ line. is_statement line.word) script.now }
 {
-    script
-        .iter()
-        .filter(|line| is_statement(&line.word))
-        .count()
+    let mut count: usize = 0;
+    for line in script {
+        if is_statement(&line.word) {
+            count += 1;
+        }
+    }
+    count
 }
 
 fn open_selects_in(script: &[ScriptLine]) -> usize
     ensures { result ≡ count_by (λ line. is_open_select line.word) script.now }
 {
-    script
-        .iter()
-        .filter(|line| is_open_select(&line.word))
-        .count()
+    let mut count: usize = 0;
+    for line in script {
+        if is_open_select(&line.word) {
+            count += 1;
+        }
+    }
+    count
 }
 
 /// Whether scripts have more statements together than so many.

@@ -42,7 +42,7 @@ fn has_many_orders(alloc: Global, texts: &PlanTexts<'_>) -> Result<bool, AllocEr
 /// The keys, where there are no more commands and turns than a plan may have.
 pub fn few_orders<'a>(alloc: Global, keys: PlanKeys<'a>) -> Result<PlanKeys<'a>, PlanFault>
     requires { length keys.texts.clients.items ≤ CLIENT_LIMIT }
-    ensures keys { Reads key_data result (few_orders (key_data keys)) }
+    ensures keys { Reads key_data result (few_orders (key_data keys.entry)) }
     ensures few { IfOk result (λ keys. length keys.texts.clients.items ≤ CLIENT_LIMIT) }
 {
     if has_many_orders(alloc, &keys.texts)? {

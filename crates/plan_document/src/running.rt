@@ -1,6 +1,6 @@
 //! What a plan may ask for so far.
 
-ghost use Rattle.std.specs.Prelude.{◌≡◌, slice_get, option_copied, option_map};
+ghost use Rattle.std.specs.Prelude.{◌≡◌, ◌==◌, length, slice_get, option_copied, option_map};
 ghost use Rattle.std.specs.List.{list_all};
 ghost use Rattle.gho_schema.specs.Rows.{key_places};
 ghost use Rattle.row_store.specs.Databases.{database};
@@ -110,11 +110,17 @@ fn runs_clients(table: Option<&Table>, scripts: &[Script]) -> bool
     }
 }
 
+fn is_one(tables: &Tables) -> bool
+    ensures { result ≡ (length tables.now == 1) }
+{
+    tables.len() == 1
+}
+
 /// The table of a plan that has one.
 fn only_table(tables: &Tables) -> Option<&Table>
     ensures { option_map (λ table. table.now.table) result ≡ only_table (database tables.now) }
 {
-    if tables.len() == 1 {
+    if is_one(tables) {
         Some(tables.at(0))
     } else {
         None

@@ -1,7 +1,6 @@
 -- What is found in an opening that was read.
 use Rattle.std.proofs.Common.{◌≡◌, Bool, true, false, cond, ℕ, List, [], ◌∷◌, Option, Some, None, Result, Ok, Err, refl, ap, subst, ◌∙◌}
 use Rattle.std.specs.List.{AllByRecursion}
-use Rattle.std.specs.Result.{result_ok}
 use Rattle.alter_schema.specs.declared.code.AlterCode.{AlterCode}
 use Rattle.alter_schema.specs.Altering.{altered}
 use Rattle.alter_text.specs.Reading.{alter_at}
@@ -13,7 +12,7 @@ use Rattle.plan_tables.specs.Tables.{tables_of, IsSound}
 use Rattle.plan_tables.specs.declared.fault.TableRefusal.{TableRefusal}
 use Rattle.plan_document.specs.declared.fault.PlanRefusal.{PlanRefusal}
 use Rattle.plan_document.specs.declared.fault.PlanRefusal.TheVariants.{NoTable, Leftover}
-use Rattle.plan_document.specs.Openings.{OpeningData, has_left_ghost, has_left_old, without_leftovers, migrated_in, opening_of}
+use Rattle.plan_document.specs.Openings.{OpeningData, without_leftovers, migrated_in, opening_of}
 use Rattle.plan_document.specs.Refusals.{of_tables, of_alter, or_refused}
 
 -- ---- a table that is found is one of the tables
