@@ -1,0 +1,5 @@
+mod Ends
+mod Going
+mod Idle
+mod Orders
+mod Ready
