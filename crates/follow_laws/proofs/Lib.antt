@@ -1,0 +1,5 @@
+pub mod Courses
+pub mod Leaving
+pub mod Said
+pub mod Starts
+pub mod Follows

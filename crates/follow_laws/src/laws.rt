@@ -1,0 +1,19 @@
+//! The laws: each function's contract is one.
+
+ghost use Rattle.follow_laws.specs.Laws.{FollowersAlter, FollowersGo};
+
+use gho_values::laws::stored_values_store_again;
+use runnable_laws::laws::migratable_plans_are_runnable;
+
+/// From the opening on, once the setup is over the migration goes.
+pub fn followers_go()
+    ensures { FollowersGo }
+{}
+
+/// At the mark the new table is the altered one.
+pub fn followers_alter()
+    ensures { FollowersAlter }
+{
+    stored_values_store_again();
+    migratable_plans_are_runnable();
+}
