@@ -2,7 +2,7 @@
 use Rattle.std.proofs.Common.{◌≡◌, ℕ, Bool, true, false, cond, not, ◌||◌, ◌&&◌, List, [], ◌∷◌, Option, Some, None, refl, sym, ap, ◌∙◌, subst}
 use Rattle.std.specs.List.{AllByRecursion, list_any, list_all, slice_get}
 use Rattle.std.specs.Str.{bytes_eq}
-use Rattle.std.proofs.lemmas.Bool.{true≢false, false≢true, and_parts, or_left, or_parts}
+use Rattle.std.proofs.lemmas.Bool.{true≢false, and_parts, or_left, or_parts}
 use Rattle.gho_values.specs.declared.value.Value.{Value}
 use Rattle.script_text.specs.declared.actor.Actor.{Actor}
 use Rattle.script_text.specs.declared.actor.Actor.TheVariants.{Op, Insp, Copy, Apply, Lock, Ren, Client}
@@ -61,7 +61,7 @@ use Rattle.machine_laws.proofs.Polling.{no_word}
 use Rattle.machine_laws.proofs.Staying.{lines_named}
 
 -- the inspector writes rows of the changelog, the copier and the applier of the new table; tables of the tool's are made and
--- dropped; and the RENAME is the exchange
+-- dropped; and the RENAME is the renamer's exchange
 abbrev pub ToolCall : PlanData → Request → Actor → Type 0
 ToolCall plan (requests.Do statement) Insp = table_of statement ≡ log_name plan.table
 ToolCall plan (requests.Do statement) Apply = table_of statement ≡ ghost_name plan.table
@@ -70,7 +70,7 @@ ToolCall plan (requests.CopyRow from into map key) Copy = into ≡ ghost_name pl
 ToolCall plan (requests.CopyRow from into map key) actor = ⊥
 ToolCall plan (requests.Create schema) actor = is_tool_name plan.table schema.name ≡ true
 ToolCall plan (requests.Drop name) actor = is_tool_name plan.table name ≡ true
-ToolCall plan (requests.Rename pairs) actor = requests.Rename pairs ≡ cutovers.exchange plan.table
+ToolCall plan (requests.Rename pairs) actor = (actor ≡ Ren) × (requests.Rename pairs ≡ cutovers.exchange plan.table)
 ToolCall plan request actor = Unit {0}
 
 -- what an actor asks, or waits with
@@ -202,7 +202,7 @@ rolled_rows plan actor true request is = some_request (RowCall plan actor) reque
 rolled_rows plan actor false request is = absurd cc
 
 exchange_rows : (plan : PlanData) (table : List ℕ) → table ≡ plan.table → RowCall plan Ren (cutovers.exchange table)
-exchange_rows plan table own = ap cutovers.exchange own
+exchange_rows plan table own = (refl, ap cutovers.exchange own)
 
 -- it takes the migrated table away
 pub exchange_takes : (table : List ℕ) (pairs : List Pair) → requests.Rename pairs ≡ cutovers.exchange table → takes_away table pairs ≡ true

@@ -24,7 +24,7 @@ use Rattle.plain_server.specs.States.{State, session_of, is_in_transaction}
 use Rattle.plan_words.specs.PlanData.{PlanData}
 use Rattle.changelog_table.specs.ToolNames.{ghost_name, log_name, old_name, is_tool_name}
 use Rattle.journal_words.specs.Histories as histories
-use Rattle.journal_words.specs.Histories.{Alter, HistoryItem, adds, alters, entry_adds, is_alter, renames_away, request_waiting, takes_away, told_in}
+use Rattle.journal_words.specs.Histories.{Alter, adds, alters, entry_adds, is_alter, request_waiting, takes_away, told_in}
 use Rattle.journal_words.specs.Journals.{state_at, IsFaithful}
 use Rattle.migration_program.specs.Programs.{given, IsGiven, Follows}
 use Rattle.migration_program.specs.Tools.{is_reverting, moment}
@@ -143,7 +143,7 @@ module _ (plan : PlanData) (serial : IsSerialPlan plan) where
   tool_may (requests.CopyRow from into map key) (Client c) asks made = absurd asks
   tool_may (requests.Create schema) actor asks made = (tool_not_mine plan schema.name serial asks, lawful_table schema (made schema refl))
   tool_may (requests.Drop name) actor asks made = tool_not_mine plan name serial asks
-  tool_may (requests.Rename pairs) actor asks made = inr (refl, exchange_takes plan.table pairs asks)
+  tool_may (requests.Rename pairs) actor asks made = inr (refl, exchange_takes plan.table pairs asks.1)
   tool_may request actor asks made = tt
 
 pub as_tool : (plan : PlanData) (actor : Actor) (request : Request) → is_client actor ≡ false → AskedAs plan actor request → ToolCall plan request actor
