@@ -1,0 +1,22 @@
+//! The laws: each function's contract is one.
+
+ghost use Rattle.marked_laws.specs.Laws.{MarkedJournalsAreRuns, MarkedJournalsAreSerial};
+
+use follow_laws::laws::followers_alter;
+use runnable_laws::laws::migratable_plans_are_runnable;
+
+/// A journal that is kept and marked is a run of its plan.
+pub fn marked_journals_are_runs()
+    ensures { MarkedJournalsAreRuns }
+{
+    migratable_plans_are_runnable();
+    followers_alter();
+}
+
+/// So its history is serial, with one ALTER at most.
+pub fn marked_journals_are_serial()
+    ensures { MarkedJournalsAreSerial }
+{
+    migratable_plans_are_runnable();
+    followers_alter();
+}
