@@ -1,5 +1,5 @@
 pub mod Computing
-mod SmallPlans1
+pub mod SmallPlans1
 mod SmallPlans2
 pub mod Plans1
 mod Reports
