@@ -1,0 +1,5 @@
+mod Limits
+mod Waits
+mod Tries
+mod Reasons
+mod Standing

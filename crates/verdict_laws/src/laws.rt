@@ -1,0 +1,14 @@
+//! The laws: each function's contract is one.
+
+ghost use Rattle.verdict_laws.specs.Laws.{PanicsStand, SpentTasksStand};
+
+/// Where all was reverted because of panic, the operator commanded it in the turn that the verdict names.
+pub fn panics_stand()
+    ensures stands { PanicsStand }
+{}
+
+/// Where all was reverted because the setup, a chunk or a batch failed as often as the plan allows, the turns that the
+/// verdict names rise, and each is such a failure.
+pub fn spent_tasks_stand()
+    ensures stands { SpentTasksStand }
+{}
