@@ -1,3 +1,4 @@
+mod Attempts
 mod Limits
 mod Waits
 mod Tries

@@ -6,6 +6,7 @@ use Rattle.plain_server.specs.declared.entry.Entry.{Entry}
 use Rattle.plain_server.specs.declared.outcome.Cause.{Cause}
 use Rattle.plain_server.specs.declared.outcome.Cause.TheVariants as causes
 use Rattle.plain_server.specs.declared.outcome.Task.{Task}
+use Rattle.plain_server.specs.declared.outcome.Task.TheVariants as tasks
 use Rattle.plain_server.specs.declared.outcome.Verdict.TheVariants as verdicts
 use Rattle.plan_words.specs.PlanData.{PlanData}
 use Rattle.journal_words.specs.Histories.{history, is_alter}
@@ -18,7 +19,7 @@ use Rattle.migration_program.specs.Verdicts.{cause_of, reverted_by, has_ended, e
 use Rattle.run_laws.specs.Laws.{Living}
 use Rattle.run_laws.proofs.Living.{all_living}
 use Rattle.machine_laws.proofs.Journals.{IsRun, all_runs, IsTogether, together_more, together_begins}
-use Rattle.verdict_laws.specs.Laws.{PanicsStand, SpentTasksStand}
+use Rattle.verdict_laws.specs.Laws.{IsSpentOn, PanicsStand, SpentTasksStand, SpentAttemptsStand}
 use Rattle.verdict_laws.proofs.Reasons.{ReasonHolds, ToolHolds, holds_more, holds_begin}
 use Rattle.verdict_laws.proofs.Waits.{WaitsCount, waits_more, waits_begin}
 
@@ -107,7 +108,22 @@ all_spent plan journal task turns faithful follows other verdict = by one.reason
   by (Spent spent tries) same holds =
       let a : spent ≡ task = cc in
       let b : tries ≡ turns = cc in
-      subst (IsSpent plan journal task) b (subst (λ (t : Task). IsSpent plan journal t tries) a (holds (λ cut. other (sym a ∙ cut))))
+      subst (IsSpent plan journal task) b (subst (λ (t : Task). IsSpent plan journal t tries) a (holds.others (λ cut. other (sym a ∙ cut))))
+  by (Panicked turn) same holds = absurd cc
+  by (CopyUnfit turn place number) same holds = absurd cc
+  by (ApplyUnfit turn place number) same holds = absurd cc
+
+-- *Spent attempts stand*
+pub all_attempts : SpentAttemptsStand
+all_attempts plan journal turns faithful follows some verdict = by one.reason one.same (subst (ReasonHolds plan journal) one.is (all_held plan journal faithful follows).holds.reason) where
+  one : IsGround plan journal (causes.Spent tasks.CutOver turns)
+  one = ground plan journal (causes.Spent tasks.CutOver turns) verdict
+
+  by : (reason : Reason) → cause_of plan journal (moment plan journal).tool reason ≡ causes.Spent tasks.CutOver turns → ReasonHolds plan journal (Some reason) → IsSpentOn plan journal turns
+  by (Spent spent tries) same holds =
+      let a : spent ≡ tasks.CutOver = cc in
+      let b : tries ≡ turns = cc in
+      subst (IsSpentOn plan journal) b (holds.attempts a some)
   by (Panicked turn) same holds = absurd cc
   by (CopyUnfit turn place number) same holds = absurd cc
   by (ApplyUnfit turn place number) same holds = absurd cc

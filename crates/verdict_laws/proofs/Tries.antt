@@ -13,20 +13,29 @@ use Rattle.plain_server.specs.declared.outcome.Task.TheVariants as tasks
 use Rattle.plan_words.specs.PlanData.{PlanData}
 use Rattle.migration_program.specs.Failures.{is_actor_of, IsTurn, waited_for, IsWaited, IsUndrained, has_passed, IsBad, IsFailedTry, IsPanic, IsSpent}
 use Rattle.migration_program.specs.Tools.{Moment, moment}
+use Rattle.verdict_laws.specs.Laws.{IsFailedAttempt, IsSpentOn}
 
 -- each number is below all later ones
 abbrev pub Rises : List ℕ → Type 0
 Rises [] = Unit {0}
 Rises (turn ∷ turns) = AllByRecursion (λ later. turn < later) turns × Rises turns
 
--- the turns rise, and each is a failed try
-pub record TriesStand (plan : PlanData) (journal : List Entry) (task : Task) (turns : List ℕ) : Type 0 where
-  pub each : AllByRecursion (IsFailedTry plan journal task) turns
+-- the turns rise up to this one, and each is such a try
+pub record TriesStand (is_try : ℕ → Type 0) (most : ℕ) (turns : List ℕ) : Type 0 where
+  pub each : AllByRecursion is_try turns
   pub rises : Rises turns
-  pub past : AllByRecursion (λ turn. turn ≤ length journal) turns
+  pub past : AllByRecursion (λ turn. turn ≤ most) turns
 
-pub no_tries : (plan : PlanData) (journal : List Entry) (task : Task) → TriesStand plan journal task []
-no_tries plan journal task = record { each = tt; rises = tt; past = tt }
+pub no_tries : (is_try : ℕ → Type 0) (most : ℕ) → TriesStand is_try most []
+no_tries is_try most = record { each = tt; rises = tt; past = tt }
+
+-- the tries of a task
+abbrev pub TaskTries : PlanData → List Entry → Task → List ℕ → Type 0
+TaskTries plan journal task turns = TriesStand (IsFailedTry plan journal task) (length journal) turns
+
+-- those of the cut-over
+abbrev pub AttemptTries : PlanData → List Entry → List ℕ → Type 0
+AttemptTries plan journal turns = TriesStand (IsFailedAttempt plan journal) (length journal) turns
 
 -- LISTS
 
@@ -110,22 +119,41 @@ module _ (plan : PlanData) (journal : List Entry) (last : Entry) where
   pub spent_more : (task : Task) (turns : List ℕ) → IsSpent plan journal task turns → IsSpent plan more task turns
   spent_more task turns is = record { each = all_more (IsFailedTry plan journal task) (IsFailedTry plan more task) (try_more task) turns is.each; rises = is.rises; all = is.all }
 
-  pub tries_more : (task : Task) (turns : List ℕ) → TriesStand plan journal task turns → TriesStand plan more task turns
-  tries_more task turns is = record {
-    each = all_more (IsFailedTry plan journal task) (IsFailedTry plan more task) (try_more task) turns is.each;
+  attempt_more : (turn : ℕ) → IsFailedAttempt plan journal turn → IsFailedAttempt plan more turn
+  attempt_more turn (inl failed) = inl (try_more tasks.CutOver turn failed)
+  attempt_more turn (inr refused) = inr (record { entry = refused.entry; before = refused.before; is = turn_more turn refused.entry refused.before refused.is; actor = refused.actor; resting = refused.resting; number = refused.number; column = refused.column; refused = refused.refused })
+
+  pub attempts_spent_more : (turns : List ℕ) → IsSpentOn plan journal turns → IsSpentOn plan more turns
+  attempts_spent_more turns is = record { each = all_more (IsFailedAttempt plan journal) (IsFailedAttempt plan more) attempt_more turns is.each; rises = is.rises; all = is.all }
+
+  grown : (P Q : ℕ → Type 0) → ((turn : ℕ) → P turn → Q turn) → (turns : List ℕ) → TriesStand P (length journal) turns → TriesStand Q (length more) turns
+  grown P Q step turns is = record {
+    each = all_more P Q step turns is.each;
     rises = is.rises;
     past = all_more (λ turn. turn ≤ length journal) (λ turn. turn ≤ length more) (λ turn low. let long : length more ≡ length journal + 1 = longer in omega (arith, low, long)) turns is.past;
   }
 
-  -- one failed try more, in the last turn
-  pub tries_last : (task : Task) (turns : List ℕ) (turn : ℕ) → turn ≡ length journal + 1 → TriesStand plan journal task turns → IsFailedTry plan more task turn → TriesStand plan more task (turns ++ turn ∷ [])
-  tries_last task turns turn same is failed =
-      let grown : TriesStand plan more task turns = tries_more task turns is in
+  pub tries_more : (task : Task) (turns : List ℕ) → TaskTries plan journal task turns → TaskTries plan more task turns
+  tries_more task turns is = grown (IsFailedTry plan journal task) (IsFailedTry plan more task) (try_more task) turns is
+
+  pub attempts_more : (turns : List ℕ) → AttemptTries plan journal turns → AttemptTries plan more turns
+  attempts_more turns is = grown (IsFailedAttempt plan journal) (IsFailedAttempt plan more) attempt_more turns is
+
+  -- one try more, in the last turn
+  with_last : (P Q : ℕ → Type 0) → ((turn : ℕ) → P turn → Q turn) → (turns : List ℕ) (turn : ℕ) → turn ≡ length journal + 1 → TriesStand P (length journal) turns → Q turn → TriesStand Q (length more) (turns ++ turn ∷ [])
+  with_last P Q step turns turn same is failed =
+      let kept : TriesStand Q (length more) turns = grown P Q step turns is in
       record {
-        each = all_last (IsFailedTry plan more task) turns turn grown.each failed;
+        each = all_last Q turns turn kept.each failed;
         rises = rises_last turns turn is.rises (all_more (λ other. other ≤ length journal) (λ other. other < turn) (λ other low. omega (arith, low, same)) turns is.past);
-        past = all_last (λ other. other ≤ length more) turns turn grown.past (let long : length more ≡ length journal + 1 = longer in omega (arith, same, long));
+        past = all_last (λ other. other ≤ length more) turns turn kept.past (let long : length more ≡ length journal + 1 = longer in omega (arith, same, long));
       }
+
+  pub tries_last : (task : Task) (turns : List ℕ) (turn : ℕ) → turn ≡ length journal + 1 → TaskTries plan journal task turns → IsFailedTry plan more task turn → TaskTries plan more task (turns ++ turn ∷ [])
+  tries_last task turns turn same is failed = with_last (IsFailedTry plan journal task) (IsFailedTry plan more task) (try_more task) turns turn same is failed
+
+  pub attempts_last : (turns : List ℕ) (turn : ℕ) → turn ≡ length journal + 1 → AttemptTries plan journal turns → IsFailedAttempt plan more turn → AttemptTries plan more (turns ++ turn ∷ [])
+  attempts_last turns turn same is failed = with_last (IsFailedAttempt plan journal) (IsFailedAttempt plan more) attempt_more turns turn same is failed
 
   -- the last turn
   pub is_turn : (turn : ℕ) → turn ≡ length journal + 1 → IsTurn plan more turn last (moment plan journal)
@@ -141,5 +169,8 @@ module _ (plan : PlanData) (journal : List Entry) (last : Entry) where
     front = ap (λ (n : ℕ). take n more) place
 
 -- what is spent has the tries that are allowed
-pub spent_so : (plan : PlanData) (journal : List Entry) (task : Task) (turns : List ℕ) → length turns ≡ plan.options.default_retries → TriesStand plan journal task turns → IsSpent plan journal task turns
+pub spent_so : (plan : PlanData) (journal : List Entry) (task : Task) (turns : List ℕ) → length turns ≡ plan.options.default_retries → TaskTries plan journal task turns → IsSpent plan journal task turns
 spent_so plan journal task turns all is = record { each = is.each; rises = rising turns is.rises; all = all }
+
+pub attempts_spent_so : (plan : PlanData) (journal : List Entry) (turns : List ℕ) → length turns ≡ plan.options.default_retries → AttemptTries plan journal turns → IsSpentOn plan journal turns
+attempts_spent_so plan journal turns all is = record { each = is.each; rises = rising turns is.rises; all = all }

@@ -1,6 +1,6 @@
 //! The laws: each function's contract is one.
 
-ghost use Rattle.verdict_laws.specs.Laws.{PanicsStand, SpentTasksStand};
+ghost use Rattle.verdict_laws.specs.Laws.{PanicsStand, SpentTasksStand, SpentAttemptsStand};
 
 /// Where all was reverted because of panic, the operator commanded it in the turn that the verdict names.
 pub fn panics_stand()
@@ -11,4 +11,10 @@ pub fn panics_stand()
 /// verdict names rise, and each is such a failure.
 pub fn spent_tasks_stand()
     ensures stands { SpentTasksStand }
+{}
+
+/// Where all was reverted because the cut-over failed as often as the plan allows, the turns that the verdict names rise,
+/// and in each an attempt failed, or its sentry was refused.
+pub fn spent_attempts_stand()
+    ensures stands { SpentAttemptsStand }
 {}
