@@ -1,0 +1,44 @@
+//! The laws: each function's contract is one.
+
+ghost use Rattle.rename_laws.specs.Laws.{ClientsAreTurned, RenamesAreSerial, RenamesComeAtTheMark, RenamesFindTheAltered};
+
+use follow_laws::laws::followers_alter;
+use marked_laws::laws::marked_journals_are_serial;
+use runnable_laws::laws::migratable_plans_are_runnable;
+use server_laws::laws::{definitions_are_done, entries_are_turns, exclusive_is_alone};
+use waits_laws::laws::waits_are_told;
+
+/// A client's turn is such a turn as the sentry relation asks.
+pub fn clients_are_turned()
+    ensures { ClientsAreTurned }
+{
+    entries_are_turns();
+}
+
+/// The RENAME comes at the mark.
+pub fn renames_come_at_the_mark()
+    ensures { RenamesComeAtTheMark }
+{
+    clients_are_turned();
+    exclusive_is_alone();
+    definitions_are_done();
+    waits_are_told();
+}
+
+/// So it finds the altered table.
+pub fn renames_find_the_altered()
+    ensures { RenamesFindTheAltered }
+{
+    migratable_plans_are_runnable();
+    followers_alter();
+    renames_come_at_the_mark();
+}
+
+/// And the history that it ends is serial.
+pub fn renames_are_serial()
+    ensures { RenamesAreSerial }
+{
+    migratable_plans_are_runnable();
+    marked_journals_are_serial();
+    renames_come_at_the_mark();
+}
