@@ -9,10 +9,10 @@ use Rattle.server_words.specs.declared.cause.Verdict.{Verdict}
 use Rattle.server_words.specs.declared.cause.Verdict.TheVariants as verdicts
 use Rattle.server_words.specs.declared.entry.Entry.{Entry}
 use Rattle.plan_words.specs.PlanData.{PlanData}
-use Rattle.plan_text.specs.declared.TheConstants.{PLAN_LIMIT}
-use Rattle.plan_text.specs.declared.fault.Refusal.{Refusal}
+use Rattle.plan_document.specs.declared.limits.TheConstants.{PLAN_LIMIT}
+use Rattle.plan_document.specs.declared.fault.PlanRefusal.{PlanRefusal}
 use Rattle.plan_words.specs.Journals.{state_at}
-use Rattle.plan_text.specs.Plans.{reads}
+use Rattle.plan_document.specs.Plans.{reads}
 use Rattle.tool_program.specs.declared.tool.Tool.{Tool}
 use Rattle.tool_program.specs.declared.tool.Tool.TheVariants.{Creating, Reaching, Choosing, Spanning, Copying, Renaming, Done, Reverting, Reverted}
 use Rattle.tool_program.specs.Programs.{progress, clients_over, has_ended, verdict_of, tool_verdict, is_over as tool_is_over}
@@ -29,8 +29,8 @@ use Rattle.migration_host.specs.declared.outcome.Printed.{Printed}
 use Rattle.migration_host.specs.declared.status.Status.{Status}
 use Rattle.migration_host.specs.declared.turns.Turn.{Turn}
 use Rattle.migration_host.specs.Outcomes.{IsUntaken, IsRun, IsReport, IsSchema, IsRefusal, Refuses, PlanChecks, Comes, PlanComes, status_of}
-use Rattle.migration_host.specs.Endings.{Taking, Giving, ReadsAndComes, TellsUsage, TellsReadFault, TellsFaulty, TellsWorkload, TellsNumber, TellsCommand, ComesTo, GivesAll, GivesFront, GivesNone, Gives, status_number}
-use Rattle.migration_host.specs.Promises.{EndsBy, IsSerial, PrintsReport, PrintsSchema, PrintsRevert, PrintsUnfinished, PrintsRefusal, PrintsUsage, PrintsReadFault, PrintsPrefix, PrintsNone, PrintsWorkload, IsUsageOrLost, is_built, reads_plan, Ends, done, checked, generated, usage, refused, reverted, read_fault, write_fault, no_memory, turns_spent}
+use Rattle.migration_host.specs.Endings.{Taking, Giving, said_under, ReadsAndComes, TellsUsage, TellsReadFault, TellsFaulty, TellsWorkload, TellsNumber, TellsCommand, ComesTo, GivesAll, GivesFront, GivesNone, Gives, status_number}
+use Rattle.migration_host.specs.Promises.{EndsBy, IsSerial, PrintsReport, PrintsSchema, PrintsRevert, PrintsUnfinished, PrintsRefusal, PrintsUsage, PrintsReadFault, PrintsPrefix, PrintsNone, PrintsWorkload, IsUsageOrLost, asked, is_built, reads_plan, Ends, done, checked, generated, usage, refused, reverted, read_fault, write_fault, no_memory, turns_spent}
 
 -- ---- journals of runs that are over
 
@@ -122,19 +122,16 @@ of_verdict tell name words source sink printed turns journal number read plan (v
 of_verdict tell name words source sink printed turns journal number read plan verdicts.Unfinished is number_is given accepted run told verdict_is =
     turns_spent (number_is ∙ ap status_number (told.status_is ∙ ap status_of verdict_is)) is (report_of tell source sink printed turns journal read plan verdicts.Unfinished accepted run told verdict_is given)
 
--- the command of a line that does this with a plan
-abbrev asked : PlanCommand → Command
-asked plans.Check = Check
-asked plans.Replay = Replay
-
 reads_by : (words : List (List ℕ)) (told : PlanCommand) → command words ≡ Some (asked told) → reads_plan (command words) ≡ true
 reads_by words plans.Check is = rw is refl
 reads_by words plans.Replay is = rw is refl
 
-refusal_of : (words : List (List ℕ)) (told : PlanCommand) (source : Taking) (sink : Giving) (printed : Printed) (turns : List Turn) (journal : List Entry) (number : ℕ) (read : ReadsAndComes told source (Some printed) turns journal) (refusal : Refusal)
-    → command words ≡ Some (asked told) → number ≡ status_number printed.status → Appends sink.before sink.after printed.text → reads read.bytes ≡ Err refusal → IsUntaken turns journal × IsRefusal refusal printed → Ends words source sink turns journal number
+refusal_of : (words : List (List ℕ)) (told : PlanCommand) (source : Taking) (sink : Giving) (printed : Printed) (turns : List Turn) (journal : List Entry) (number : ℕ) (read : ReadsAndComes told source (Some printed) turns journal) (refusal : PlanRefusal)
+    → command words ≡ Some (asked told) → number ≡ status_number printed.status → Appends sink.before sink.after printed.text → said_under told read.bytes ≡ Err refusal → IsUntaken turns journal × IsRefusal refusal printed → Ends words source sink turns journal number
 refusal_of words told source sink printed turns journal number read refusal is number_is given said comes =
     refused (number_is ∙ ap status_number comes.1.status_is) (reads_by words told is) (record {
+      told = told;
+      command_is = is;
       bytes = read.bytes;
       whole = read.whole;
       refusal = refusal;
@@ -143,8 +140,8 @@ refusal_of words told source sink printed turns journal number read refusal is n
       untaken = comes.0;
     })
 
-of_bytes : VerdictsTellTheAlter → RevertsNameTurns → (words : List (List ℕ)) (told : PlanCommand) (source : Taking) (sink : Giving) (printed : Printed) (turns : List Turn) (journal : List Entry) (number : ℕ) (read : ReadsAndComes told source (Some printed) turns journal) (said : Result PlanData Refusal)
-    → command words ≡ Some (asked told) → number ≡ status_number printed.status → Appends sink.before sink.after printed.text → reads read.bytes ≡ said → Comes told said (Some printed) turns journal → Ends words source sink turns journal number
+of_bytes : VerdictsTellTheAlter → RevertsNameTurns → (words : List (List ℕ)) (told : PlanCommand) (source : Taking) (sink : Giving) (printed : Printed) (turns : List Turn) (journal : List Entry) (number : ℕ) (read : ReadsAndComes told source (Some printed) turns journal) (said : Result PlanData PlanRefusal)
+    → command words ≡ Some (asked told) → number ≡ status_number printed.status → Appends sink.before sink.after printed.text → said_under told read.bytes ≡ said → Comes told said (Some printed) turns journal → Ends words source sink turns journal number
 of_bytes tell name words plans.Replay source sink printed turns journal number read (Ok plan) is number_is given said comes =
     of_verdict tell name words source sink printed turns journal number read plan (verdict_of plan journal) is number_is given said comes.0 comes.1 refl
 of_bytes tell name words plans.Check source sink printed turns journal number read (Ok plan) is number_is given said comes =
@@ -164,7 +161,7 @@ of_bytes tell name words plans.Check source sink printed turns journal number re
 plan_given : VerdictsTellTheAlter → RevertsNameTurns → (words : List (List ℕ)) (source : Taking) (sink : Giving) (printed : Printed) (turns : List Turn) (journal : List Entry) (number : ℕ) (told : PlanCommand)
     → command words ≡ Some (asked told) → number ≡ status_number printed.status → Appends sink.before sink.after printed.text → TellsCommand told source (Some printed) turns journal → Ends words source sink turns journal number
 plan_given tell name words source sink printed turns journal number told is number_is given (inl read) =
-    of_bytes tell name words told source sink printed turns journal number read (reads read.bytes) is number_is given refl read.comes
+    of_bytes tell name words told source sink printed turns journal number read (said_under told read.bytes) is number_is given refl read.comes
 plan_given tell name words source sink printed turns journal number told is number_is given (inr fault) =
     read_fault (number_is ∙ ap status_number fault.status_is) (reads_by words told is) (record {
       rose = fault.rose;
@@ -207,7 +204,7 @@ ends_by tell name words source sink (Some printed) turns journal status comes (i
 none_taken : {A : Type 0} (turns : List Turn) (journal : List Entry) → IsUntaken turns journal → (length journal == 0) ≡ false → A
 none_taken turns journal none some = absurd (cc (sym (ap (λ (entries : List Entry). length entries == 0) none.no_journal) ∙ some))
 
-plan_ran : (told : PlanCommand) (source : Taking) (printed : Option Printed) (turns : List Turn) (journal : List Entry) (read : ReadsAndComes told source printed turns journal) (said : Result PlanData Refusal) (shown : Option Printed) → reads read.bytes ≡ said → Comes told said shown turns journal → (length journal == 0) ≡ false
+plan_ran : (told : PlanCommand) (source : Taking) (printed : Option Printed) (turns : List Turn) (journal : List Entry) (read : ReadsAndComes told source printed turns journal) (said : Result PlanData PlanRefusal) (shown : Option Printed) → said_under told read.bytes ≡ said → Comes told said shown turns journal → (length journal == 0) ≡ false
     → IsSerial source turns journal
 plan_ran plans.Replay source printed turns journal read (Ok plan) None said run some = serial_of plans.Replay source turns journal printed read plan said run
 plan_ran plans.Replay source printed turns journal read (Ok plan) (Some shown) said comes some = serial_of plans.Replay source turns journal printed read plan said comes.0
@@ -216,7 +213,7 @@ plan_ran plans.Replay source printed turns journal read (Err refusal) shown said
 plan_ran plans.Check source printed turns journal read (Err refusal) shown said comes some = none_taken turns journal comes.0 some
 
 ran : (told : PlanCommand) (source : Taking) (printed : Option Printed) (turns : List Turn) (journal : List Entry) → ReadsAndComes told source printed turns journal → (length journal == 0) ≡ false → IsSerial source turns journal
-ran told source printed turns journal read some = plan_ran told source printed turns journal read (reads read.bytes) printed refl read.comes some
+ran told source printed turns journal read some = plan_ran told source printed turns journal read (said_under told read.bytes) printed refl read.comes some
 
 came_of_plan : (source : Taking) (printed : Option Printed) (turns : List Turn) (journal : List Entry) (told : PlanCommand) → TellsCommand told source printed turns journal → (length journal == 0) ≡ false → IsSerial source turns journal
 came_of_plan source None turns journal told (inl none) some = none_taken turns journal none some
@@ -311,7 +308,7 @@ under_1 words source sink turns journal number (no_memory n prints) is_number = 
 under_1 words source sink turns journal number (turns_spent n is prints) is_number = absurd (omega arith)
 
 -- status 2
-pub under_2 : (words : List (List ℕ)) (source : Taking) (sink : Giving) (turns : List Turn) (journal : List Entry) (number : ℕ) → Ends words source sink turns journal number → number ≡ 2 → PrintsRefusal source sink turns journal
+pub under_2 : (words : List (List ℕ)) (source : Taking) (sink : Giving) (turns : List Turn) (journal : List Entry) (number : ℕ) → Ends words source sink turns journal number → number ≡ 2 → PrintsRefusal words source sink turns journal
 under_2 words source sink turns journal number (done n is prints) is_number = absurd (omega arith)
 under_2 words source sink turns journal number (checked n is prints) is_number = absurd (omega arith)
 under_2 words source sink turns journal number (generated n told is prints) is_number = absurd (omega arith)

@@ -1,11 +1,13 @@
 -- How a call of the program ends: its status, what it took from the source and what it gave to the sink.
-use Rattle.std.specs.Prelude.{◌≡◌, ℕ, List, [], Option, Some, None, ◌⊎◌}
+use Rattle.std.specs.Prelude.{◌≡◌, ℕ, List, [], Option, Some, None, Result, ◌⊎◌}
 use Rattle.std.specs.Io.KnownBytes.{Appends, Consumes}
 use Rattle.gho_edges.specs.Edges.{Rose}
 use Rattle.gho_edges.specs.Whole.{ReadsWhole, GivesPart}
 use Rattle.server_words.specs.declared.entry.Entry.{Entry}
-use Rattle.plan_text.specs.declared.TheConstants.{PLAN_LIMIT}
-use Rattle.plan_text.specs.Plans.{reads}
+use Rattle.plan_words.specs.PlanData.{PlanData}
+use Rattle.plan_document.specs.declared.limits.TheConstants.{PLAN_LIMIT}
+use Rattle.plan_document.specs.declared.fault.PlanRefusal.{PlanRefusal}
+use Rattle.plan_document.specs.Plans.{read, reads}
 use Rattle.command_words.specs.declared.command.Command.{Command}
 use Rattle.command_words.specs.declared.command.Command.TheVariants.{Check, Replay, Run, Generate}
 use Rattle.migration_host.specs.declared.command.PlanCommand.{PlanCommand}
@@ -51,11 +53,16 @@ took left faults old new = record { before = left old; after = left new; faults_
 abbrev pub gave : {K : Type 0} → (K → Option (List ℕ)) → (K → ℕ) → K → K → Giving
 gave held faults old new = record { before = held old; after = held new; faults_before = faults old; faults_after = faults new }
 
+-- What a plan's bytes say under a command: `check` takes every plan, and `replay` those that are run today.
+abbrev pub said_under : PlanCommand → List ℕ → Result PlanData PlanRefusal
+said_under plans.Check bytes = read bytes
+said_under plans.Replay bytes = reads bytes
+
 -- the source was read to its end or one byte past the limit, and this comes of its bytes under the command
 pub record ReadsAndComes (told : PlanCommand) (source : Taking) (printed : Option Printed) (turns : List Turn) (journal : List Entry) : Type 0 where
   pub bytes : List ℕ
   pub whole : ReadsWhole PLAN_LIMIT source.before source.after bytes
-  pub comes : Comes told (reads bytes) printed turns journal
+  pub comes : Comes told (said_under told bytes) printed turns journal
 
 -- the plan of a number is printed, and nothing is taken
 pub record TellsWorkload (number : ℕ) (source : Taking) (printed : Printed) (turns : List Turn) (journal : List Entry) : Type 0 where

@@ -7,7 +7,7 @@ use Rattle.server_words.specs.declared.cause.Verdict.{Verdict}
 use Rattle.server_words.specs.declared.cause.Verdict.TheVariants as verdicts
 use Rattle.server_words.specs.declared.entry.Entry.{Entry}
 use Rattle.plan_words.specs.PlanData.{PlanData}
-use Rattle.plan_text.specs.declared.fault.Refusal.{Refusal}
+use Rattle.plan_document.specs.declared.fault.PlanRefusal.{PlanRefusal}
 use Rattle.plan_words.specs.Journals.{state_at}
 use Rattle.tool_program.specs.Programs.{verdict_of}
 use Rattle.migration_core.specs.Runs.{is_over}
@@ -76,18 +76,18 @@ PlanChecks plan None = Unit {0}
 PlanChecks plan (Some printed) = IsSchema plan printed
 
 -- the refusal of bytes
-pub record IsRefusal (refusal : Refusal) (printed : Printed) : Type 0 where
+pub record IsRefusal (refusal : PlanRefusal) (printed : Printed) : Type 0 where
   pub status_is : printed.status ≡ statuses.Refused
   pub text_is : printed.text ≡ refused_text refusal
 
 -- what is printed of a refusal, or nothing where memory ran out
-abbrev pub Refuses : Refusal → Option Printed → Type 0
+abbrev pub Refuses : PlanRefusal → Option Printed → Type 0
 Refuses refusal None = Unit {0}
 Refuses refusal (Some printed) = IsRefusal refusal printed
 
 -- What comes of bytes that say this under a command: what comes of the plan, or the refusal without a turn; or nothing is
 -- printed, being out of memory.
-abbrev pub Comes : PlanCommand → Result PlanData Refusal → Option Printed → List Turn → List Entry → Type 0
+abbrev pub Comes : PlanCommand → Result PlanData PlanRefusal → Option Printed → List Turn → List Entry → Type 0
 Comes Check (Ok plan) printed turns journal = IsUntaken turns journal × PlanChecks plan printed
 Comes Replay (Ok plan) printed turns journal = PlanComes plan printed turns journal
 Comes command (Err refusal) printed turns journal = IsUntaken turns journal × Refuses refusal printed

@@ -10,10 +10,10 @@ use Rattle.server_words.specs.declared.cause.Verdict.{Verdict}
 use Rattle.server_words.specs.declared.cause.Verdict.TheVariants.{Done, Reverted, Unfinished}
 use Rattle.server_words.specs.declared.entry.Entry.{Entry}
 use Rattle.plan_words.specs.PlanData.{PlanData}
-use Rattle.plan_text.specs.declared.TheConstants.{PLAN_LIMIT}
-use Rattle.plan_text.specs.declared.fault.Refusal.{Refusal}
+use Rattle.plan_document.specs.declared.limits.TheConstants.{PLAN_LIMIT}
+use Rattle.plan_document.specs.declared.fault.PlanRefusal.{PlanRefusal}
 use Rattle.plan_words.specs.Journals.{state_at}
-use Rattle.plan_text.specs.Plans.{reads}
+use Rattle.plan_document.specs.Plans.{read, reads}
 use Rattle.tool_program.specs.Programs.{has_ended, verdict_of}
 use Rattle.serial_laws.specs.VerdictLaws.{TellsAlter, NamesTurn}
 use Rattle.migration_core.specs.Runs.{turn_limit}
@@ -23,9 +23,11 @@ use Rattle.report_text.specs.Reports.{report}
 use Rattle.command_words.specs.Commands.{command}
 use Rattle.command_words.specs.declared.command.Command.{Command}
 use Rattle.command_words.specs.declared.command.Command.TheVariants.{Check, Replay, Run, Generate}
+use Rattle.migration_host.specs.declared.command.PlanCommand.{PlanCommand}
+use Rattle.migration_host.specs.declared.command.PlanCommand.TheVariants as plans
 use Rattle.migration_host.specs.declared.outcome.Printed.{Printed}
 use Rattle.migration_host.specs.declared.turns.Turn.{Turn}
-use Rattle.migration_host.specs.Endings.{Taking, Giving, ComesTo}
+use Rattle.migration_host.specs.Endings.{Taking, Giving, said_under, ComesTo}
 use Rattle.migration_host.specs.Outcomes.{IsUntaken, turns_of}
 use Rattle.migration_host.specs.Texts.{refused_text, usage_text, read_fault_text}
 use Rattle.workload_gen.specs.Workloads.{workload}
@@ -75,7 +77,7 @@ pub record PrintsSchema (source : Taking) (sink : Giving) (turns : List Turn) (j
   pub bytes : List ℕ
   pub whole : ReadsWhole PLAN_LIMIT source.before source.after bytes
   pub plan : PlanData
-  pub accepted : reads bytes ≡ Ok plan
+  pub accepted : read bytes ≡ Ok plan
   pub schema : Schema
   pub alters : Alters plan schema
   pub given : Appends sink.before sink.after (printed_schema schema)
@@ -87,12 +89,20 @@ pub record PrintsWorkload (number : ℕ) (source : Taking) (sink : Giving) (turn
   pub given : Appends sink.before sink.after (workload number)
   pub untaken : IsUntaken turns journal
 
--- Status 2: the source was read whole, and what is given is the first refusal of its bytes; no turn was taken.
-pub record PrintsRefusal (source : Taking) (sink : Giving) (turns : List Turn) (journal : List Entry) : Type 0 where
+-- the command of a line that does this with a plan
+abbrev pub asked : PlanCommand → Command
+asked plans.Check = Check
+asked plans.Replay = Replay
+
+-- Status 2: the source was read whole, and what is given is the first refusal of its bytes under the command; no turn was
+-- taken.
+pub record PrintsRefusal (words : List (List ℕ)) (source : Taking) (sink : Giving) (turns : List Turn) (journal : List Entry) : Type 0 where
+  pub told : PlanCommand
+  pub command_is : command words ≡ Some (asked told)
   pub bytes : List ℕ
   pub whole : ReadsWhole PLAN_LIMIT source.before source.after bytes
-  pub refusal : Refusal
-  pub refused : reads bytes ≡ Err refusal
+  pub refusal : PlanRefusal
+  pub refused : said_under told bytes ≡ Err refusal
   pub given : Appends sink.before sink.after (refused_text refusal)
   pub untaken : IsUntaken turns journal
 
@@ -139,7 +149,7 @@ pub data Ends (words : List (List ℕ)) (source : Taking) (sink : Giving) (turns
   checked : number ≡ 0 → command words ≡ Some Check → PrintsSchema source sink turns journal → Ends words source sink turns journal number
   generated : number ≡ 0 → (told : ℕ) → command words ≡ Some (Generate told) → PrintsWorkload told source sink turns journal → Ends words source sink turns journal number
   usage : number ≡ 1 → is_built (command words) ≡ false → PrintsUsage source sink turns journal → Ends words source sink turns journal number
-  refused : number ≡ 2 → reads_plan (command words) ≡ true → PrintsRefusal source sink turns journal → Ends words source sink turns journal number
+  refused : number ≡ 2 → reads_plan (command words) ≡ true → PrintsRefusal words source sink turns journal → Ends words source sink turns journal number
   reverted : number ≡ 3 → command words ≡ Some Replay → PrintsRevert source sink turns journal → Ends words source sink turns journal number
   read_fault : number ≡ 4 → reads_plan (command words) ≡ true → PrintsReadFault source sink turns journal → Ends words source sink turns journal number
   write_fault : number ≡ 5 → PrintsPrefix words source sink turns journal → Ends words source sink turns journal number

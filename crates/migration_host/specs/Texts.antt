@@ -1,17 +1,24 @@
 -- The texts that the program prints where it prints neither a report nor a schema. This project's rule.
-use Rattle.std.specs.Prelude.{codes, ℕ, List, [], ◌++◌, Option, Some, None}
+use Rattle.std.specs.Prelude.{codes, ℕ, List, [], ◌++◌}
 use Rattle.std.specs.Fmt.{decimal}
-use Rattle.plan_text.specs.declared.fault.Refusal.{Refusal}
-use Rattle.plan_text.specs.Refusals.{refusal_number, refusal_name, refused_table}
+use Rattle.plan_document.specs.declared.fault.Place.{Place}
+use Rattle.plan_document.specs.declared.fault.Place.TheVariants.{Nowhere, Table, Row, Client, Operator, Fault, TurnWord}
+use Rattle.plan_document.specs.declared.fault.PlanRefusal.{PlanRefusal}
+use Rattle.plan_document.specs.Refusals.{refusal_code, refusal_place}
 
--- the table whose text is refused, where one is: ` table 1`
-abbrev pub place_text : Option ℕ → List ℕ
-place_text None = []
-place_text (Some table) = codes " table " ++ decimal table
+-- where a refusal stands: ` table 1 row 5`
+unfoldable pub place_text : Place → List ℕ
+place_text Nowhere = []
+place_text (Table table) = codes " table " ++ decimal table
+place_text (Row table row) = codes " table " ++ decimal table ++ codes " row " ++ decimal row
+place_text (Client client line) = codes " client " ++ decimal client ++ codes " line " ++ decimal line
+place_text (Operator line) = codes " operator line " ++ decimal line
+place_text (Fault fault) = codes " fault " ++ decimal fault
+place_text (TurnWord word) = codes " turn word " ++ decimal word
 
 -- a refusal's number, name and place: `refused 14 no_clustered_key table 1`
-unfoldable pub refused_text : Refusal → List ℕ
-refused_text refusal = codes "refused " ++ decimal (refusal_number refusal) ++ codes " " ++ refusal_name refusal ++ place_text (refused_table refusal) ++ codes "\n"
+unfoldable pub refused_text : PlanRefusal → List ℕ
+refused_text refusal = codes "refused " ++ decimal (refusal_code refusal).0 ++ codes " " ++ (refusal_code refusal).1 ++ place_text (refusal_place refusal) ++ codes "\n"
 
 -- what faulty words get
 abbrev pub usage_text : List ℕ

@@ -9,7 +9,7 @@ mod status;
 mod top;
 mod turns;
 
-pub use accepting::read_plan;
+pub use accepting::{read_any_plan, read_plan};
 pub use command::PlanCommand;
 pub use command_words::{Command, Line};
 pub use status::Status;

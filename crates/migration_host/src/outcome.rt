@@ -1,16 +1,18 @@
 //! What comes of a plan's bytes.
 
-ghost use Rattle.std.specs.Prelude.{◌≡◌, [], ◌++◌, IfSome, IfOk, OnOk, Ok};
-ghost use Rattle.plan_text.specs.Plans.{reads};
+ghost use Rattle.std.specs.Prelude.{◌≡◌, [], ◌++◌, IfSome, IfOk, OnOk};
+ghost use Rattle.std.specs.Fmt.{decimal};
 ghost use Rattle.plan_words.specs.Migratable.{IsMigratable};
 ghost use Rattle.migration_host.specs.Checks.{Alters};
 ghost use Rattle.migration_host.specs.Replays.{IsEnd};
 ghost use Rattle.migration_host.specs.Outcomes.{Comes, IsSchemaText, PlanChecks, PlanComes, Refuses, Reports};
 ghost use Rattle.migration_host.specs.Texts.{place_text, refused_text};
+ghost use Rattle.migration_host.specs.Endings.{said_under};
+ghost use Rattle.migration_host.specs.declared.command.PlanCommand.TheVariants as commands;
 ghost use Rattle.migration_host.specs.declared.status.Status.TheVariants as statuses;
 ghost use Rattle.workload_gen.specs.Workloads.{workload};
 
-use crate::accepting::read_plan;
+use crate::accepting::{read_any_plan, read_plan};
 use crate::command::PlanCommand;
 use crate::replay::replay_plan;
 use crate::status::{Status, status_of};
@@ -18,8 +20,8 @@ use crate::turns::{Turns, turns_in};
 use gho_schema::Schema;
 use gho_values::{Sequence, Text};
 use migration_core::{End, TURN_LIMIT};
+use plan_document::{Place, PlanFault, PlanRefusal};
 use plan_laws::laws::accepted_plans_are_migratable;
-use plan_text::{PlanFault, Refusal};
 use plan_words::Plan;
 use report_text::report;
 use schema_print::print_schema;
@@ -84,33 +86,52 @@ pub fn untaken(alloc: Global, printed: Option<Printed>) -> Outcome
     }
 }
 
-fn push_place(into: &mut Text, table: Option<u32>) -> Result<(), AllocError>
-    ensures { OnOk result (into.new ≡ into.old ++ place_text table) }
+/// Adds a word and a number.
+fn push_numbered(into: &mut Text, word: &str, number: u32) -> Result<(), AllocError>
+    ensures { OnOk result (into.new ≡ into.old ++ (word.now ++ decimal number)) }
 {
-    match table {
-        None => Ok(()),
-        Some(table) => {
-            into.push_str(" table ")?;
-            into.push_number(i128::from(table))
+    into.push_str(word)?;
+    into.push_number(i128::from(number))
+}
+
+/// Adds where a refusal stands.
+#[tactic(auto, unfolding(crate::specs::Texts::place_text))]
+fn push_place(into: &mut Text, place: Place) -> Result<(), AllocError>
+    ensures { OnOk result (into.new ≡ into.old ++ place_text place) }
+{
+    match place {
+        Place::Nowhere => Ok(()),
+        Place::Table(table) => push_numbered(into, " table ", table),
+        Place::Row { table, row } => {
+            push_numbered(into, " table ", table)?;
+            push_numbered(into, " row ", row)
         }
+        Place::Client { client, line } => {
+            push_numbered(into, " client ", client)?;
+            push_numbered(into, " line ", line)
+        }
+        Place::Operator(line) => push_numbered(into, " operator line ", line),
+        Place::Fault(fault) => push_numbered(into, " fault ", fault),
+        Place::TurnWord(word) => push_numbered(into, " turn word ", word),
     }
 }
 
 /// Adds a refusal's number, name and place.
 #[tactic(auto, unfolding(crate::specs::Texts::refused_text))]
-fn push_refusal(into: &mut Text, refusal: Refusal) -> Result<(), AllocError>
+fn push_refusal(into: &mut Text, refusal: PlanRefusal) -> Result<(), AllocError>
     ensures { OnOk result (into.new ≡ into.old ++ refused_text refusal) }
 {
+    let (number, name) = refusal.code();
     into.push_str("refused ")?;
-    into.push_number(i128::from(refusal.number()))?;
+    into.push_number(i128::from(number))?;
     into.push_str(" ")?;
-    into.push_str(refusal.name())?;
-    push_place(into, refusal.table())?;
+    into.push_str(name)?;
+    push_place(into, refusal.place())?;
     into.push_str("\n")
 }
 
 /// What is printed of a refusal.
-fn refused(alloc: Global, refusal: Refusal) -> Option<Printed>
+fn refused(alloc: Global, refusal: PlanRefusal) -> Option<Printed>
     ensures { Refuses refusal result }
 {
     let mut text = Text::new(alloc);
@@ -201,33 +222,43 @@ fn plan_checked(alloc: Global, plan: &Plan) -> Option<Printed>
     }
 }
 
-/// What comes of a plan under a command.
-fn plan_outcome(alloc: Global, command: PlanCommand, plan: &Plan) -> Outcome
-    requires { IsMigratable plan.now }
-    ensures { Comes command (Ok plan.now) result.printed result.turns result.journal }
-{
-    match command {
-        PlanCommand::Check => untaken(alloc, plan_checked(alloc, plan)),
-        PlanCommand::Replay => plan_replayed(alloc, plan),
-    }
-}
-
 /// What comes of a plan's bytes under a command, where memory ran out before they were read.
 fn unread(alloc: Global, command: PlanCommand, bytes: &[u8]) -> Outcome
-    ensures { Comes command (reads bytes.now) result.printed result.turns result.journal }
+    ensures { Comes command (said_under command bytes.now) result.printed result.turns result.journal }
 {
     accepted_plans_are_migratable();
     journals_are_serial();
     untaken(alloc, None)
 }
 
-/// What comes of a plan's bytes under a command.
-pub fn outcome_of(alloc: Global, command: PlanCommand, bytes: &[u8]) -> Outcome
-    ensures { Comes command (reads bytes.now) result.printed result.turns result.journal }
+/// What comes of a plan's bytes under `check`.
+fn bytes_checked(alloc: Global, bytes: &[u8]) -> Outcome
+    ensures { Comes commands.Check (said_under commands.Check bytes.now) result.printed result.turns result.journal }
+{
+    match read_any_plan(alloc, bytes) {
+        Ok(plan) => untaken(alloc, plan_checked(alloc, &plan)),
+        Err(PlanFault::Refused(refusal)) => untaken(alloc, refused(alloc, refusal)),
+        Err(PlanFault::Memory) => unread(alloc, PlanCommand::Check, bytes),
+    }
+}
+
+/// What comes of a plan's bytes under `replay`.
+fn bytes_replayed(alloc: Global, bytes: &[u8]) -> Outcome
+    ensures { Comes commands.Replay (said_under commands.Replay bytes.now) result.printed result.turns result.journal }
 {
     match read_plan(alloc, bytes) {
-        Ok(plan) => plan_outcome(alloc, command, &plan),
+        Ok(plan) => plan_replayed(alloc, &plan),
         Err(PlanFault::Refused(refusal)) => untaken(alloc, refused(alloc, refusal)),
-        Err(PlanFault::Memory) => unread(alloc, command, bytes),
+        Err(PlanFault::Memory) => unread(alloc, PlanCommand::Replay, bytes),
+    }
+}
+
+/// What comes of a plan's bytes under a command.
+pub fn outcome_of(alloc: Global, command: PlanCommand, bytes: &[u8]) -> Outcome
+    ensures { Comes command (said_under command bytes.now) result.printed result.turns result.journal }
+{
+    match command {
+        PlanCommand::Check => bytes_checked(alloc, bytes),
+        PlanCommand::Replay => bytes_replayed(alloc, bytes),
     }
 }

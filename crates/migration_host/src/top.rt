@@ -14,7 +14,7 @@ use crate::status::Status;
 use crate::turns::Turns;
 use command_words::{Command, Line};
 use gho_edges::{Gate, ReadFault, Sink, Source, give_whole, read_whole};
-use plan_text::PLAN_LIMIT;
+use plan_document::PLAN_LIMIT;
 use serial_laws::laws::{reverts_name_turns, verdicts_tell_the_alter};
 use server_words::Journal;
 use std::alloc::Global;
@@ -123,7 +123,7 @@ pub fn ghost_<R: Threads + Wait + Sync, S: Source, K: Sink, G: Gate + Sync>(
     ensures usage_only_at_faulty_words { result.status ≡ 1 → is_built (command line.now) ≡ false }
     ensures faulty_words { is_built (command line.now) ≡ false → IsUsageOrLost result.status }
 
-    ensures refused { result.status ≡ 2 → PrintsRefusal (took S.left S.faults source.old source.new) (gave K.held K.faults sink.old sink.new) result.turns result.journal }
+    ensures refused { result.status ≡ 2 → PrintsRefusal line.now (took S.left S.faults source.old source.new) (gave K.held K.faults sink.old sink.new) result.turns result.journal }
 
     ensures read_fault { result.status ≡ 4 → PrintsReadFault (took S.left S.faults source.old source.new) (gave K.held K.faults sink.old sink.new) result.turns result.journal }
 

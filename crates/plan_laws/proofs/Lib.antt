@@ -1,2 +1,3 @@
+mod Accepted
 mod Migratable
-mod PlanRows
+mod Named

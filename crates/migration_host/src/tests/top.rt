@@ -2,7 +2,7 @@
 
 use crate::{Ended, Line, ghost_};
 use gho_edges::{BytesSink, BytesSource, OpenGate, Source};
-use plan_text::PLAN_LIMIT;
+use plan_document::PLAN_LIMIT;
 use std::alloc::{AllocError, Global};
 use std::sync::Wait;
 use std::test::Fail;
@@ -75,7 +75,7 @@ fn a_sink_that_fails_at_any_byte_holds_those_before(rt: HostRuntime) -> Result<(
 #[test]
 fn bytes_past_the_limit_are_refused(rt: HostRuntime) -> Result<(), Fail> {
     let cases = [
-        (PLAN_LIMIT, b"refused 60 not_built\n".as_slice()),
+        (PLAN_LIMIT, b"refused 52 missing_key\n".as_slice()),
         (PLAN_LIMIT + 1, b"refused 59 too_long\n".as_slice()),
     ];
     for (length, text) in cases {

@@ -1,9 +1,0 @@
-pub mod Accepting
-pub mod Clients
-pub mod Documents
-pub mod PlanFaults
-pub mod PlanKeys
-pub mod PlanRows
-pub mod Plans
-pub mod Refusals
-pub mod RowTexts
