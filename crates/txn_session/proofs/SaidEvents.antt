@@ -1,0 +1,38 @@
+-- What is said fits the tables on which it is said.
+use Rattle.std.proofs.Common.{◌≡◌, ℕ, List, [], ◌∷◌, Option, Some, None, refl, sym, ap, ◌∙◌, subst}
+use Rattle.std.specs.Option.{option_map}
+use Rattle.gho_schema.specs.Rows.{key_places}
+use Rattle.event_codec.specs.declared.event.Change.{Change}
+use Rattle.row_store.specs.Databases.{TableRows, Database, find_table, with_change}
+use Rattle.row_store.proofs.ChangedTables.{change_found}
+use Rattle.plain_server.specs.Jobs.{Job, events_of, result_in, job_says, job_of, change_table}
+use Rattle.plain_server.specs.Saying.{tells}
+use Rattle.statement_laws.specs.Covering.{IsOrderlyTable, IsSound}
+use Rattle.statement_laws.specs.Databases.{WhereFound}
+use Rattle.statement_laws.proofs.Stables.{statement_sound}
+use Rattle.written_rows.specs.Fitting.{AllFit}
+use Rattle.server_data.specs.Fitting.{FitsIn, EventsFit}
+use Rattle.statement_replies.proofs.FittingChanges.{told_fit}
+use Rattle.txn_session.specs.Laws.{SaidEventsFit, JobEventsFit}
+
+-- changes that fit a table are events that fit its database
+pub fit_events : (name : List ℕ) (changes : List Change) (tables : Database) (table : TableRows) → find_table name tables ≡ Some table → AllFit (key_places table.schema) changes table.rows → EventsFit tables (events_of name changes)
+unfolding EventsFit AllFit
+fit_events name [] tables table found fit = tt
+fit_events name (change ∷ changes) tables table found fit =
+    (subst (FitsIn change) (sym found) fit.0, fit_events name changes (with_change name (change_table change) tables) (change_table change table) (change_found name (change_table change) tables (λ t. refl) ∙ ap (option_map (change_table change)) found) fit.1)
+
+fit_nothing : (tables : Database) → EventsFit tables []
+unfolding EventsFit
+fit_nothing tables = tt
+
+fit_in_table : (tables : Database) (job : Job) (found : Option TableRows) → find_table job.table tables ≡ found → WhereFound (λ table. IsSound table.schema.columns (job.work table.schema)) found → WhereFound IsOrderlyTable found → EventsFit tables (result_in job found).events
+fit_in_table tables job None is sound orderly = fit_nothing tables
+fit_in_table tables job (Some table) is sound orderly = fit_events job.table (tells table.schema table.rows (job.work table.schema)).changes tables table is (told_fit table (job.work table.schema) orderly sound)
+
+pub job_fits : JobEventsFit
+unfolding job_says
+job_fits tables job sound orderly = fit_in_table tables job (find_table job.table tables) refl sound (orderly.each job.table)
+
+pub said_fits : SaidEventsFit
+said_fits tables statement orderly = job_fits tables (job_of statement) (statement_sound tables statement orderly) orderly

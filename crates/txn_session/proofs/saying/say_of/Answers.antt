@@ -1,0 +1,13 @@
+use Rattle.std.proofs.Common.{sym, ap, ◌∙◌, subst}
+use Rattle.gho_schema.specs.declared.schema.Schema.{Schema}
+use Rattle.plain_server.specs.declared.work.Work.{Work}
+use Rattle.plain_server.specs.Checking.{work_of}
+use Rattle.statement_laws.specs.Covering.{IsSound}
+use Rattle.statement_laws.proofs.Sound.{work_sound}
+use Rattle.txn_session.proofs.saying.say_of.Goals as goal
+
+pub tell-requires-clause-sound : goal.tell-requires-clause-sound
+tell-requires-clause-sound c =
+    let schema = c.args.table.now.table.schema in
+    subst (λ (s : Schema). IsSound s.columns c.in_ok-work.work) (sym c.new.ensures.schema)
+    (subst (λ (w : Work). IsSound schema.columns w) (sym (c.in_ok-work.ensures ∙ ap (λ (s : Schema). work_of s c.args.statement.now) c.schema.ensures.schema)) (work_sound schema c.args.statement.now c.requires.orderly.defaults))
