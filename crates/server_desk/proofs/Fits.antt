@@ -1,0 +1,99 @@
+-- What the data are promised of events, where the server serves.
+use Rattle.std.proofs.Common.{◌≡◌, ℕ, Bool, true, false, List, [], ◌∷◌, ◌++◌, find, Option, Some, None, refl, sym, ap, ◌∙◌, subst}
+use Rattle.std.specs.Prelude.{◌==◌, is_some}
+use Rattle.std.proofs.lemmas.Bool.{false≢true}
+use Rattle.std.proofs.lemmas.List.{append-nil}
+use Rattle.event_codec.specs.declared.event.Change.{Change}
+use Rattle.event_codec.specs.declared.event.Change.TheVariants.{Write, Update, Delete}
+use Rattle.event_codec.specs.declared.event.RowEvent.{RowEvent}
+use Rattle.gho_schema.specs.declared.schema.Schema.{Schema}
+use Rattle.gho_schema.specs.Rows.{key_of, key_places}
+use Rattle.gho_schema.specs.Tables.{IsTable}
+use Rattle.row_store.specs.ClusteredKeys.{HasClusteredKey}
+use Rattle.row_store.specs.Databases.{TableRows, Database, find_table, with_change}
+use Rattle.row_store.specs.RowLists.{is_at, without_key}
+use Rattle.row_store.proofs.Orders.{Row}
+use Rattle.row_store.proofs.TableLaws.{put_keeps, remove_keeps}
+use Rattle.plain_server.specs.declared.need.Need.{Need}
+use Rattle.plain_server.specs.Jobs.{after_events, change_table}
+use Rattle.plain_server.specs.Rows.{without_row}
+use Rattle.statement_laws.specs.Covering.{IsOrderlyTable}
+use Rattle.statement_laws.specs.Databases.{IsOrderly, WhereFound}
+use Rattle.statement_laws.proofs.OneRow.{same_removal}
+use Rattle.statement_laws.proofs.Orderly.{nulls}
+use Rattle.statement_laws.proofs.Stables.{others_agree}
+use Rattle.ghost_rows.specs.Moments.{Fits}
+use Rattle.ghost_rows.proofs.TimelineLaws.{none_clashing}
+use Rattle.ghost_laws.specs.Fitting as ghost
+use Rattle.ghost_laws.proofs.Changing.{found_stands}
+use Rattle.ghost_laws.proofs.Fitting.{fitting_end, orderly_event}
+use Rattle.history_laws.specs.Holdings.{Face}
+use Rattle.written_rows.specs.Fitting.{FitsRows, IsNewAmong}
+use Rattle.server_data.specs.Fitting.{EventsFit, FitsIn}
+use Rattle.state_laws.specs.Keeping.{AllStand, OwnFits}
+use Rattle.state_laws.specs.Granting.{grown, GrowsWell}
+use Rattle.state_laws.proofs.Kept.{Keeps, own_others}
+use Rattle.state_laws.proofs.Granted.{seen_orderly, stands_after}
+use Rattle.state_laws.proofs.Deeds.{grown_apart, grown_orderly}
+
+-- a change that fits a table fits its rows by their keys
+change_fits : (schema : Schema) (rows : List Row) (change : Change) → HasClusteredKey schema → IsTable schema rows → Fits schema rows change → FitsRows (key_places schema) rows change
+change_fits schema rows (Write row) has is fits = (put_keeps nulls (record { schema = schema; rows = rows }) row has is fits.0 (none_clashing schema row rows fits.1)).0
+change_fits schema rows (Update before after) has is fits =
+    let places : List ℕ = key_places schema in
+    let left : List Row = without_key places (key_of places before) rows in
+    let stood = found_stands (is_at places (key_of places before)) before rows fits.0 in
+    let gone : left ≡ without_row before rows = same_removal places before rows is.ascends stood in
+    let new = put_keeps nulls (record { schema = schema; rows = left }) after has (remove_keeps schema rows (key_of places before) is) fits.1 (none_clashing schema after left fits.2) in
+    (stood, subst (λ (others : List Row). IsNewAmong places others after) gone new.0)
+change_fits schema rows (Delete row) has is fits = found_stands (is_at (key_places schema) (key_of (key_places schema) row)) row rows fits
+
+found_fits : (change : Change) (found : Option TableRows) → WhereFound IsOrderlyTable found → is_some found ≡ true → WhereFound (λ table. Fits table.schema table.rows change) found → FitsIn change found
+found_fits change None is stands fits = absurd (false≢true stands)
+found_fits change (Some table) is stands fits = change_fits table.schema table.rows change is.keyed is.is_table fits
+
+stand_event : (tables : Database) (event : RowEvent) (events : List RowEvent) → AllStand tables events → AllStand (with_change event.table (change_table event.change) tables) events
+unfolding after_events
+stand_event tables event [] stand = tt
+stand_event tables event (first ∷ events) stand = (stands_after first.table tables (event ∷ []) ∙ stand.0, stand_event tables event events stand.1)
+
+-- *Events that fit, and whose tables stand, fit by their keys.*
+pub data_fits : (tables : Database) (events : List RowEvent) → IsOrderly tables → AllStand tables events → ghost.EventsFit tables events → EventsFit tables events
+unfolding ghost.EventsFit EventsFit
+data_fits tables [] is stand fits = tt
+data_fits tables (event ∷ events) is stand fits = (
+  found_fits event.change (find_table event.table tables) (is.each event.table) stand.0 fits.0,
+  data_fits (with_change event.table (change_table event.change) tables) events (orderly_event tables event is fits.0) (stand_event tables event events stand.1) fits.1,
+)
+
+fit_behind : (tables : Database) (a b : List RowEvent) → ghost.EventsFit tables (a ++ b) → ghost.EventsFit (after_events tables a) b
+unfolding after_events ghost.EventsFit
+fit_behind tables [] b fits = fits
+fit_behind tables (event ∷ a) b fits = fit_behind (with_change event.table (change_table event.change) tables) a b fits.1
+
+stand_behind : (tables : Database) (a b : List RowEvent) → AllStand tables (a ++ b) → AllStand tables b
+stand_behind tables [] b stand = stand
+stand_behind tables (event ∷ a) b stand = stand_behind tables a b stand.1
+
+stand_seen : (tables : Database) (writes events : List RowEvent) → AllStand tables events → AllStand (after_events tables writes) events
+stand_seen tables writes [] stand = tt
+stand_seen tables writes (event ∷ events) stand = (stands_after event.table tables writes ∙ stand.0, stand_seen tables writes events stand.1)
+
+-- what a session writes fits the tables as it sees them
+pub own_fit : (tables : Database) (faces : ℕ → Face) (number : ℕ) (need : Need) (events : List RowEvent) → Keeps tables faces → GrowsWell tables faces number need events → EventsFit (after_events tables (faces number).hold.writes) events
+own_fit tables faces number need events kept well =
+    let own : Face = grown (faces number) need events in
+    data_fits (after_events tables (faces number).hold.writes) events (seen_orderly tables (faces number) kept.orderly (kept.own number))
+    (stand_seen tables (faces number).hold.writes events (stand_behind tables (faces number).hold.writes events well.own.standing))
+    (fit_behind tables (faces number).hold.writes events (fitting_end own.hold.names own.hold.locks own.hold.writes tables kept.orderly well.own.fitting))
+
+-- what others wrote fits the tables behind what a session commits
+pub others_fit : (tables : Database) (faces : ℕ → Face) (number : ℕ) (need : Need) (events : List RowEvent) → Keeps tables faces → GrowsWell tables faces number need events → (n : ℕ) → (n == number) ≡ false
+    → EventsFit (after_events tables ((faces number).hold.writes ++ events)) (faces n).hold.writes
+others_fit tables faces number need events kept well n differ =
+    let own : Face = grown (faces number) need events in
+    let after : Database = after_events tables own.hold.writes in
+    let orderly : IsOrderly after = grown_orderly tables faces number need events kept well in
+    let stays : OwnFits after (faces n) = own_others tables after (faces n)
+    (others_agree (faces n).hold.names own.hold.names own.hold.locks (faces n).hold.locks tables own.hold.writes (grown_apart tables faces number need events kept well n differ) well.own.covered) (kept.own n) in
+    data_fits after (faces n).hold.writes orderly stays.standing (fitting_end (faces n).hold.names (faces n).hold.locks (faces n).hold.writes after orderly stays.fitting)

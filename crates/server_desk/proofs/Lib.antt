@@ -1,0 +1,4 @@
+pub mod Fits
+pub mod Having
+pub mod Steps
+pub mod Requests

@@ -1,0 +1,13 @@
+use Rattle.std.proofs.Common.{[]}
+use Rattle.server_desk.proofs.Steps.{commit_needs, commits_have, commits_state}
+use Rattle.server_desk.proofs.committing.commit.Goals as goal
+
+pub commit-requires : goal.commit-requires
+commit-requires g c = commit_needs (g.D.Data.committed c.args.store.now) (g.D.Data.written c.args.store.now) c.args.desk.now c.args.session c.requires
+
+pub returns-clause-state : goal.returns-clause-state
+returns-clause-state g c =
+    commits_state (g.D.Data.committed c.args.store.now) (g.D.Data.committed c.commit.new.self) (g.D.Data.written c.args.store.now) c.args.desk.now c.commit-2.new.self c.args.session c.requires.have c.commit.ensures.committed c.commit-2.ensures
+
+pub returns-clause-have : goal.returns-clause-have
+returns-clause-have g c = commits_have (g.D.Data.written c.args.store.now) (g.D.Data.written c.commit.new.self) c.args.desk.now c.commit-2.new.self c.args.session [] c.requires.have c.commit.ensures.own c.commit.ensures.others c.commit-2.ensures
