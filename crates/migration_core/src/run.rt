@@ -9,9 +9,10 @@ ghost use Rattle.migration_core.specs.declared.run.Replayed.TheVariants as Repla
 
 use crate::book::{TURN_LIMIT, TurnBook};
 use crate::turn::take_turn;
+use paged_serving::Serve;
 use plan_words::Plan;
 use script_text::Actor;
-use server_words::{Entry, Journal, Serve, Verdict};
+use server_words::{Entry, Journal, Verdict};
 use std::alloc::{AllocError, Global};
 use std::marker::Model;
 

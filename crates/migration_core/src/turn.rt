@@ -7,8 +7,9 @@ ghost use Rattle.migration_core.specs.Runs.{IsKept, connected_for, journal_after
 
 use crate::actor::is_client;
 use crate::book::TurnBook;
+use paged_serving::Serve;
 use script_text::Actor;
-use server_words::{Answer, Asked, Entry, Serve};
+use server_words::{Answer, Asked, Entry};
 use std::alloc::{AllocError, Global};
 
 /// The actor's session: the one of its last turn, else a new one.

@@ -7,8 +7,9 @@ ghost use Rattle.tool_program.specs.Orders.{ReplayOrder};
 ghost use Rattle.migration_core.specs.Runs.{is_over, turn_limit};
 
 use crate::run::{Replayed, Run};
+use paged_serving::Serve;
 use plan_words::Plan;
-use server_words::{Journal, Serve, Verdict};
+use server_words::{Journal, Verdict};
 use std::alloc::{AllocError, Global};
 
 /// How a replay ended.

@@ -20,6 +20,7 @@ use crate::turns::{Turns, turns_in};
 use gho_schema::Schema;
 use gho_values::{Sequence, Text};
 use migration_core::{End, TURN_LIMIT};
+use paged_serving::Serve;
 use plan_document::{Place, PlanFault, PlanRefusal};
 use plan_laws::laws::accepted_plans_are_migratable;
 use plan_words::Plan;
@@ -27,7 +28,7 @@ use report_text::report;
 use schema_print::print_schema;
 use serial_laws::laws::journals_are_serial;
 use server_core::Server;
-use server_words::{Journal, Serve};
+use server_words::Journal;
 use std::alloc::{AllocError, Global};
 use workload_gen::generate;
 

@@ -6,6 +6,7 @@ ghost use Rattle.migration_core.specs.Runs.{turn_limit};
 ghost use Rattle.migration_host.specs.Replays.{IsReplay, IsEnd};
 
 use migration_core::{Left, replay};
+use paged_tables::Tables;
 use plan_words::Plan;
 use serial_laws::laws::journals_are_serial;
 use server_core::Server;
@@ -27,6 +28,6 @@ pub(crate) fn replay_plan(alloc: Global, plan: &Plan) -> Result<Left<Server>, Al
     ensures end { IfOk result (λ left. IfSome left.end (λ end. IsEnd plan.now left.journal end.verdict end.server)) }
 {
     journals_are_serial();
-    let tables = plan.tables().copy_tables(alloc)?;
+    let tables = Tables::from_plain(alloc, plan.tables())?;
     replay(alloc, plan, Server::open(alloc, tables, LIMITS))
 }

@@ -1,2 +1,3 @@
+pub mod BareNames
 pub mod Steps
 pub mod Walks

@@ -3,27 +3,41 @@
 ghost use Rattle.std.specs.Prelude.{◌≡◌, ◌++◌, option_to_list, OnOk};
 ghost use Rattle.plan_words.specs.Histories.{tables_left};
 ghost use Rattle.row_store.specs.Databases.{database, find_table};
+ghost use Rattle.table_lines.specs.Tables.{row_lines};
 ghost use Rattle.report_text.specs.Tables.{table_text, tables_text};
 
-use gho_values::Text;
+use gho_values::{Name, Text};
+use paged_tables::Tables;
 use plan_words::Plan;
-use row_store::{Table, Tables};
+use row_pages::{SpanRows, Table};
 use std::alloc::AllocError;
+use std::slice;
 use table_lines::{push_row_lines, push_table_line};
+
+/// Adds each row on a line of its own.
+#[tactic(auto, unfolding(table_lines::specs::Tables::row_lines))]
+fn push_rows(into: &mut Text, rows: SpanRows<'_>) -> Result<(), AllocError>
+    ensures { OnOk result (into.new ≡ into.old ++ row_lines rows.entry) }
+{
+    for row in rows {
+        push_row_lines(into, slice::from_ref(row))?;
+    }
+    Ok(())
+}
 
 fn push_table(into: &mut Text, table: &Table) -> Result<(), AllocError>
     ensures { OnOk result (into.new ≡ into.old ++ table_text table.now.table) }
 {
     push_table_line(into, table.schema())?;
-    push_row_lines(into, table.rows().as_slice())
+    push_rows(into, table.rows())
 }
 
-/// Adds the table of this one's name among those that stand, where it is there.
+/// Adds the table of this name among those that stand, where it is there.
 #[tactic(auto, using(crate::proofs::Steps::found_text, crate::proofs::Steps::missing_text))]
-fn push_left(into: &mut Text, opening: &Table, tables: &Tables) -> Result<(), AllocError>
-    ensures { OnOk result (into.new ≡ into.old ++ tables_text (option_to_list (find_table opening.now.table.schema.name (database tables.now)))) }
+fn push_left(into: &mut Text, name: &Name, tables: &Tables) -> Result<(), AllocError>
+    ensures { OnOk result (into.new ≡ into.old ++ tables_text (option_to_list (find_table name.now (database tables.now)))) }
 {
-    match tables.find(&opening.schema().name) {
+    match tables.find(name) {
         Some(table) => push_table(into, table),
         None => Ok(()),
     }
@@ -39,7 +53,7 @@ pub(crate) fn push_tables_left(
 {
     let opening = plan.tables();
     for place in 0..opening.len() {
-        push_left(into, opening.at(place), tables)?;
+        push_left(into, &opening.at(place).schema().name, tables)?;
     }
     Ok(())
 }

@@ -4,15 +4,15 @@ ghost use Rattle.std.specs.Prelude.{◌≡◌, IfOk};
 ghost use Rattle.row_store.specs.Databases.{database};
 ghost use Rattle.report_text.specs.Reports.{report};
 
+use crate::names::push_names;
 use crate::replies::push_clients;
 use crate::tables::push_tables_left;
 use crate::verdict::push_verdict;
 use gho_values::Text;
+use paged_tables::Tables;
 use plan_words::Plan;
-use row_store::Tables;
 use server_words::{Journal, Verdict};
 use std::alloc::{AllocError, Global};
-use table_lines::push_names_line;
 
 /// The report of a run of the plan with this journal and verdict, which left these tables. Each line ends in a line feed.
 #[tactic(auto, unfolding(crate::specs::Reports::report))]
@@ -29,6 +29,6 @@ pub fn report(
     push_verdict(&mut text, verdict)?;
     push_clients(&mut text, plan, journal.as_slice())?;
     push_tables_left(&mut text, plan, tables)?;
-    push_names_line(alloc, &mut text, tables)?;
+    push_names(alloc, &mut text, tables)?;
     Ok(text)
 }

@@ -1,15 +1,14 @@
 -- Tables that a change leaves as they are.
-use Rattle.std.proofs.Common.{◌≡◌, ℕ, Bool, true, false, ◌||◌, List, [], ◌∷◌, map, Option, Some, None, cond, refl, sym, ap, ◌∙◌, subst, is_some}
+use Rattle.std.proofs.Common.{◌≡◌, ℕ, Bool, true, false, ◌||◌, List, [], ◌∷◌, Option, Some, None, cond, refl, sym, ap, ◌∙◌, subst, is_some}
 use Rattle.std.proofs.lemmas.Bool.{false≢true}
 use Rattle.std.specs.List.{find, list_any}
 use Rattle.std.specs.Option.{unwrap_or, option_map}
-use Rattle.std.specs.Str.{bytes_eq}
 use Rattle.std.proofs.lemmas.Slice.Eq.{bytes_eq-Decides}
 use Rattle.gho_values.specs.declared.value.Value.{Value}
-use Rattle.gho_schema.specs.Rows.{key_of, key_places, has_key, put, with_row}
+use Rattle.gho_schema.specs.Rows.{key_of, key_places, has_key, with_row}
 use Rattle.row_store.specs.RowLists.{is_at}
-use Rattle.row_store.specs.Databases.{TableRows, Database, find_table, has_table, with_change, put_row, put_in_table, is_named, NamesDiffer, row_at_key, IsNewIn}
-use Rattle.server_core.specs.Applying.{has_row, has_row_in}
+use Rattle.row_store.specs.Databases.{TableRows, Database, find_table, has_table, with_change, put_row, put_in_table, is_named, NamesDiffer, row_at_key}
+use Rattle.server_core.specs.Applying.{has_row}
 
 -- a change of a table that no table is leaves all
 none_at : (b : Bool) (table : TableRows) (more : Option TableRows) (P : Type 0) → cond b (Some table) more ≡ None → (b ≡ false → more ≡ None → P) → P

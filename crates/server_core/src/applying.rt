@@ -9,7 +9,7 @@ ghost use Rattle.server_core.specs.Applying.{has_row};
 use event_codec::{Change, RowEvent};
 use gho_schema::key_of;
 use gho_values::{Duplicate, Key, Name, Row};
-use row_store::Tables;
+use paged_tables::Tables;
 use std::alloc::{AllocError, Global};
 
 /// The clustered key that a row has in the table of this name; none where no table has the name.

@@ -1,31 +1,33 @@
 //! The keys of a table that a chunk of the copy asks for.
 
-ghost use Rattle.std.specs.Prelude.{◌≡◌, [], IfOk, slice_get, option_copied};
+ghost use Rattle.std.specs.Prelude.{◌≡◌, [], IfOk, OnOk, slice_get, option_copied, take, drop};
 ghost use Rattle.gho_schema.specs.Rows.{key_of, key_places};
 ghost use Rattle.server_words.specs.Chunks.{keys_of, last_of, ends_of, chunk_end, end_key, first_keys, span_keys};
 
 use gho_schema::key_of;
 use gho_values::{Bound, Duplicate, Key, Keys, Row, Sequence, Span};
-use row_store::Table;
+use row_pages::{SpanRows, Table};
 use server_words::{Answer, KeyRange};
 use std::alloc::{AllocError, Global};
 
-/// The clustered keys of rows.
-fn keys_of(alloc: Global, places: &[u32], rows: &[Row]) -> Result<Keys, AllocError>
-    ensures { IfOk result (λ keys. keys ≡ keys_of places.now rows.now) }
+/// The row at this place among those that are left.
+fn row_at<'a>(mut rows: SpanRows<'a>, place: usize) -> Option<&'a Row>
+    ensures { option_copied result ≡ slice_get rows.entry place }
 {
-    let mut keys = Sequence::new(alloc);
-    for row in rows {
-        keys.push(key_of(alloc, places, row.as_slice())?)?;
-    }
-    Ok(keys)
+    rows.nth(place)
 }
 
-/// The key of the last row, or of this one where there is none.
-fn last_key(alloc: Global, places: &[u32], first: &Row, others: &[Row]) -> Result<Key, AllocError>
-    ensures { IfOk result (λ key. key ≡ last_of (key_of places.now first.now) (keys_of places.now others.now)) }
+/// The key of the last of the rows that are left, or of this one where there is none.
+fn last_key(
+    alloc: Global,
+    places: &[u32],
+    first: &Row,
+    others: SpanRows<'_>,
+) -> Result<Key, AllocError>
+    ensures { IfOk result (λ key. key ≡ last_of (key_of places.now first.now) (keys_of places.now others.entry)) }
 {
-    match others.last() {
+    let (left, _) = others.size_hint();
+    match row_at(others, left.saturating_sub(1)) {
         Some(last) => key_of(alloc, places, last.as_slice()),
         None => key_of(alloc, places, first.as_slice()),
     }
@@ -36,19 +38,14 @@ pub fn ends_of(alloc: Global, table: &Table) -> Result<Answer, AllocError>
     ensures { IfOk result (λ answer. answer ≡ ends_of (keys_of (key_places table.now.table.schema) table.now.table.rows)) }
 {
     let places = table.schema().key_places();
-    match table.rows().as_slice() {
-        [] => Ok(Answer::Ends(None)),
-        [first, others @ ..] => Ok(Answer::Ends(Some(KeyRange {
-            least: key_of(alloc, places, first.as_slice())?,
-            greatest: last_key(alloc, places, first, others)?,
-        }))),
-    }
-}
-
-fn row_at(rows: &[Row], place: usize) -> Option<&Row>
-    ensures { option_copied result ≡ slice_get rows.now place }
-{
-    rows.get(place)
+    let mut rows = table.rows();
+    let Some(first) = rows.next() else {
+        return Ok(Answer::Ends(None));
+    };
+    Ok(Answer::Ends(Some(KeyRange {
+        least: key_of(alloc, places, first.as_slice())?,
+        greatest: last_key(alloc, places, first, rows)?,
+    })))
 }
 
 /// Where a chunk ends.
@@ -67,7 +64,7 @@ pub fn chunk_end(
         high: Bound::Closed(top.copy()?),
     };
     let last = (size as usize).saturating_sub(1);
-    match row_at(table.in_span(&span).as_slice(), last) {
+    match row_at(table.in_span(&span), last) {
         Some(row) => key_of(alloc, table.schema().key_places(), row.as_slice()),
         None => top.copy(),
     }
@@ -94,23 +91,45 @@ fn last_of(alloc: Global, keys: &[Key]) -> Result<Key, AllocError>
     }
 }
 
+/// The clustered keys of the rows that are left, this many at most; the rows behind them are left then.
+fn next_keys(
+    alloc: Global,
+    size: u32,
+    places: &[u32],
+    rows: &mut SpanRows<'_>,
+) -> Result<Keys, AllocError>
+    ensures keys { IfOk result (λ keys. keys ≡ keys_of places.now (take size rows.old)) }
+    ensures left { OnOk result (rows.new ≡ drop size rows.old) }
+{
+    let mut keys = Sequence::new(alloc);
+    for _ in 0..size {
+        let Some(row) = rows.next() else {
+            return Ok(keys);
+        };
+        keys.push(key_of(alloc, places, row.as_slice())?)?;
+    }
+    Ok(keys)
+}
+
 fn first_keys(
     alloc: Global,
     span: &Span,
-    size: usize,
+    size: u32,
     places: &[u32],
-    rows: &[Row],
+    mut rows: SpanRows<'_>,
 ) -> Result<Answer, AllocError>
-    ensures { IfOk result (λ answer. answer ≡ first_keys span.now size (keys_of places.now rows.now)) }
+    ensures { IfOk result (λ answer. answer ≡ first_keys span.now size (keys_of places.now rows.entry)) }
 {
-    if size < rows.len() {
-        let keys = keys_of(alloc, places, &rows[..size])?;
-        let end = last_of(alloc, keys.as_slice())?;
-        Ok(Answer::Keys { keys, end })
-    } else {
-        let keys = keys_of(alloc, places, rows)?;
-        let end = end_key(alloc, &span.high)?;
-        Ok(Answer::Keys { keys, end })
+    let keys = next_keys(alloc, size, places, &mut rows)?;
+    match rows.next() {
+        Some(_) => {
+            let end = last_of(alloc, keys.as_slice())?;
+            Ok(Answer::Keys { keys, end })
+        }
+        None => {
+            let end = end_key(alloc, &span.high)?;
+            Ok(Answer::Keys { keys, end })
+        }
     }
 }
 
@@ -122,8 +141,8 @@ pub fn span_keys(alloc: Global, span: &Span, size: u32, table: &Table) -> Result
     first_keys(
         alloc,
         span,
-        size as usize,
+        size,
         table.schema().key_places(),
-        table.in_span(span).as_slice(),
+        table.in_span(span),
     )
 }

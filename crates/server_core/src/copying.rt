@@ -9,7 +9,8 @@ use crate::statement::written;
 use alter_image::{ImageFault, MapColumn, image};
 use event_codec::Change;
 use gho_values::{Key, Name, Row};
-use row_store::{Table, Tables};
+use paged_tables::Tables;
+use row_pages::Table;
 use server_words::{Answer, StatementResult};
 use std::alloc::{AllocError, Global};
 

@@ -15,14 +15,17 @@ use crate::copying::copies;
 use crate::refusing::refuses;
 use crate::sessions::{begin, is_in_transaction, rest, write, writes_of};
 use crate::statement::says;
-use crate::view::{View, extended, prepare, seen, settled};
+use crate::view::{View, carried, extended, prepare, seen, settled};
 use alter_image::MapColumn;
 use event_codec::{Events, RowEvent};
 use gho_schema::Schema;
 use gho_values::{Bound, Duplicate, Key, Name, Sequence, Span};
-use row_store::{AddFault, Pairs, RenameFault, Table, Tables};
+use paged_serving::Serve;
+use paged_tables::Tables;
+use row_pages::Table;
+use row_store::{AddFault, Pairs, RenameFault};
 use script_text::Statement;
-use server_words::{Answer, Limits, Request, Serve, Session};
+use server_words::{Answer, Limits, Request, Session};
 use std::alloc::{AllocError, Global};
 use std::marker::Model;
 use std::mem;
@@ -35,7 +38,7 @@ pub struct Server {
     tables: Tables,
     log: Vec<RowEvent>,
     sessions: Vec<Session>,
-    /// The tables as one session sees them, so that its statements needn't make them anew.
+    /// The tables as one session sees them, so that statements and transactions needn't make them anew.
     view: Option<View>,
 }
 
@@ -73,9 +76,16 @@ impl Server {
         ensures ok { OnOk result (self.new ≡ committed events self.old) }
         ensures err { OnErr result (self.new ≡ self.old) }
     {
-        self.view = None;
+        let kept = carried(
+            alloc,
+            &self.tables,
+            self.sessions.as_slice(),
+            self.view.take(),
+            events.as_slice(),
+        );
         self.log.reserve(events.len())?;
         apply_all(alloc, &mut self.tables, events.as_slice())?;
+        self.view = kept;
         let mut events = events.into_vec();
         match self.log.append(&mut events) {
             Ok(()) => Ok(()),
@@ -177,7 +187,15 @@ impl Server {
         self.log
             .reserve(writes_of(self.sessions.as_slice(), session).len())?;
         let tables = mem::replace(&mut self.tables, Tables::new(alloc));
-        self.tables = settled(tables, self.sessions.as_slice(), self.view.take(), session);
+        let settled = settled(
+            alloc,
+            tables,
+            self.sessions.as_slice(),
+            self.view.take(),
+            session,
+        );
+        self.tables = settled.tables;
+        self.view = settled.view;
         let mut writes = rest(alloc, &mut self.sessions, session).into_vec();
         match self.log.append(&mut writes) {
             Ok(()) => Ok(Answer::Ok(0)),
@@ -210,7 +228,6 @@ impl Server {
             return Ok(refuses(1146));
         };
         let answer = span_keys(alloc, span, size, table)?;
-        self.view = None;
         begin(&mut self.sessions, session);
         Ok(answer)
     }
@@ -272,7 +289,6 @@ impl Serve for Server {
 
     fn connect(&mut self, alloc: Global, is_tool: bool) -> Result<u32, AllocError> {
         let number = self.made + 1;
-        self.view = None;
         self.sessions.push(Session {
             number,
             is_tool,

@@ -1,63 +1,146 @@
-//! Calls on the tables of a database, with semicolons between them: `add`, `put`, `remove`, `rename`, `take`, `stands`, `names`
-//! and `copy`. Each table has the key `id` and a column `a`.
+//! Calls on the tables of a database, with semicolons between them: `add`, `put`, `remove`, `rename`, `take`, `stands`, `names`,
+//! `copy`, and `anew`, by which the database in pages is made of the plain lists. Each table has the key `id` and a column `a`.
+//! Each call is made of a database in pages and of the same database as plain lists. What both answer is told once; where they
+//! differ, ` or not` stands behind it.
 
-use crate::table_calls::{say_row, schema_of};
+use crate::table_calls::{say_difference, say_found, schema_of};
 use case_lines::{CallFault, row_of, say};
 use gho_schema::key_of;
-use gho_values::{Name, Row, Sequence, Text};
-use row_store::{AddFault, NotRenamed, Pair, Pairs, RenameFault, Table, Tables};
+use gho_values::{Duplicate, Name, Row, Sequence, Text};
+use paged_tables::Tables;
+use row_pages::Table;
+use row_store::{
+    AddFault, NotRenamed, Pair, Pairs, RenameFault, Table as ListedTable, Tables as ListedTables,
+};
 use std::alloc::{AllocError, Global};
 
-fn add(alloc: Global, tables: &mut Tables, name: &str, told: &mut Text) -> Result<(), CallFault> {
+/// A database in pages, and the same as plain lists.
+#[derive(Drop)]
+struct BothDatabases {
+    paged: Tables,
+    listed: ListedTables,
+}
+
+/// Whether a table was added, where there was memory for it.
+fn is_added(added: Result<(), AddFault>) -> Result<bool, AllocError> {
+    match added {
+        Ok(()) => Ok(true),
+        Err(AddFault::Stands) => Ok(false),
+        Err(AddFault::Memory) => Err(AllocError),
+    }
+}
+
+fn add(
+    alloc: Global,
+    both: &mut BothDatabases,
+    name: &str,
+    told: &mut Text,
+) -> Result<(), CallFault> {
     let text = format!(in alloc; "CREATE TABLE `{name}` (id INT PRIMARY KEY, a INT)")?;
     let schema = schema_of(alloc, text.as_str())?;
-    match tables.add(Table::new(alloc, schema)) {
-        Ok(()) => {}
-        Err(AddFault::Stands) => say(told, "stands")?,
-        Err(AddFault::Memory) => return Err(CallFault::Memory),
+    let listed = is_added(both.listed.add(ListedTable::new(alloc, schema.copy()?)))?;
+    let paged = is_added(both.paged.add(Table::new(alloc, schema)))?;
+    if !paged {
+        say(told, "stands")?;
     }
+    say_difference(told, paged == listed)?;
     Ok(())
 }
 
+/// What became of a put.
+#[derive(Clone, Copy, PartialEq, Eq)]
+enum PutAnswer {
+    Done,
+    There,
+    Missing,
+}
+
 /// Puts a row into the table of a name, where that stands and no row of it has the row's key.
-fn put(
+fn put_listed(
+    alloc: Global,
+    tables: &mut ListedTables,
+    name: &Name,
+    row: Row,
+) -> Result<PutAnswer, AllocError> {
+    let Some(table) = tables.find(name) else {
+        return Ok(PutAnswer::Missing);
+    };
+    let key = key_of(alloc, table.schema().key_places(), row.as_slice())?;
+    if table.get(&key).is_some() {
+        return Ok(PutAnswer::There);
+    }
+    tables.reserve_in(name, 1)?;
+    tables.put_in(name, row);
+    Ok(PutAnswer::Done)
+}
+
+/// The same of tables in pages.
+fn put_paged(
     alloc: Global,
     tables: &mut Tables,
     name: &Name,
     row: Row,
-    told: &mut Text,
-) -> Result<(), AllocError> {
+) -> Result<PutAnswer, AllocError> {
     let Some(table) = tables.find(name) else {
-        return say(told, "missing");
+        return Ok(PutAnswer::Missing);
     };
     let key = key_of(alloc, table.schema().key_places(), row.as_slice())?;
     if table.get(&key).is_some() {
-        return say(told, "there");
+        return Ok(PutAnswer::There);
     }
     tables.reserve_in(name, 1)?;
     tables.put_in(name, row);
-    Ok(())
+    Ok(PutAnswer::Done)
 }
 
-fn remove(tables: &mut Tables, name: &Name, key: &Row, told: &mut Text) -> Result<(), AllocError> {
-    if tables.find(name).is_none() {
-        return say(told, "missing");
+fn put(
+    alloc: Global,
+    both: &mut BothDatabases,
+    name: &Name,
+    row: Row,
+    told: &mut Text,
+) -> Result<(), AllocError> {
+    let listed = put_listed(alloc, &mut both.listed, name, row.copy()?)?;
+    let paged = put_paged(alloc, &mut both.paged, name, row)?;
+    match paged {
+        PutAnswer::Done => {}
+        PutAnswer::There => say(told, "there")?,
+        PutAnswer::Missing => say(told, "missing")?,
     }
-    let row = tables.remove_in(name, key);
-    say_row(told, row.as_ref())
+    say_difference(told, paged == listed)
+}
+
+fn remove(
+    both: &mut BothDatabases,
+    name: &Name,
+    key: &Row,
+    told: &mut Text,
+) -> Result<(), AllocError> {
+    if both.paged.find(name).is_none() || both.listed.find(name).is_none() {
+        say(told, "missing")?;
+        return say_difference(told, both.paged.stands(name) == both.listed.stands(name));
+    }
+    let row = both.paged.remove_in(name, key);
+    let other = both.listed.remove_in(name, key);
+    say_found(told, row.as_ref(), other.as_ref())
 }
 
 /// Says the tables' names and numbers of rows.
-fn say_names(tables: &Tables, told: &mut Text) -> Result<(), AllocError> {
-    say(told, if tables.is_empty() { "nothing" } else { "" })?;
-    for n in 0..tables.len() {
-        let table = tables.at(n);
+fn say_names(both: &BothDatabases, told: &mut Text) -> Result<(), AllocError> {
+    say(told, if both.paged.is_empty() { "nothing" } else { "" })?;
+    for n in 0..both.paged.len() {
+        let table = both.paged.at(n);
         told.push_str(if n == 0 { "" } else { ", " })?;
         told.push_str(table.schema().name.as_str())?;
         told.push_str(" ")?;
         told.push_number(table.len() as i128)?;
+        if n < both.listed.len() {
+            let other = both.listed.at(n);
+            let same = other.schema().name == table.schema().name && other.len() == table.len();
+            say_difference(told, same)?;
+        }
     }
-    Ok(())
+    say_difference(told, both.paged.len() == both.listed.len())
 }
 
 /// Pairs of names, as `ta u, v ta`.
@@ -73,24 +156,56 @@ fn pairs_of(alloc: Global, text: &str) -> Result<Pairs, CallFault> {
     Ok(pairs)
 }
 
-fn rename(tables: &mut Tables, pairs: &Pairs, told: &mut Text) -> Result<(), AllocError> {
-    match tables.rename(pairs) {
-        Ok(()) => Ok(()),
-        Err(RenameFault::Refused(NotRenamed::Stands)) => say(told, "stands"),
-        Err(RenameFault::Refused(NotRenamed::Missing)) => say(told, "missing"),
+/// Why tables weren't renamed, where MySQL refused it.
+fn refusal_of(renamed: Result<(), RenameFault>) -> Result<Option<NotRenamed>, AllocError> {
+    match renamed {
+        Ok(()) => Ok(None),
+        Err(RenameFault::Refused(reason)) => Ok(Some(reason)),
         Err(RenameFault::Memory) => Err(AllocError),
     }
 }
 
-fn make_copy(alloc: Global, tables: &mut Tables) -> Result<(), AllocError> {
-    *tables = tables.copy_tables(alloc)?;
+fn rename(both: &mut BothDatabases, pairs: &Pairs, told: &mut Text) -> Result<(), AllocError> {
+    let paged = refusal_of(both.paged.rename(pairs))?;
+    let listed = refusal_of(both.listed.rename(pairs))?;
+    match paged {
+        None => {}
+        Some(NotRenamed::Stands) => say(told, "stands")?,
+        Some(NotRenamed::Missing) => say(told, "missing")?,
+    }
+    say_difference(told, paged == listed)
+}
+
+/// Copies both.
+fn make_copies(alloc: Global, both: &mut BothDatabases) -> Result<(), AllocError> {
+    both.paged = both.paged.copy_tables(alloc)?;
+    both.listed = both.listed.copy_tables(alloc)?;
     Ok(())
+}
+
+/// Makes the database in pages anew of the plain lists.
+fn make_anew(alloc: Global, both: &mut BothDatabases) -> Result<(), AllocError> {
+    both.paged = Tables::from_plain(alloc, &both.listed)?;
+    Ok(())
+}
+
+fn say_taken(both: &mut BothDatabases, name: &Name, told: &mut Text) -> Result<(), AllocError> {
+    let paged = both.paged.take(name).is_some();
+    let listed = both.listed.take(name).is_some();
+    say(told, if paged { "taken" } else { "missing" })?;
+    say_difference(told, paged == listed)
+}
+
+fn say_stands(both: &BothDatabases, name: &Name, told: &mut Text) -> Result<(), AllocError> {
+    let paged = both.paged.stands(name);
+    say(told, if paged { "yes" } else { "no" })?;
+    say_difference(told, paged == both.listed.stands(name))
 }
 
 /// Calls that name a table and maybe a row or a key, as `put ta 2, 1`.
 fn take_named(
     alloc: Global,
-    tables: &mut Tables,
+    both: &mut BothDatabases,
     call: &str,
     input: &str,
     told: &mut Text,
@@ -98,40 +213,42 @@ fn take_named(
     let (name, rest) = input.split_once(' ').unwrap_or((input, ""));
     let table = Name::new(alloc, name)?;
     match call {
-        "add" => add(alloc, tables, name, told)?,
-        "put" => put(alloc, tables, &table, row_of(alloc, rest)?, told)?,
-        "remove" => remove(tables, &table, &row_of(alloc, rest)?, told)?,
-        "take" => say(
-            told,
-            if tables.take(&table).is_some() {
-                "taken"
-            } else {
-                "missing"
-            },
-        )?,
-        "stands" => say(told, if tables.stands(&table) { "yes" } else { "no" })?,
+        "add" => add(alloc, both, name, told)?,
+        "put" => put(alloc, both, &table, row_of(alloc, rest)?, told)?,
+        "remove" => remove(both, &table, &row_of(alloc, rest)?, told)?,
+        "take" => say_taken(both, &table, told)?,
+        "stands" => say_stands(both, &table, told)?,
         _ => return Err(CallFault::Unread),
     }
     Ok(())
 }
 
-fn take(alloc: Global, tables: &mut Tables, call: &str, told: &mut Text) -> Result<(), CallFault> {
+fn take(
+    alloc: Global,
+    both: &mut BothDatabases,
+    call: &str,
+    told: &mut Text,
+) -> Result<(), CallFault> {
     let (word, input) = call.split_once(' ').unwrap_or((call, ""));
     match word {
-        "names" => say_names(tables, told)?,
-        "copy" => make_copy(alloc, tables)?,
-        "rename" => rename(tables, &pairs_of(alloc, input)?, told)?,
-        _ => take_named(alloc, tables, word, input, told)?,
+        "names" => say_names(both, told)?,
+        "copy" => make_copies(alloc, both)?,
+        "anew" => make_anew(alloc, both)?,
+        "rename" => rename(both, &pairs_of(alloc, input)?, told)?,
+        _ => take_named(alloc, both, word, input, told)?,
     }
     Ok(())
 }
 
 /// What the calls say.
 pub fn answers(alloc: Global, input: &str) -> Result<Text, CallFault> {
-    let mut tables = Tables::new(alloc);
+    let mut both = BothDatabases {
+        paged: Tables::new(alloc),
+        listed: ListedTables::new(alloc),
+    };
     let mut told = Text::new(alloc);
     for call in input.split("; ") {
-        take(alloc, &mut tables, call, &mut told)?;
+        take(alloc, &mut both, call, &mut told)?;
     }
     Ok(told)
 }

@@ -36,7 +36,8 @@ pub fn say_row(told: &mut Text, row: Option<&Row>) -> Result<(), AllocError> {
     }
 }
 
-fn say_difference(told: &mut Text, same: bool) -> Result<(), AllocError> {
+/// Says where two answers differ.
+pub fn say_difference(told: &mut Text, same: bool) -> Result<(), AllocError> {
     told.push_str(if same { "" } else { " or not" })
 }
 
@@ -49,7 +50,11 @@ fn are_same(paged: Option<&Row>, listed: Option<&Row>) -> bool {
 }
 
 /// Says the row that both found, or that there is none.
-fn say_found(told: &mut Text, paged: Option<&Row>, listed: Option<&Row>) -> Result<(), AllocError> {
+pub fn say_found(
+    told: &mut Text,
+    paged: Option<&Row>,
+    listed: Option<&Row>,
+) -> Result<(), AllocError> {
     say_row(told, paged)?;
     say_difference(told, are_same(paged, listed))
 }

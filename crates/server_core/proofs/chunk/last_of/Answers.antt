@@ -1,6 +1,5 @@
 use Rattle.std.proofs.Common.{[], refl, ◌∙◌, ap, sym}
 use Rattle.std.proofs.lemmas.List.{map-id}
-use Rattle.gho_values.specs.declared.value.Value.{Value}
 use Rattle.server_words.specs.Chunks.{last_of}
 use Rattle.server_core.proofs.Lists.{last_found}
 use Rattle.server_core.proofs.chunk.last_of.Goals as goal

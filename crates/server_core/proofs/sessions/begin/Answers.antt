@@ -1,6 +1,6 @@
-use Rattle.std.proofs.Common.{sym, ◌∙◌, ap}
+use Rattle.std.proofs.Common.{sym}
 use Rattle.server_words.specs.States.{begun}
-use Rattle.server_core.proofs.Edited.{has_number, edited, nothing_edited}
+use Rattle.server_core.proofs.Edited.{edited, nothing_edited}
 use Rattle.server_core.proofs.sessions.begin.Goals as goal
 
 pub returns-in-Some : goal.returns-in-Some

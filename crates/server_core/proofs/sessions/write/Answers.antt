@@ -1,8 +1,6 @@
-use Rattle.std.proofs.Common.{◌≡◌, ◌++◌, sym, ◌∙◌, ap, OnOk}
-use Rattle.std.specs.Result.{MatchResult}
-use Rattle.server_words.specs.declared.session.Session.{Session}
+use Rattle.std.proofs.Common.{sym}
 use Rattle.server_words.specs.States.{wrote}
-use Rattle.server_core.proofs.Edited.{has_number, edited, nothing_edited, written_ok}
+use Rattle.server_core.proofs.Edited.{nothing_edited, written_ok}
 use Rattle.server_core.proofs.sessions.write.Goals as goal
 
 pub returns-in-Some-clause-ok : goal.returns-in-Some-clause-ok

@@ -1,5 +1,4 @@
-use Rattle.std.proofs.Common.{◌≡◌, List, [], ◌∷◌, ◌∙◌, sym}
-use Rattle.script_text.specs.declared.statement.Set.{Set}
+use Rattle.std.proofs.Common.{◌≡◌, [], ◌∷◌, ◌∙◌, sym}
 use Rattle.server_words.specs.Statements.{sought}
 use Rattle.server_words.proofs.Lists.{only_one}
 use Rattle.server_core.proofs.statement.sought.Goals as goal
