@@ -62,7 +62,7 @@ use Rattle.follow_turns.proofs.Follows.{kept_front, kept_run}
 use Rattle.follow_laws.specs.Laws.{FollowersAlter}
 use Rattle.marked_laws.specs.Laws.{MarkedJournalsAreSerial}
 use Rattle.waits_laws.specs.Laws.{WaitsAreTold}
-use Rattle.rename_laws.specs.Laws.{ClientsAreTurned, IsRename, RenamesAreSerial, RenamesComeAtTheMark, RenamesFindTheAltered}
+use Rattle.rename_laws.specs.Laws.{ClientsAreTurned, CommandsAreTurned, IsRename, RenamesAreSerial, RenamesComeAtTheMark, RenamesFindTheAltered}
 
 -- an applier that may read next is reading
 reads : (step : ApplyStep) → appliers.is_reading step ≡ true → step ≡ Reading
@@ -77,25 +77,29 @@ were_renamed (Ok made) tables is = let one : made ≡ tables = cc in ap Ok one
 were_renamed (Err reason) tables is = absurd cc
 
 -- each turn is such a turn
-all_turned : ClientsAreTurned → (plan : PlanData) → IsRunnable plan → IsSerialPlan plan → (some journal : List Entry) → IsKept plan (some ++ journal) → IsUnaltered plan (some ++ journal) → Along (λ before one. is_client one.actor ≡ false → IsTurned plan before one) some journal → Along (IsTurned plan) some journal
-all_turned clients plan runs serial some [] kept off tool = tt
-all_turned clients plan runs serial some (entry ∷ journal) kept off tool = (one (is_client entry.actor) refl, all_turned clients plan runs serial (some ++ entry ∷ []) journal later later_off tool.1) where
+all_turned : ClientsAreTurned → CommandsAreTurned → (plan : PlanData) → IsRunnable plan → IsSerialPlan plan → (some journal : List Entry) → IsKept plan (some ++ journal) → IsUnaltered plan (some ++ journal) → Along (λ before one. is_client one.actor ≡ false → is_command one.asked ≡ false → IsTurned plan before one) some journal → Along (IsTurned plan) some journal
+all_turned clients commands plan runs serial some [] kept off tool = tt
+all_turned clients commands plan runs serial some (entry ∷ journal) kept off tool = (one (is_client entry.actor) (is_command entry.asked) refl refl, all_turned clients commands plan runs serial (some ++ entry ∷ []) journal later later_off tool.1) where
   later : IsKept plan ((some ++ entry ∷ []) ++ journal)
   later = subst (IsKept plan) (sym (append_assoc some (entry ∷ []) journal)) kept
 
   later_off : IsUnaltered plan ((some ++ entry ∷ []) ++ journal)
   later_off = subst (IsUnaltered plan) (sym (append_assoc some (entry ∷ []) journal)) off
 
-  one : (b : Bool) → is_client entry.actor ≡ b → IsTurned plan some entry
-  one true is = clients plan some entry is runs serial (kept_front plan (some ++ entry ∷ []) journal later) (unaltered_front plan (some ++ entry ∷ []) journal later_off)
-  one false is = tool.0 is
+  front : IsKept plan (some ++ entry ∷ [])
+  front = kept_front plan (some ++ entry ∷ []) journal later
+
+  one : (client command : Bool) → is_client entry.actor ≡ client → is_command entry.asked ≡ command → IsTurned plan some entry
+  one true command is asks = clients plan some entry is runs serial front (unaltered_front plan (some ++ entry ∷ []) journal later_off)
+  one false true is asks = commands plan some entry asks front
+  one false false is asks = tool.0 is asks
 
 -- what the sentry relation asks of each turn
 all_three : (plan : PlanData) (some journal : List Entry) → Along (IsTurned plan) some journal → Along (IsFollowed plan) some journal → Along (WaitsSay plan) some journal → Along (λ before one. IsTurned plan before one × IsFollowed plan before one × WaitsSay plan before one) some journal
 all_three plan some [] turned followed said = tt
 all_three plan some (entry ∷ journal) turned followed said = ((turned.0, followed.0, said.0), all_three plan (some ++ entry ∷ []) journal turned.1 followed.1 said.1)
 
-module _ (exclusive_is_alone : ExclusiveIsAlone) (definitions_are_done : DefinitionsAreDone) (waits_are_told : WaitsAreTold) (clients : ClientsAreTurned) (plan : PlanData) (journal : List Entry) (entry : Entry) (runs : IsRunnable plan) (serial : IsSerialPlan plan) (rename : IsRename plan journal entry) where
+module _ (exclusive_is_alone : ExclusiveIsAlone) (definitions_are_done : DefinitionsAreDone) (waits_are_told : WaitsAreTold) (clients : ClientsAreTurned) (commands : CommandsAreTurned) (plan : PlanData) (journal : List Entry) (entry : Entry) (runs : IsRunnable plan) (serial : IsSerialPlan plan) (rename : IsRename plan journal entry) where
   abbrev now : State
   now = state_at plan journal
 
@@ -257,7 +261,7 @@ module _ (exclusive_is_alone : ExclusiveIsAlone) (definitions_are_done : Definit
   unfolding Follows
   whole =
       renames_follow plan journal entry working.work
-      (all_three plan [] journal (all_turned clients plan runs serial [] journal before rename.unaltered rename.sentried) before.follows (waits_are_told plan journal before.faithful before.follows)) run.followed exchanges.0 uncut
+      (all_three plan [] journal (all_turned clients commands plan runs serial [] journal before rename.unaltered rename.sentried) before.follows (waits_are_told plan journal before.faithful before.follows)) run.followed exchanges.0 uncut
       working.course (subst (λ (s : State). IsRenamed plan s entry.session) (sym together.server) renamed)
 
   mark : IsMark plan journal
@@ -272,8 +276,8 @@ module _ (exclusive_is_alone : ExclusiveIsAlone) (definitions_are_done : Definit
   }
 
 -- *Renames come at the mark*
-pub renames_marked : ExclusiveIsAlone → DefinitionsAreDone → WaitsAreTold → ClientsAreTurned → RenamesComeAtTheMark
-renames_marked alone done told clients plan journal entry runs serial rename = mark alone done told clients plan journal entry runs serial rename
+pub renames_marked : ExclusiveIsAlone → DefinitionsAreDone → WaitsAreTold → ClientsAreTurned → CommandsAreTurned → RenamesComeAtTheMark
+renames_marked alone done told clients commands plan journal entry runs serial rename = mark alone done told clients commands plan journal entry runs serial rename
 
 -- *Renames find the altered table*
 pub renames_altered : MigratablePlansAreRunnable → FollowersAlter → RenamesComeAtTheMark → RenamesFindTheAltered

@@ -2,7 +2,7 @@
 use Rattle.std.specs.Prelude.{◌≡◌, true, false, List, [], ◌∷◌, ◌++◌}
 use Rattle.std.specs.List.{list_any}
 use Rattle.plain_server.specs.Along.{Along}
-use Rattle.plain_server.specs.Entries.{is_client}
+use Rattle.plain_server.specs.Entries.{is_client, is_command}
 use Rattle.plain_server.specs.declared.entry.Entry.{Entry}
 use Rattle.plan_words.specs.Migratable.{IsMigratable}
 use Rattle.plan_words.specs.PlanData.{PlanData}
@@ -24,9 +24,13 @@ use Rattle.follow_turns.specs.Laws.{IsMark}
 abbrev pub ClientsAreTurned : Type 0
 ClientsAreTurned = (plan : PlanData) (journal : List Entry) (entry : Entry) → is_client entry.actor ≡ true → IsRunnable plan → IsSerialPlan plan → IsKept plan (journal ++ entry ∷ []) → IsUnaltered plan (journal ++ entry ∷ []) → IsTurned plan journal entry
 
--- *Sentried*: so does each other turn
+-- *Commands are turned*: so does a command of the operator's.
+abbrev pub CommandsAreTurned : Type 0
+CommandsAreTurned = (plan : PlanData) (journal : List Entry) (entry : Entry) → is_command entry.asked ≡ true → IsKept plan (journal ++ entry ∷ []) → IsTurned plan journal entry
+
+-- *Sentried*: so does each turn of the tool's
 abbrev pub IsSentried : PlanData → List Entry → Type 0
-IsSentried plan journal = Along (λ before one. is_client one.actor ≡ false → IsTurned plan before one) [] journal
+IsSentried plan journal = Along (λ before one. is_client one.actor ≡ false → is_command one.asked ≡ false → IsTurned plan before one) [] journal
 
 -- *A rename*: the turn behind a journal that is kept, sentried and unaltered, and in which nothing is reverted, does the RENAME of
 -- the migrated table

@@ -1,6 +1,6 @@
 //! The laws: each function's contract is one.
 
-ghost use Rattle.rename_laws.specs.Laws.{ClientsAreTurned, RenamesAreSerial, RenamesComeAtTheMark, RenamesFindTheAltered};
+ghost use Rattle.rename_laws.specs.Laws.{ClientsAreTurned, CommandsAreTurned, RenamesAreSerial, RenamesComeAtTheMark, RenamesFindTheAltered};
 
 use follow_laws::laws::followers_alter;
 use marked_laws::laws::marked_journals_are_serial;
@@ -15,11 +15,17 @@ pub fn clients_are_turned()
     entries_are_turns();
 }
 
+/// So is a command of the operator's.
+pub fn commands_are_turned()
+    ensures { CommandsAreTurned }
+{}
+
 /// The RENAME comes at the mark.
 pub fn renames_come_at_the_mark()
     ensures { RenamesComeAtTheMark }
 {
     clients_are_turned();
+    commands_are_turned();
     exclusive_is_alone();
     definitions_are_done();
     waits_are_told();
