@@ -1,7 +1,7 @@
 -- What requests are owed and give, once nobody blocks them.
-use Rattle.std.proofs.Common.{◌≡◌, ◌≢◌, ℕ, Bool, true, false, not, ◌&&◌, List, [], ◌∷◌, ◌++◌, map, filter, Option, Some, None, Result, Ok, Err, refl, sym, ap, ◌∙◌, subst}
+use Rattle.std.proofs.Common.{◌≡◌, ◌≢◌, ℕ, Bool, true, false, List, [], ◌∷◌, ◌++◌, map, Option, Some, None, refl, sym, ap, ◌∙◌, subst}
 use Rattle.std.specs.Prelude.{◌==◌, is_some}
-use Rattle.std.proofs.lemmas.Bool.{false≢true, true≢false, and_parts}
+use Rattle.std.proofs.lemmas.Bool.{and_parts}
 use Rattle.std.specs.List.{list_any}
 use Rattle.std.specs.Str.{bytes_eq}
 use Rattle.alter_image.specs.declared.map.MapColumn.{MapColumn}
@@ -11,7 +11,6 @@ use Rattle.row_locks.specs.declared.lock.Lock.{Lock}
 use Rattle.row_store.specs.Databases.{Database}
 use Rattle.row_store.specs.declared.renaming.Pair.{Pair}
 use Rattle.script_text.specs.declared.statement.Statement.{Statement}
-use Rattle.plain_server.specs.declared.answer.Answer.{Answer}
 use Rattle.plain_server.specs.declared.answer.Answer.TheVariants as answers
 use Rattle.plain_server.specs.declared.need.Need.{Need}
 use Rattle.plain_server.specs.declared.request.Request.{Request}
@@ -20,15 +19,15 @@ use Rattle.plain_server.specs.declared.session.Session.{Session}
 use Rattle.plain_server.specs.declared.session.Waiting.{Waiting}
 use Rattle.plain_server.specs.declared.work.StatementResult.{StatementResult}
 use Rattle.plain_server.specs.Answers.{ok, refuses}
-use Rattle.plain_server.specs.Conditions.{ComesWell, is_blocked_exclusive, is_freely_polled}
+use Rattle.plain_server.specs.Conditions.{is_blocked_exclusive, is_freely_polled}
 use Rattle.plain_server.specs.Deeds.{Deed, Rests, Grows, Writes, Forgets, Moves, Locks, Unlocks, deed, deed_unless, deed_within, is_beyond, is_outside, result_deed}
 use Rattle.plain_server.specs.Jobs.{after_events, copy_job, job_says, says}
 use Rattle.plain_server.specs.Locking.{blocker, need, need_within, row_locks_of}
-use Rattle.plain_server.specs.Serving.{Served, called_unless, calls, commits, counting, does, done, exclusive, forgets, is_over, polled_of, polled_over, polls, serving, unlocking, without_waiting}
+use Rattle.plain_server.specs.Serving.{calls, commits, counting, does, done, exclusive, forgets, is_over, polled_over, polls, serving, unlocking, without_waiting}
 use Rattle.plain_server.specs.States.{State, is_exclusive, is_in_transaction, locked_names, names_held, names_in, pair_names, session_of, tables_named, view, waiting_of, with_session}
 use Rattle.statement_laws.specs.Databases.{EventsCovered}
 use Rattle.statement_laws.proofs.Tests.{are_one}
-use Rattle.history_laws.specs.Holdings.{Face, face_of}
+use Rattle.history_laws.specs.Holdings.{face_of}
 use Rattle.history_laws.proofs.Names.{Free, names_granted}
 use Rattle.server_data.specs.Fitting.{NoneOf}
 use Rattle.state_laws.specs.Granting.{GrowsWell}

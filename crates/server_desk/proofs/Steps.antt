@@ -9,7 +9,7 @@ use Rattle.plain_server.specs.declared.need.Need.{Need}
 use Rattle.plain_server.specs.declared.request.Request.{Request}
 use Rattle.plain_server.specs.Deeds.{nothing_needed}
 use Rattle.plain_server.specs.Jobs.{after_events}
-use Rattle.plain_server.specs.Locking.{need, need_within, row_locks_of}
+use Rattle.plain_server.specs.Locking.{need, need_within}
 use Rattle.plain_server.specs.Serving.{commits, counting, forgets, goes_on, locking, loses, polled_over, unlocking}
 use Rattle.plain_server.specs.Showing.{waits_shown}
 use Rattle.plain_server.specs.declared.session.Limits.{Limits}
