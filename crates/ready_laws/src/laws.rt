@@ -2,8 +2,8 @@
 
 ghost use Rattle.ready_laws.specs.Laws.{SomeoneIsReady, ReadyRunsGoOn};
 
-/// While a run of a runnable plan with whole scripts hasn't ended some actor is ready, unless an attempt is stuck in one of
-/// three named ways.
+/// While a run of a fitting plan, whose migrated table stands and whose scripts leave no transaction open, hasn't ended some
+/// actor is ready, unless an attempt is stuck in one of three named ways; and where some actor is ready a replay goes on.
 pub fn someone_is_ready()
     ensures ready { SomeoneIsReady }
     ensures goes { ReadyRunsGoOn }
