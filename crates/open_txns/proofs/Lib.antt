@@ -1,0 +1,2 @@
+pub mod OpenRows
+pub mod OpenTxns
