@@ -2,3 +2,4 @@ pub mod Fits
 pub mod Having
 pub mod Steps
 pub mod Requests
+pub mod Polling

@@ -1,13 +1,17 @@
 -- A server in two parts: its data, and what it keeps beside them.
-use Rattle.std.specs.Prelude.{◌≡◌, ℕ, Bool, true, false, List, None}
+use Rattle.std.specs.Prelude.{◌≡◌, ℕ, Bool, true, false, List, Option, Some, None}
 use Rattle.event_codec.specs.declared.event.RowEvent.{RowEvent}
 use Rattle.row_locks.specs.declared.lock.Lock.{Lock}
 use Rattle.row_store.specs.Databases.{Database}
+use Rattle.script_text.specs.declared.actor.Side.{Side}
+use Rattle.script_text.specs.declared.actor.Side.TheVariants.{Before, After}
+use Rattle.plain_server.specs.declared.entry.Asked.{Asked}
 use Rattle.plain_server.specs.declared.need.Need.{Need}
 use Rattle.plain_server.specs.declared.request.Request.{Request}
 use Rattle.plain_server.specs.declared.request.Request.TheVariants as requests
 use Rattle.plain_server.specs.Conditions.{ComesWell, IsWellFormed}
 use Rattle.plain_server.specs.Locking.{blocker, need, row_locks_of}
+use Rattle.plain_server.specs.Serving.{serves}
 use Rattle.plain_server.specs.States.{State, holds_tables, is_exclusive, is_in_transaction, is_live, names_in, session_of, view, writes_of}
 use Rattle.state_laws.specs.Keeping.{IsServing}
 
@@ -46,3 +50,9 @@ is_look (requests.ReadLog position limit tables) = true
 is_look requests.ShowTables = true
 is_look requests.ShowWaiting = true
 is_look request = false
+
+-- what is done before the session is lost: what it asked, where it is lost behind that
+abbrev pub before_loss : Option Side → State → ℕ → Asked → State
+before_loss None state number asked = state
+before_loss (Some Before) state number asked = state
+before_loss (Some After) state number asked = (serves state number asked).after

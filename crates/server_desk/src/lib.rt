@@ -1,11 +1,13 @@
-//! What each request does to a server's data and desk, once nobody blocks what it needs: exactly what the plain server says.
+//! A server over any data: sessions, waits and the log at its desk, and the plain server's answers.
 #![tactic(auto)]
 
+mod calling;
 mod committing;
 mod defining;
 mod doing;
 mod keeping;
+mod losing;
+mod server;
 mod telling;
 
-pub use committing::{commit, lose, roll_back};
-pub use doing::do_request;
+pub use server::Server;

@@ -1,0 +1,74 @@
+-- Calls that wait, and polls.
+use Rattle.std.proofs.Common.{◌≡◌, ◌≢◌, ℕ, ◌+◌, Bool, true, false, List, [], ◌∷◌, ◌++◌, Option, Some, None, Result, Ok, Err, OnOk, OnErr, refl, sym, ap, ◌∙◌, subst}
+use Rattle.std.specs.Prelude.{◌==◌}
+use Rattle.event_codec.specs.declared.event.RowEvent.{RowEvent}
+use Rattle.row_locks.specs.declared.lock.Lock.{Lock}
+use Rattle.row_store.specs.Databases.{Database}
+use Rattle.plain_server.specs.declared.answer.Answer.{Answer}
+use Rattle.plain_server.specs.declared.answer.Answer.TheVariants as answers
+use Rattle.plain_server.specs.declared.request.Request.{Request}
+use Rattle.plain_server.specs.declared.session.Waiting.{Waiting}
+use Rattle.plain_server.specs.Conditions.{IsWellFormed, MayCall, MayPoll}
+use Rattle.plain_server.specs.Jobs.{after_events}
+use Rattle.plain_server.specs.Locking.{blocker, need, row_locks_of}
+use Rattle.plain_server.specs.Serving.{polled_over}
+use Rattle.plain_server.specs.States.{State, names_in, waiting_of}
+use Rattle.state_laws.specs.Keeping.{IsServing}
+use Rattle.state_laws.proofs.Calls.{comes_of, names_of}
+use Rattle.server_desk.specs.Parts.{needed, state_of, GoTogether, HaveWritten, MayDo}
+use Rattle.server_desk.proofs.Steps.{seen_so}
+use Rattle.server_desk.proofs.Requests.{blocker_so}
+
+-- a call that nobody blocks
+pub may_call : (tables : Database) (written : ℕ → List RowEvent) (desk : State) (number : ℕ) (request : Request) (locks : List Lock) → HaveWritten written desk → MayCall (state_of tables desk) number request → locks ≡ row_locks_of (after_events tables (written number)) request
+    → blocker desk number (needed request locks) ≡ None → MayDo (state_of tables desk) number request locks
+may_call tables written desk number request locks have may are none = record {
+  live = may.live;
+  comes = may.comes;
+  formed = may.formed;
+  locks_are = are ∙ ap (λ (d : Database). row_locks_of d request) (seen_so tables written desk number have);
+  free = sym (blocker_so tables written desk number request locks have are) ∙ none;
+}
+
+-- a request that waits, and that nobody blocks any more
+pub formed_so : (state : State) (number : ℕ) (one : Waiting) → MayPoll state number → waiting_of number state.waiting ≡ Some one → IsWellFormed state.tables one.request
+formed_so state number one may is = let same : may.waiting ≡ one = some_one may.waiting one (sym may.waits ∙ is) in subst (λ (w : Waiting). IsWellFormed state.tables w.request) same may.formed where
+  some_one : (a b : Waiting) → Some a ≡ Some b → a ≡ b
+  some_one a b e = cc
+
+pub may_poll : (tables : Database) (written : ℕ → List RowEvent) (desk : State) (number : ℕ) (one : Waiting) (locks : List Lock) → GoTogether tables written desk → MayPoll (state_of tables desk) number → waiting_of number desk.waiting ≡ Some one
+    → locks ≡ row_locks_of (after_events tables (written number)) one.request → blocker desk number (needed one.request locks) ≡ None → MayDo (state_of tables desk) number one.request locks
+may_poll tables written desk number one locks together may is are none = record {
+  live = may.live;
+  comes = comes_of (state_of tables desk) number one is together.serves;
+  formed = formed_so (state_of tables desk) number one may is;
+  locks_are = are ∙ ap (λ (d : Database). row_locks_of d one.request) (seen_so tables written desk number together.have);
+  free = sym (blocker_so tables written desk number one.request locks together.have are) ∙ none;
+}
+
+pub some_names : (tables : Database) (written : ℕ → List RowEvent) (desk : State) (number : ℕ) (one : Waiting) → GoTogether tables written desk → waiting_of number desk.waiting ≡ Some one → names_in one.request ≢ []
+some_names tables written desk number one together is = names_of (state_of tables desk) number one is together.serves
+
+-- a poll that stays blocked, by whether the wait is over
+pub over_answer : (over : Bool) (tables : Database) (desk : State) (number by : ℕ) → (polled_over over by desk number).answer ≡ (polled_over over by (state_of tables desk) number).answer
+over_answer true tables desk number by = refl
+over_answer false tables desk number by = refl
+
+pub over_after : (over : Bool) (tables : Database) (desk : State) (number by : ℕ) → state_of tables (polled_over over by desk number).after ≡ (polled_over over by (state_of tables desk) number).after
+over_after true tables desk number by = refl
+over_after false tables desk number by = refl
+
+-- a call, a poll or a loss, done or not, leaves parts that go together
+pub served_together : {A E : Type 0} (result : Result A E) (tables after : Database) (written later : ℕ → List RowEvent) (desk new changed : State) → GoTogether tables written desk → OnOk result (state_of after new ≡ changed) → OnErr result (state_of after new ≡ state_of tables desk)
+    → HaveWritten later new → IsServing changed → GoTogether after later new
+served_together (Ok answer) tables after written later desk new changed together ok err have serves = record { have = have; serves = rw ok serves }
+served_together (Err fault) tables after written later desk new changed together ok err have serves = record { have = have; serves = rw err together.serves }
+
+-- a wait that timed out was over, and one that goes on wasn't
+pub over_timed : (over : Bool) (desk : State) (number by waited : ℕ) → answers.TimedOut waited ≡ (polled_over over by desk number).answer → over ≡ true
+over_timed true desk number by waited is = refl
+over_timed false desk number by waited is = absurd (cc)
+
+pub not_over : (over : Bool) (desk : State) (number by : ℕ) (answer : Answer) → answer ≡ (polled_over over by desk number).answer → ((waited : ℕ) → answer ≡ answers.TimedOut waited → ⊥) → over ≡ false
+not_over true desk number by answer is not = absurd (not _ is)
+not_over false desk number by answer is not = refl
