@@ -1,6 +1,5 @@
 -- Calls that wait, and polls.
-use Rattle.std.proofs.Common.{◌≡◌, ◌≢◌, ℕ, ◌+◌, Bool, true, false, List, [], ◌∷◌, ◌++◌, Option, Some, None, Result, Ok, Err, OnOk, OnErr, refl, sym, ap, ◌∙◌, subst}
-use Rattle.std.specs.Prelude.{◌==◌}
+use Rattle.std.proofs.Common.{◌≡◌, ◌≢◌, ℕ, Bool, true, false, List, [], Some, None, Result, Ok, Err, OnOk, OnErr, refl, sym, ap, ◌∙◌, subst}
 use Rattle.event_codec.specs.declared.event.RowEvent.{RowEvent}
 use Rattle.row_locks.specs.declared.lock.Lock.{Lock}
 use Rattle.row_store.specs.Databases.{Database}
@@ -10,7 +9,7 @@ use Rattle.plain_server.specs.declared.request.Request.{Request}
 use Rattle.plain_server.specs.declared.session.Waiting.{Waiting}
 use Rattle.plain_server.specs.Conditions.{IsWellFormed, MayCall, MayPoll}
 use Rattle.plain_server.specs.Jobs.{after_events}
-use Rattle.plain_server.specs.Locking.{blocker, need, row_locks_of}
+use Rattle.plain_server.specs.Locking.{blocker, row_locks_of}
 use Rattle.plain_server.specs.Serving.{polled_over}
 use Rattle.plain_server.specs.States.{State, names_in, waiting_of}
 use Rattle.state_laws.specs.Keeping.{IsServing}
