@@ -1,0 +1,6 @@
+mod Books
+mod Lists
+mod Planned
+mod Results
+mod Served
+mod Steps

@@ -1,0 +1,45 @@
+-- What a step reads of the server that stands behind the journal.
+use Rattle.std.proofs.Common.{◌≡◌, ◌<◌, ℕ, ◌+◌, Bool, true, false, ◌||◌, List, [], ◌∷◌, ◌++◌, length, Option, Some, None, refl, sym, ap, ◌∙◌, subst, arith}
+use Rattle.std.specs.Prelude.{is_some, nat_le, Result, Ok, Err, OnOk, OnErr}
+use Rattle.std.proofs.lemmas.Bool.{true≢false, leb-false}
+use Rattle.script_text.specs.declared.actor.Actor.{Actor}
+use Rattle.plain_server.specs.declared.entry.Entry.{Entry}
+use Rattle.plain_server.specs.States.{State}
+use Rattle.plan_words.specs.PlanData.{PlanData}
+use Rattle.journal_words.specs.Journals.{state_at, after_entry}
+use Rattle.migration_program.specs.Programs.{waits}
+use Rattle.migration_program.specs.Tools.{moment}
+use Rattle.migration_program.specs.Verdicts.{has_ended}
+use Rattle.run_laws.specs.Counting.{numbered, IsBehind}
+use Rattle.run_laws.proofs.Taking.{server_is}
+use Rattle.migration_run.specs.declared.turn.Turn.{Turn}
+use Rattle.due_turns.specs.Due.{due, next_entry}
+use Rattle.whole_run.specs.Runs.{RunView, is_over, TakesTurn, IsUnmoved}
+
+-- it stands behind the moment's
+pub behind_moment : (plan : PlanData) (journal : List Entry) (server : State) → IsBehind (state_at plan journal) server → IsBehind (moment plan journal).server server
+behind_moment plan journal server behind = subst (λ (s : State). IsBehind s server) (sym (server_is plan journal)) behind
+
+waits_numbered : (made : ℕ) (state : State) (session : Option ℕ) → waits (numbered made state) session ≡ waits state session
+waits_numbered made state None = refl
+waits_numbered made state (Some session) = refl
+
+-- the same sessions wait
+pub waits_behind : (told server : State) (session : Option ℕ) → IsBehind told server → waits server session ≡ waits told session
+waits_behind told server session behind = ap (λ (s : State). waits s session) behind.same ∙ waits_numbered server.made told session
+
+pub none_some : {A : Type 0} (x : Option A) → is_some x ≡ false → x ≡ None
+none_some None is = refl
+none_some (Some x) is = absurd (true≢false is)
+
+-- a run that isn't over has room for a turn more
+room_at : (ended : Bool) (count limit : ℕ) → (ended || nat_le limit count) ≡ false → count < limit
+room_at true count limit is = absurd (true≢false is)
+room_at false count limit is = leb-false limit count is
+
+pub has_room : (plan : PlanData) (journal : List Entry) → is_over plan journal ≡ false → length journal < plan.options.turn_limit
+unfolding is_over
+has_room plan journal is = room_at (has_ended plan journal) (length journal) plan.options.turn_limit is
+
+pub few_more : (count limit : ℕ) → limit < 4294967296 → nat_le limit count ≡ false → count + 1 < 4294967296
+few_more count limit few less = let below : count < limit = leb-false limit count less in omega (arith, few, below)

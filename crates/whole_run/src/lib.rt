@@ -1,0 +1,12 @@
+//! A run of a plan on any server: its turns are taken one by one, and each of them is written into the journal.
+#![tactic(auto)]
+
+mod due;
+mod keeping;
+mod ranges;
+mod room;
+mod run;
+mod serving;
+mod taking;
+
+pub use run::{Run, Stepped};
