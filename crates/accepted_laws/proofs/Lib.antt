@@ -1,0 +1,7 @@
+mod Commands
+mod Names
+mod Numbers
+mod Parts
+mod Plans
+mod Scripts
+mod Tables

@@ -1,0 +1,30 @@
+-- What every plan that is read has, so that the laws over journals speak of it.
+use Rattle.std.specs.Prelude.{◌≡◌, ◌≤◌, ℕ, List, Ok}
+use Rattle.std.specs.Str.{IsUtf8}
+use Rattle.plan_words.specs.PlanData.{PlanData}
+use Rattle.plan_document.specs.Plans.{read}
+use Rattle.history_laws.specs.Plans.{IsSerialPlan}
+use Rattle.machine_laws.specs.Tabling.{TableStands}
+use Rattle.ready_laws.specs.Laws.{ScriptsEnd}
+use Rattle.runnable_laws.specs.Laws.{IsWorded}
+
+-- *Read plans are serial*: their tables are tables with clustered keys, and their scripts name no table of the tool's.
+abbrev pub ReadPlansAreSerial : Type 0
+ReadPlansAreSerial = (bytes : List ℕ) (plan : PlanData) → read bytes ≡ Ok plan → IsSerialPlan plan
+
+-- *Read tables stand*: the migrated table is one of the plan's.
+abbrev pub ReadTablesStand : Type 0
+ReadTablesStand = (bytes : List ℕ) (plan : PlanData) → read bytes ≡ Ok plan → TableStands plan
+
+-- *Read scripts end*: the last line of none leaves a transaction open.
+abbrev pub ReadScriptsEnd : Type 0
+ReadScriptsEnd = (bytes : List ℕ) (plan : PlanData) → read bytes ≡ Ok plan → ScriptsEnd plan
+
+-- *Read plans are worded*: transactions are whole, the tool's names have room, sizes are at least 1 and kinds are kinds. (That
+-- the name is a text is what every `Name` has.)
+abbrev pub ReadPlansAreWorded : Type 0
+ReadPlansAreWorded = (bytes : List ℕ) (plan : PlanData) → read bytes ≡ Ok plan → IsUtf8 plan.table → IsWorded plan
+
+-- *Read attempts may be drained*: the applier has at least one turn for it.
+abbrev pub ReadAttemptsDrain : Type 0
+ReadAttemptsDrain = (bytes : List ℕ) (plan : PlanData) → read bytes ≡ Ok plan → 1 ≤ plan.options.drain_limit

@@ -1,0 +1,36 @@
+//! The laws: each function's contract is one.
+
+ghost use Rattle.accepted_laws.specs.Laws.{ReadPlansAreSerial, ReadTablesStand, ReadScriptsEnd, ReadPlansAreWorded, ReadAttemptsDrain};
+
+use alter_laws::read_clauses_write_kinds;
+use gho_values::laws::stored_values_store_again;
+use plan_laws::laws::read_plans_are_accepted;
+use reread_laws::read_schemas_are_declared;
+use row_store::laws::put_keeps_tables;
+use schema_laws::read_schemas_are_lawful;
+
+/// The tables of a plan that is read are tables with clustered keys, the migrated one is one of them, and its scripts name no
+/// table of the tool's.
+pub fn read_plans_are_serial()
+    ensures serial { ReadPlansAreSerial }
+    ensures stands { ReadTablesStand }
+{
+    read_plans_are_accepted();
+}
+
+/// Its scripts leave no transaction open.
+pub fn read_scripts_end()
+    ensures { ReadScriptsEnd }
+{}
+
+/// Its words fit: transactions, names, sizes, commands and kinds; and an attempt may be drained.
+pub fn read_plans_are_worded()
+    ensures worded { ReadPlansAreWorded }
+    ensures drain { ReadAttemptsDrain }
+{
+    read_schemas_are_lawful();
+    read_schemas_are_declared();
+    read_clauses_write_kinds();
+    stored_values_store_again();
+    put_keeps_tables();
+}
