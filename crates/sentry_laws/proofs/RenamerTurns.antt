@@ -108,12 +108,12 @@ renamer_waits t l r before after copier applier cutover Finished n rests may at 
 -- it is refused with an error
 renamer_refused : (t : List ℕ) (l r : ℕ) (before after : Scene) (copier : Copier) (applier : Applier) (cutover : CutOver) (phase : Phase) → l ≢ r → RefusesRename t r phase before after → MayAnswer phase cutover.renamer_waits → Guards t before copier applier cutover l r phase
     → Guards t after copier applier (record cutover { renamer_waits = false }) l r phase
-renamer_refused t l r before after copier applier cutover (Attempting Drained) apart refused may at = rests_keep t l r before after copier applier cutover (Attempting Drained) refused.rests at
+renamer_refused t l r before after copier applier cutover (Attempting Drained) apart refused may at = absurd refused
 renamer_refused t l r before after copier applier cutover (Attempting Showing) apart refused may at = absurd refused
 renamer_refused t l r before after copier applier cutover (Attempting Dropping) apart refused may at = absurd refused
 renamer_refused t l r before after copier applier cutover (Attempting Unlocking) apart refused may at = absurd refused
 renamer_refused t l r before after copier applier cutover (Attempting Exchanging) apart refused may at = tt
-renamer_refused t l r before after copier applier cutover (Ending clearing) apart refused may at = rename_is_gone t l r before after copier applier cutover.hold cutover.renamer_waits apart at refused.gone.0 refused.gone.1
+renamer_refused t l r before after copier applier cutover (Ending clearing) apart refused may at = rename_is_gone t l r before after copier applier cutover.hold cutover.renamer_waits apart at refused.0 refused.1
 renamer_refused t l r before after copier applier cutover Resting apart refused may at = absurd may
 renamer_refused t l r before after copier applier cutover (Attempting Guarding) apart refused may at = absurd may
 renamer_refused t l r before after copier applier cutover (Attempting Locking) apart refused may at = absurd may
@@ -161,7 +161,7 @@ lost_fit (Finishing clearing) hold waits fits = refl
 lost_fit Finished hold waits fits = refl
 
 refused_fit : (t : List ℕ) (r : ℕ) (before after : Scene) (phase : Phase) (hold : Hold) (waits : Bool) → Fits phase hold waits → MayAnswer phase waits → RefusesRename t r phase before after → Fits phase hold false
-refused_fit t r before after (Attempting Drained) hold waits fits may refused = (fits.0, refl)
+refused_fit t r before after (Attempting Drained) hold waits fits may refused = absurd refused
 refused_fit t r before after (Attempting Showing) hold waits fits may refused = absurd refused
 refused_fit t r before after (Attempting Dropping) hold waits fits may refused = absurd refused
 refused_fit t r before after (Attempting Unlocking) hold waits fits may refused = absurd refused

@@ -311,17 +311,14 @@ pub record RenameRests (table : List ℕ) (renamer : ℕ) (before after : Scene)
   pub rests : Rests table renamer before after
   pub waits : RenameWaits table after renamer
 
--- a RENAME that is refused
-pub record RenameRefused (table : List ℕ) (renamer : ℕ) (before after : Scene) : Type 0 where
-  pub rests : Rests table renamer before after
-  pub gone : IsGone table renamer before after
-
--- while the locker holds the table the RENAME isn't granted, so it isn't refused with an error either
+-- while the locker holds the table the RENAME isn't granted, so it isn't refused with an error either; one that is refused
+-- waits no more
 abbrev pub RefusesRename : List ℕ → ℕ → Phase → Scene → Scene → Type 0
+RefusesRename table renamer (Attempting Drained) before after = ⊥
 RefusesRename table renamer (Attempting Showing) before after = ⊥
 RefusesRename table renamer (Attempting Dropping) before after = ⊥
 RefusesRename table renamer (Attempting Unlocking) before after = ⊥
-RefusesRename table renamer phase before after = RenameRefused table renamer before after
+RefusesRename table renamer phase before after = IsGone table renamer before after
 
 abbrev pub RenamerServes : List ℕ → ℕ → Phase → Answer → Scene → Scene → Type 0
 RenamerServes table renamer phase (answers.Ok count) before after = Unit {0}
