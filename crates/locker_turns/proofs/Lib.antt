@@ -1,0 +1,5 @@
+pub mod Quiet
+pub mod Apart
+pub mod Entries
+pub mod Lockers
+pub mod Renamers

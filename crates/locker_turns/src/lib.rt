@@ -1,0 +1,4 @@
+//! The locker's and the renamer's turns are such turns as the sentry relation asks: each function's contract is a law.
+#![tactic(auto)]
+
+pub mod laws;
