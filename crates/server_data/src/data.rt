@@ -8,6 +8,7 @@ ghost use Rattle.plain_server.specs.Jobs.{after_events, says, job_says, copy_job
 ghost use Rattle.plain_server.specs.Locking.{row_locks_of};
 ghost use Rattle.plain_server.specs.States.{pair_names};
 ghost use Rattle.plain_server.specs.Conditions.{IsWellFormed};
+ghost use Rattle.statement_laws.specs.Databases.{IsOrderly};
 ghost use Rattle.server_data.specs.Fitting.{EventsFit, NoneOf};
 
 use alter_image::ColumnMap;
@@ -44,7 +45,7 @@ pub trait Data: Drop {
     /// The events that were made ready.
     ghost events: { Self.Writes → List Event };
 
-    /// They were made ready for this session, and nothing was written, committed, rolled back or defined since.
+    /// They were made ready for this session, and nothing was said, written, committed, rolled back or defined since.
     ghost is_ready: { Self → ℕ → Self.Writes → Type 0 };
 
     /// The committed tables. It takes no memory.
@@ -56,38 +57,46 @@ pub trait Data: Drop {
         requires { IsWellFormed (committed self.now) request.now }
         ensures { IfOk result (λ locks. locks ≡ row_locks_of (after_events (committed self.now) (written self.now session)) request.now) };
 
-    /// What the session's statement says.
-    fn say(&self, session: u32, statement: &Statement) -> Result<Told<Self::Writes>, AllocError>
-        ensures says { IfOk result (λ told. told.result ≡ says (after_events (committed self.now) (written self.now session)) statement.now) }
+    /// What the session's statement says. Room is made for its writes and for their commit.
+    fn say(&mut self, session: u32, statement: &Statement) -> Result<Told<Self::Writes>, AllocError>
+        ensures says { IfOk result (λ told. told.result ≡ says (after_events (committed self.old) (written self.old session)) statement.now) }
         ensures events { IfOk result (λ told. events told.writes ≡ told.result.events) }
-        ensures ready { IfOk result (λ told. is_ready self.now session told.writes) };
+        ensures ready { IfOk result (λ told. is_ready self.new session told.writes) }
+        ensures committed { committed self.new ≡ committed self.old }
+        ensures written { (other : ℕ) → written self.new other ≡ written self.old other };
 
     /// What is said where the session copies the image of the row of this clustered key from the one table into the
-    /// other.
+    /// other. Room is made for what is written and for its commit.
     fn copy_row(
-        &self,
+        &mut self,
         session: u32,
         from: &Name,
         into: &Name,
         map: &ColumnMap,
         key: &Key,
     ) -> Result<Told<Self::Writes>, AllocError>
-        requires { IsWellFormed (committed self.now) (CopyRow from.now into.now map.now key.now) }
-        ensures says { IfOk result (λ told. told.result ≡ job_says (after_events (committed self.now) (written self.now session)) (copy_job (after_events (committed self.now) (written self.now session)) from.now into.now map.now key.now)) }
+        requires { IsWellFormed (committed self.old) (CopyRow from.now into.now map.now key.now) }
+        ensures says { IfOk result (λ told. told.result ≡ job_says (after_events (committed self.old) (written self.old session)) (copy_job (after_events (committed self.old) (written self.old session)) from.now into.now map.now key.now)) }
         ensures events { IfOk result (λ told. events told.writes ≡ told.result.events) }
-        ensures ready { IfOk result (λ told. is_ready self.now session told.writes) };
+        ensures ready { IfOk result (λ told. is_ready self.new session told.writes) }
+        ensures committed { committed self.new ≡ committed self.old }
+        ensures written { (other : ℕ) → written self.new other ≡ written self.old other };
 
-    /// Writes the events in the session's transaction, behind those that it wrote. It takes no memory.
+    /// Writes the events in the session's transaction, behind those that it wrote. They fit the tables as the session sees
+    /// them, and leave them tables. It takes no memory.
     fn write(&mut self, session: u32, writes: Self::Writes)
         requires ready { is_ready self.old session writes }
         requires fit { EventsFit (after_events (committed self.old) (written self.old session)) (events writes) }
+        requires orderly { IsOrderly (after_events (after_events (committed self.old) (written self.old session)) (events writes)) }
         ensures committed { committed self.new ≡ committed self.old }
         ensures own { written self.new session ≡ written self.old session ++ events writes }
         ensures others { (other : ℕ) → (other == session) ≡ false → written self.new other ≡ written self.old other };
 
-    /// Commits what the session wrote. What the others wrote is to fit the tables as they then are. It takes no memory.
+    /// Commits what the session wrote. What each other one wrote is to fit the tables as they then are, and to leave them
+    /// tables. It takes no memory.
     fn commit(&mut self, session: u32)
-        requires { (other : ℕ) → (other == session) ≡ false → EventsFit (after_events (committed self.old) (written self.old session)) (written self.old other) }
+        requires fit { (other : ℕ) → (other == session) ≡ false → EventsFit (after_events (committed self.old) (written self.old session)) (written self.old other) }
+        requires orderly { (other : ℕ) → (other == session) ≡ false → IsOrderly (after_events (after_events (committed self.old) (written self.old session)) (written self.old other)) }
         ensures committed { committed self.new ≡ after_events (committed self.old) (written self.old session) }
         ensures own { written self.new session ≡ [] }
         ensures others { (other : ℕ) → (other == session) ≡ false → written self.new other ≡ written self.old other };

@@ -20,7 +20,7 @@ use Rattle.statement_laws.specs.Covering.{IsOrderlyTable}
 use Rattle.statement_laws.specs.Databases.{IsOrderly, WhereFound}
 use Rattle.statement_laws.proofs.OneRow.{same_removal}
 use Rattle.statement_laws.proofs.Orderly.{nulls}
-use Rattle.statement_laws.proofs.Stables.{others_agree}
+use Rattle.statement_laws.proofs.Stables.{after_events-append, others_agree}
 use Rattle.ghost_rows.specs.Moments.{Fits}
 use Rattle.ghost_rows.proofs.TimelineLaws.{none_clashing}
 use Rattle.ghost_laws.specs.Fitting as ghost
@@ -86,13 +86,27 @@ own_fit tables faces number need events kept well =
     (stand_seen tables (faces number).hold.writes events (stand_behind tables (faces number).hold.writes events well.own.standing))
     (fit_behind tables (faces number).hold.writes events (fitting_end own.hold.names own.hold.locks own.hold.writes tables kept.orderly well.own.fitting))
 
--- what others wrote fits the tables behind what a session commits
+-- what others wrote stays theirs behind what a session commits
+others_stay : (tables : Database) (faces : ℕ → Face) (number : ℕ) (need : Need) (events : List RowEvent) → Keeps tables faces → GrowsWell tables faces number need events → (n : ℕ) → (n == number) ≡ false → OwnFits (after_events tables ((faces number).hold.writes ++ events)) (faces n)
+others_stay tables faces number need events kept well n differ =
+    let own : Face = grown (faces number) need events in
+    own_others tables (after_events tables own.hold.writes) (faces n) (others_agree (faces n).hold.names own.hold.names own.hold.locks (faces n).hold.locks tables own.hold.writes (grown_apart tables faces number need events kept well n differ) well.own.covered) (kept.own n)
+
+-- ... it fits the tables as they then are
 pub others_fit : (tables : Database) (faces : ℕ → Face) (number : ℕ) (need : Need) (events : List RowEvent) → Keeps tables faces → GrowsWell tables faces number need events → (n : ℕ) → (n == number) ≡ false
     → EventsFit (after_events tables ((faces number).hold.writes ++ events)) (faces n).hold.writes
 others_fit tables faces number need events kept well n differ =
-    let own : Face = grown (faces number) need events in
-    let after : Database = after_events tables own.hold.writes in
+    let after : Database = after_events tables ((faces number).hold.writes ++ events) in
     let orderly : IsOrderly after = grown_orderly tables faces number need events kept well in
-    let stays : OwnFits after (faces n) = own_others tables after (faces n)
-    (others_agree (faces n).hold.names own.hold.names own.hold.locks (faces n).hold.locks tables own.hold.writes (grown_apart tables faces number need events kept well n differ) well.own.covered) (kept.own n) in
+    let stays : OwnFits after (faces n) = others_stay tables faces number need events kept well n differ in
     data_fits after (faces n).hold.writes orderly stays.standing (fitting_end (faces n).hold.names (faces n).hold.locks (faces n).hold.writes after orderly stays.fitting)
+
+-- ... and leaves them tables
+pub others_orderly : (tables : Database) (faces : ℕ → Face) (number : ℕ) (need : Need) (events : List RowEvent) → Keeps tables faces → GrowsWell tables faces number need events → (n : ℕ) → (n == number) ≡ false
+    → IsOrderly (after_events (after_events tables ((faces number).hold.writes ++ events)) (faces n).hold.writes)
+others_orderly tables faces number need events kept well n differ =
+    seen_orderly (after_events tables ((faces number).hold.writes ++ events)) (faces n) (grown_orderly tables faces number need events kept well) (others_stay tables faces number need events kept well n differ)
+
+-- what a session writes leaves tables, as it sees them
+pub own_orderly : (tables : Database) (faces : ℕ → Face) (number : ℕ) (need : Need) (events : List RowEvent) → Keeps tables faces → GrowsWell tables faces number need events → IsOrderly (after_events (after_events tables (faces number).hold.writes) events)
+own_orderly tables faces number need events kept well = subst IsOrderly (after_events-append tables (faces number).hold.writes events) (grown_orderly tables faces number need events kept well)

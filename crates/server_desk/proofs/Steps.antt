@@ -21,11 +21,12 @@ use Rattle.history_laws.proofs.Serves.{granted}
 use Rattle.server_data.specs.Fitting.{EventsFit}
 use Rattle.desk_calls.specs.Rooms.{logs}
 use Rattle.state_laws.specs.Granting.{GrowsWell}
+use Rattle.state_laws.specs.Keeping.{IsServing}
 use Rattle.state_laws.proofs.Calls.{connected_serves, kept_in, live_found, opened_serves}
 use Rattle.state_laws.proofs.Deeds.{AtWork, writes_face}
 use Rattle.state_laws.proofs.Granted.{quiet_own}
 use Rattle.server_desk.specs.Parts.{needed, state_of, GoTogether, HaveWritten, MayDo}
-use Rattle.server_desk.proofs.Fits.{own_fit, others_fit}
+use Rattle.server_desk.proofs.Fits.{own_fit, own_orderly, others_fit, others_orderly}
 use Rattle.server_desk.proofs.Having.{OthersSame, have_grows, have_joined, have_lost, have_rests, have_same}
 
 -- what the data have, by the session's face
@@ -43,12 +44,24 @@ write_needs tables written desk number need events together well =
     subst (λ (w : List RowEvent). EventsFit (after_events tables w) events) (sym (own_writes tables written desk number together))
     (own_fit tables (face_of desk.sessions) number need events (kept_in (state_of tables desk) together.serves) well)
 
+pub write_leaves : (tables : Database) (written : ℕ → List RowEvent) (desk : State) (number : ℕ) (need : Need) (events : List RowEvent) → GoTogether tables written desk → GrowsWell tables (face_of desk.sessions) number need events → IsOrderly (after_events (after_events tables (written number)) events)
+write_leaves tables written desk number need events together well =
+    subst (λ (w : List RowEvent). IsOrderly (after_events (after_events tables w) events)) (sym (own_writes tables written desk number together))
+    (own_orderly tables (face_of desk.sessions) number need events (kept_in (state_of tables desk) together.serves) well)
+
 pub commits_need : (tables : Database) (written : ℕ → List RowEvent) (desk : State) (number : ℕ) (need : Need) (events : List RowEvent) → GoTogether tables written desk → GrowsWell tables (face_of desk.sessions) number need events → (other : ℕ) → (other == number) ≡ false
     → EventsFit (after_events tables (written number ++ events)) (written other)
 commits_need tables written desk number need events together well other differ =
     subst (λ (w : List RowEvent). EventsFit (after_events tables (w ++ events)) (written other)) (sym (own_writes tables written desk number together))
     (subst (λ (w : List RowEvent). EventsFit (after_events tables ((face_of desk.sessions number).hold.writes ++ events)) w) (sym (own_writes tables written desk other together))
     (others_fit tables (face_of desk.sessions) number need events (kept_in (state_of tables desk) together.serves) well other differ))
+
+pub commits_leave : (tables : Database) (written : ℕ → List RowEvent) (desk : State) (number : ℕ) (need : Need) (events : List RowEvent) → GoTogether tables written desk → GrowsWell tables (face_of desk.sessions) number need events → (other : ℕ) → (other == number) ≡ false
+    → IsOrderly (after_events (after_events tables (written number ++ events)) (written other))
+commits_leave tables written desk number need events together well other differ =
+    subst (λ (w : List RowEvent). IsOrderly (after_events (after_events tables (w ++ events)) (written other))) (sym (own_writes tables written desk number together))
+    (subst (λ (w : List RowEvent). IsOrderly (after_events (after_events tables ((face_of desk.sessions number).hold.writes ++ events)) w)) (sym (own_writes tables written desk other together))
+    (others_orderly tables (face_of desk.sessions) number need events (kept_in (state_of tables desk) together.serves) well other differ))
 
 quiet : (tables : Database) (written : ℕ → List RowEvent) (desk : State) (number : ℕ) → GoTogether tables written desk → GrowsWell tables (face_of desk.sessions) number nothing_needed []
 quiet tables written desk number together = record {
@@ -61,11 +74,20 @@ pub commit_needs : (tables : Database) (written : ℕ → List RowEvent) (desk :
 commit_needs tables written desk number together other differ =
     subst (λ (w : List RowEvent). EventsFit (after_events tables w) (written other)) (append-nil (written number)) (commits_need tables written desk number nothing_needed [] together (quiet tables written desk number together) other differ)
 
+pub commit_leaves : (tables : Database) (written : ℕ → List RowEvent) (desk : State) (number : ℕ) → GoTogether tables written desk → (other : ℕ) → (other == number) ≡ false → IsOrderly (after_events (after_events tables (written number)) (written other))
+commit_leaves tables written desk number together other differ =
+    subst (λ (w : List RowEvent). IsOrderly (after_events (after_events tables w) (written other))) (append-nil (written number)) (commits_leave tables written desk number nothing_needed [] together (quiet tables written desk number together) other differ)
+
 -- ... of what was written in the same call
 pub behind_needs : (tables later : Database) (written more : ℕ → List RowEvent) (desk : State) (number : ℕ) (need : Need) (events : List RowEvent) → GoTogether tables written desk → GrowsWell tables (face_of desk.sessions) number need events → later ≡ tables → more number ≡ written number ++ events
     → OthersSame number written more → (other : ℕ) → (other == number) ≡ false → EventsFit (after_events later (more number)) (more other)
 behind_needs tables later written more desk number need events together well same own others other differ =
     rw (same, own, others other differ) (commits_need tables written desk number need events together well other differ)
+
+pub behind_leaves : (tables later : Database) (written more : ℕ → List RowEvent) (desk : State) (number : ℕ) (need : Need) (events : List RowEvent) → GoTogether tables written desk → GrowsWell tables (face_of desk.sessions) number need events → later ≡ tables → more number ≡ written number ++ events
+    → OthersSame number written more → (other : ℕ) → (other == number) ≡ false → IsOrderly (after_events (after_events later (more number)) (more other))
+behind_leaves tables later written more desk number need events together well same own others other differ =
+    rw (same, own, others other differ) (commits_leave tables written desk number need events together well other differ)
 
 -- WHAT IS LEFT
 
@@ -131,6 +153,13 @@ pub blocked_have : (written after : ℕ → List RowEvent) (desk new : State) (n
 blocked_have written after desk new number by true have none kept same polled = rw polled (have_rests number written after desk.sessions have (none refl) same)
 blocked_have written after desk new number by false have none kept same polled =
     rw polled (λ n. kept refl n ∙ have_same number (counting (polls_of (session_of number desk.sessions) + 1)) written desk.sessions (λ s. refl) (λ s. refl) have n)
+
+-- the data have what they had
+pub same_together : (tables after : Database) (written later : ℕ → List RowEvent) (desk : State) → GoTogether tables written desk → after ≡ tables → ((n : ℕ) → later n ≡ written n) → GoTogether after later desk
+same_together tables after written later desk together same kept = record {
+  have = λ n. kept n ∙ together.have n;
+  serves = subst (λ (d : Database). IsServing (state_of d desk)) (sym same) together.serves;
+}
 
 -- the data keep what each session wrote
 pub kept_have : (written after : ℕ → List RowEvent) (desk : State) → HaveWritten written desk → ((n : ℕ) → after n ≡ written n) → HaveWritten after desk

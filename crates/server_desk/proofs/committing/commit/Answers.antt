@@ -1,9 +1,12 @@
 use Rattle.std.proofs.Common.{[]}
-use Rattle.server_desk.proofs.Steps.{commit_needs, commits_have, commits_state}
+use Rattle.server_desk.proofs.Steps.{commit_leaves, commit_needs, commits_have, commits_state}
 use Rattle.server_desk.proofs.committing.commit.Goals as goal
 
-pub commit-requires : goal.commit-requires
-commit-requires g c = commit_needs (g.D.Data.committed c.args.store.now) (g.D.Data.written c.args.store.now) c.args.desk.now c.args.session c.requires
+pub commit-requires-clause-fit : goal.commit-requires-clause-fit
+commit-requires-clause-fit g c = commit_needs (g.D.Data.committed c.args.store.now) (g.D.Data.written c.args.store.now) c.args.desk.now c.args.session c.requires
+
+pub commit-requires-clause-orderly : goal.commit-requires-clause-orderly
+commit-requires-clause-orderly g c = commit_leaves (g.D.Data.committed c.args.store.now) (g.D.Data.written c.args.store.now) c.args.desk.now c.args.session c.requires
 
 pub returns-clause-state : goal.returns-clause-state
 returns-clause-state g c =

@@ -1,16 +1,25 @@
 use Rattle.std.proofs.Common.{List, ◌++◌, ◌∙◌, ap}
 use Rattle.event_codec.specs.declared.event.RowEvent.{RowEvent}
 use Rattle.server_desk.specs.Parts.{needed}
-use Rattle.server_desk.proofs.Steps.{behind_needs, behind_state, commits_have, write_needs}
+use Rattle.server_desk.proofs.Steps.{behind_leaves, behind_needs, behind_state, commits_have, write_leaves, write_needs}
 use Rattle.server_desk.proofs.keeping.commit_at_once.Goals as goal
 
 pub write-requires-clause-fit : goal.write-requires-clause-fit
 write-requires-clause-fit g c =
     rw c.requires.events (write_needs (g.D.Data.committed c.args.store.now) (g.D.Data.written c.args.store.now) c.args.desk.now c.args.session (needed c.args.request.now c.args.locks) c.args.told.result.events c.requires.together c.requires.grows)
 
-pub commit-requires : goal.commit-requires
-commit-requires g c =
+pub write-requires-clause-orderly : goal.write-requires-clause-orderly
+write-requires-clause-orderly g c =
+    rw c.requires.events (write_leaves (g.D.Data.committed c.args.store.now) (g.D.Data.written c.args.store.now) c.args.desk.now c.args.session (needed c.args.request.now c.args.locks) c.args.told.result.events c.requires.together c.requires.grows)
+
+pub commit-requires-clause-fit : goal.commit-requires-clause-fit
+commit-requires-clause-fit g c =
     behind_needs (g.D.Data.committed c.args.store.now) (g.D.Data.committed c.write.new.self) (g.D.Data.written c.args.store.now) (g.D.Data.written c.write.new.self) c.args.desk.now c.args.session (needed c.args.request.now c.args.locks) c.args.told.result.events c.requires.together c.requires.grows c.write.ensures.committed
+    (c.write.ensures.own ∙ ap (λ (e : List RowEvent). g.D.Data.written c.args.store.now c.args.session ++ e) c.requires.events) c.write.ensures.others
+
+pub commit-requires-clause-orderly : goal.commit-requires-clause-orderly
+commit-requires-clause-orderly g c =
+    behind_leaves (g.D.Data.committed c.args.store.now) (g.D.Data.committed c.write.new.self) (g.D.Data.written c.args.store.now) (g.D.Data.written c.write.new.self) c.args.desk.now c.args.session (needed c.args.request.now c.args.locks) c.args.told.result.events c.requires.together c.requires.grows c.write.ensures.committed
     (c.write.ensures.own ∙ ap (λ (e : List RowEvent). g.D.Data.written c.args.store.now c.args.session ++ e) c.requires.events) c.write.ensures.others
 
 pub returns-clause-ok : goal.returns-clause-ok

@@ -2,12 +2,16 @@ use Rattle.std.proofs.Common.{List, ◌++◌, ◌∙◌, ap}
 use Rattle.event_codec.specs.declared.event.RowEvent.{RowEvent}
 use Rattle.plain_server.specs.Serving.{goes_on}
 use Rattle.server_desk.specs.Parts.{needed}
-use Rattle.server_desk.proofs.Steps.{grows_have, state_so, write_needs}
+use Rattle.server_desk.proofs.Steps.{grows_have, state_so, write_leaves, write_needs}
 use Rattle.server_desk.proofs.keeping.go_on.Goals as goal
 
 pub write-requires-clause-fit : goal.write-requires-clause-fit
 write-requires-clause-fit g c =
     rw c.requires.events (write_needs (g.D.Data.committed c.args.store.now) (g.D.Data.written c.args.store.now) c.args.desk.now c.args.session (needed c.args.request.now c.args.locks) c.args.told.result.events c.requires.together c.requires.grows)
+
+pub write-requires-clause-orderly : goal.write-requires-clause-orderly
+write-requires-clause-orderly g c =
+    rw c.requires.events (write_leaves (g.D.Data.committed c.args.store.now) (g.D.Data.written c.args.store.now) c.args.desk.now c.args.session (needed c.args.request.now c.args.locks) c.args.told.result.events c.requires.together c.requires.grows)
 
 pub returns-clause-ok : goal.returns-clause-ok
 returns-clause-ok g c =

@@ -3,13 +3,18 @@ use Rattle.row_store.specs.Databases.{Database}
 use Rattle.plain_server.specs.Jobs.{says}
 use Rattle.plain_server.specs.States.{view}
 use Rattle.server_desk.specs.Parts.{state_of}
-use Rattle.server_desk.proofs.Steps.{seen_so}
+use Rattle.server_desk.proofs.Steps.{same_together, seen_so}
 use Rattle.server_desk.proofs.Requests.{statement_grows}
 use Rattle.server_desk.proofs.telling.statement.Goals as goal
 
+pub keep-requires-clause-together : goal.keep-requires-clause-together
+keep-requires-clause-together g c =
+    same_together (g.D.Data.committed c.args.store.now) (g.D.Data.committed c.say.new.self) (g.D.Data.written c.args.store.now) (g.D.Data.written c.say.new.self) c.args.desk.now c.requires.together c.say.ensures.committed c.say.ensures.written
+
 pub keep-requires-clause-grows : goal.keep-requires-clause-grows
 keep-requires-clause-grows g c =
-    statement_grows (g.D.Data.committed c.args.store.now) (g.D.Data.written c.args.store.now) c.args.desk.now c.args.session c.args.statement.now c.args.request.now c.args.locks c.in_ok-told.told.result c.requires.together c.requires.may c.requires.request c.in_ok-told.ensures.says
+    rw c.say.ensures.committed
+    (statement_grows (g.D.Data.committed c.args.store.now) (g.D.Data.written c.args.store.now) c.args.desk.now c.args.session c.args.statement.now c.args.request.now c.args.locks c.in_ok-told.told.result c.requires.together c.requires.may c.requires.request c.in_ok-told.ensures.says)
 
 pub returns-clause-answer : goal.returns-clause-answer
 returns-clause-answer g c =
@@ -21,4 +26,7 @@ pub returns-clause-ok : goal.returns-clause-ok
 returns-clause-ok g c =
     let said : c.in_ok-told.told.result ≡ says (view c.args.session (state_of (g.D.Data.committed c.args.store.now) c.args.desk.now)) c.args.statement.now =
     c.in_ok-told.ensures.says ∙ ap (λ (d : Database). says d c.args.statement.now) (seen_so (g.D.Data.committed c.args.store.now) (g.D.Data.written c.args.store.now) c.args.desk.now c.args.session c.requires.together.have) in
-    rw said at c.keep.ensures.ok
+    rw (said, c.say.ensures.committed) at c.keep.ensures.ok
+
+pub returns-clause-err : goal.returns-clause-err
+returns-clause-err g c = rw c.say.ensures.committed at c.keep.ensures.err
