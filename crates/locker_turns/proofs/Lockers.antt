@@ -32,25 +32,25 @@ use Rattle.migration_program.specs.Tools.{Course, Migrating, SettingUp, Work, is
 use Rattle.program_laws.proofs.Machines.{CourseIsNamed, named}
 use Rattle.statement_laws.proofs.Tests.{or_true, same_bytes}
 use Rattle.history_laws.specs.Plans.{IsSerialPlan}
-use Rattle.server_laws.specs.Others.{DefinitionsAreDone, EntriesAreTurns, ExclusiveIsAlone, LocksAreTaken, held_at}
+use Rattle.server_laws.specs.Others.{DefinitionsAreDone, EntriesAreTurns, ExclusiveIsAlone, LocksAreTaken}
 use Rattle.run_laws.specs.Kept.{IsKept}
 use Rattle.machine_laws.specs.Machines.{PhaseHolds, WorkStands, both_names, held}
 use Rattle.machine_laws.specs.Runnable.{IsRunnable}
-use Rattle.machine_laws.specs.Standings.{IsAbout, Standing, answers_to, free, is_called, is_polled, standing_in, standing_of}
+use Rattle.machine_laws.specs.Standings.{IsAbout, Standing, free, is_called, is_polled, standing_in, standing_of}
 use Rattle.machine_laws.proofs.Asking.{idle_stands}
 use Rattle.machine_laws.proofs.CuttingOver.{LockerAsks}
 use Rattle.machine_laws.proofs.Fitting.{IsPrompt}
 use Rattle.machine_laws.proofs.Journals.{Asking, IsRun, IsTogether, all_together, asking, calls_so, lock_about, never_commands, polls_so}
 use Rattle.machine_laws.proofs.Seated.{own_fits, own_prompt, own_session}
 use Rattle.machine_laws.proofs.Tabling.{free_idle}
-use Rattle.sentry_laws.specs.Sentries.{LockerMay, LockerServes, OnlyFreesLock, Rests, scene}
-use Rattle.sentry_laws.specs.Turning.{AskedTurn, CourseTurn, IsIdle, IsLockerFree, IsTurned, LockerSays, LockerTurn, WorkTurn, last_session, told, told_if}
+use Rattle.sentry_laws.specs.Sentries.{LockerMay, LockerServes, OnlyFreesLock, scene}
+use Rattle.sentry_laws.specs.Turning.{AskedTurn, CourseTurn, IsIdle, IsLockerFree, IsTurned, LockerSays, LockerTurn, WorkTurn, last_session, told_if}
 use Rattle.sentry_laws.specs.Turns.{CallLeaves, LockLeaves}
 use Rattle.sentry_laws.proofs.Calling.{locker_given, locker_serves}
 use Rattle.sentry_laws.proofs.Serving.{only_frees, takes_lock, waits_on}
 use Rattle.unaltered_laws.specs.Laws.{IsUnaltered}
 use Rattle.follow_turns.proofs.Asked.{gave}
-use Rattle.follow_turns.proofs.Follows.{kept_front, kept_run}
+use Rattle.follow_turns.proofs.Follows.{kept_run}
 use Rattle.hold_laws.proofs.Holds.{lockers_go_on, work_stands}
 use Rattle.hold_laws.proofs.Seats.{kept_differs}
 use Rattle.locker_turns.specs.Laws.{LockersAreTurned}

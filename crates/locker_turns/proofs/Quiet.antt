@@ -1,6 +1,6 @@
 -- What LOCK TABLES, UNLOCK TABLES, CREATE, DROP and RENAME leave on the server: they commit no row; only the last three
 -- change which tables stand, and these change no lock that is held.
-use Rattle.std.proofs.Common.{◌≡◌, ◌⊎◌, ℕ, Bool, true, false, not, List, [], ◌∷◌, ◌++◌, filter, cond, Option, Some, None, Result, Ok, Err, refl, sym, ap, ◌∙◌, subst, inl, inr}
+use Rattle.std.proofs.Common.{◌≡◌, ◌⊎◌, ℕ, Bool, true, false, List, [], ◌∷◌, ◌++◌, cond, Option, Some, None, Result, Ok, Err, refl, sym, ap, ◌∙◌, subst, inl, inr}
 use Rattle.std.specs.Prelude.{◌==◌}
 use Rattle.std.proofs.lemmas.Bool.{true≢false, false≢true}
 use Rattle.metadata_locks.specs.Granting as grants
@@ -11,7 +11,7 @@ use Rattle.plain_server.specs.Answers.{refuses}
 use Rattle.plain_server.specs.Deeds.{all_stand, created, deed_unless, defined, dropped, is_outside, locks_if, renamed_or}
 use Rattle.plain_server.specs.Locking.{blocker, need}
 use Rattle.plain_server.specs.Serving.{Served, at_rest, called_unless, calls, counting, does, done, is_over, polled_of, polled_over, polled_unless, polls, serves, without_waiting}
-use Rattle.plain_server.specs.States.{State, is_exclusive, is_in_transaction, locks_held, name_held, names_held, names_in, session_of, view, waiters, waiting_of, with_session}
+use Rattle.plain_server.specs.States.{State, is_exclusive, is_in_transaction, locks_held, names_held, names_in, session_of, view, waiters, waiting_of, with_session}
 use Rattle.plain_server.specs.declared.answer.Answer.{Answer}
 use Rattle.plain_server.specs.declared.answer.Answer.TheVariants as answers
 use Rattle.plain_server.specs.declared.entry.Asked.{Asked}

@@ -1,12 +1,11 @@
 -- A turn of the renamer's is such a turn as the sentry relation asks, where the relation holds before.
-use Rattle.std.proofs.Common.{◌≡◌, ◌≢◌, ◌⊎◌, ◌+◌, ℕ, Bool, true, false, ◌&&◌, ◌||◌, cond, List, [], ◌∷◌, ◌++◌, Option, Some, None, refl, sym, ap, ◌∙◌, subst, inl, inr}
+use Rattle.std.proofs.Common.{◌≡◌, ◌≢◌, ◌⊎◌, ◌+◌, ℕ, Bool, true, false, ◌||◌, cond, List, [], ◌∷◌, ◌++◌, Option, Some, None, refl, sym, ap, ◌∙◌, subst, inl, inr}
 use Rattle.std.specs.Prelude.{◌==◌}
 use Rattle.std.specs.List.{list_any}
 use Rattle.std.proofs.lemmas.Bool.{true≢false}
 use Rattle.std.proofs.lemmas.List.Folds.{list_any-append}
 use Rattle.metadata_locks.specs.Granting as grants
 use Rattle.metadata_locks.specs.Granting.{has_name, holds, refuser_of_name, refuser_of_names}
-use Rattle.metadata_locks.specs.declared.request.Waiter.{Waiter}
 use Rattle.row_store.specs.Databases.{has_table}
 use Rattle.script_text.specs.declared.actor.Actor.{Actor}
 use Rattle.script_text.specs.declared.actor.Actor.TheVariants.{Lock, Ren}
@@ -30,14 +29,14 @@ use Rattle.event_applier.specs.declared.applier.Applier.{Applier}
 use Rattle.cutover_core.specs.Attempts.{exchange}
 use Rattle.cutover_core.specs.declared.cutover.CutOver.{CutOver}
 use Rattle.cutover_core.specs.declared.cutover.Phase.{Phase}
-use Rattle.cutover_core.specs.declared.cutover.Phase.TheVariants.{Attempting, Ending, Finished, Finishing, Resting}
+use Rattle.cutover_core.specs.declared.cutover.Phase.TheVariants.{Attempting}
 use Rattle.cutover_core.specs.declared.cutover.Stage.TheVariants.{Drained, Dropping, Showing, Unlocking}
 use Rattle.journal_words.specs.Journals.{opens, state_at}
 use Rattle.journal_words.specs.Sessions.{live_session, session_left}
 use Rattle.migration_program.specs.Programs.{IsGiven, given, waits}
 use Rattle.migration_program.specs.Tools.{Course, Migrating, SettingUp, Work, is_reverting, moment}
 use Rattle.program_laws.proofs.Machines.{CourseIsNamed, named}
-use Rattle.statement_laws.proofs.Tests.{are_one, same_bytes, same_number}
+use Rattle.statement_laws.proofs.Tests.{same_bytes}
 use Rattle.history_laws.specs.Plans.{IsSerialPlan}
 use Rattle.history_laws.specs.Turns.{request_of}
 use Rattle.history_laws.proofs.Actors.{live_more, same_actor_itself}
@@ -45,12 +44,12 @@ use Rattle.server_laws.specs.Others.{EntriesAreTurns, held_at}
 use Rattle.run_laws.specs.Kept.{IsKept}
 use Rattle.machine_laws.specs.Machines.{WorkStands, renaming}
 use Rattle.machine_laws.specs.Runnable.{IsRunnable}
-use Rattle.machine_laws.specs.Standings.{IsAbout, Standing, answered, answers_to, free, is_called, is_polled, standing_in, standing_of}
+use Rattle.machine_laws.specs.Standings.{IsAbout, Standing, answered, answers_to, is_called, is_polled, standing_in, standing_of}
 use Rattle.machine_laws.proofs.Asking.{WaitsWith, busy_waits, idle_stands}
 use Rattle.machine_laws.proofs.Fitting.{IsPrompt}
-use Rattle.machine_laws.proofs.Journals.{Asking, IsRun, IsTogether, all_together, asking, calls_so, has_now, never_commands, polls_so, ren_about}
+use Rattle.machine_laws.proofs.Journals.{Asking, IsRun, IsTogether, all_together, asking, has_now, never_commands, ren_about}
 use Rattle.machine_laws.proofs.Seated.{own_fits, own_session}
-use Rattle.sentry_laws.specs.Sentries.{Fits, Guards, IsGone, IsLocked, MayAnswer, RefusesRename, RenameRests, RenameWaits, RenamerServes, scene, waits_for}
+use Rattle.sentry_laws.specs.Sentries.{Guards, IsGone, IsLocked, MayAnswer, RefusesRename, RenameRests, RenameWaits, RenamerServes, scene, waits_for}
 use Rattle.sentry_laws.specs.Turning.{AskedTurn, CourseHolds, CourseTurn, Holds, IsGuarded, IsIdle, IsRenamerFree, IsTurned, RenamerSays, RenamerTurn, WorkTurn, last_session, told_if}
 use Rattle.sentry_laws.proofs.Calling.{renamer_called, renamer_polled}
 use Rattle.sentry_laws.proofs.Holding.{granted_each, refused_exclusive}

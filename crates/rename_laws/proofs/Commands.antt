@@ -17,7 +17,6 @@ use Rattle.machine_laws.proofs.Journals.{IsRun, IsTogether, all_together}
 use Rattle.machine_laws.proofs.Seated.{state_more}
 use Rattle.sentry_laws.specs.Turning.{AskedTurn, CourseTurn, IsTurned, last_session}
 use Rattle.follow_turns.proofs.Follows.{kept_front, kept_run}
-use Rattle.rename_laws.specs.Laws.{CommandsAreTurned}
 
 never_lost : (asked : Asked) → is_command asked ≡ true → may_lose asked ≡ false
 never_lost (Command word) is = refl
@@ -66,6 +65,6 @@ module _ (plan : PlanData) (journal : List Entry) (entry : Entry) (is : is_comma
     by (SettingUp setup tries) = tt
     by (Migrating work) = asks work ((moment plan journal).tool.turns + 1) entry.asked is
 
--- *Commands are turned*
-pub commands_turned : CommandsAreTurned
-commands_turned plan journal entry is kept = turned plan journal entry is kept
+-- *A command is turned*
+pub command_turned : (plan : PlanData) (journal : List Entry) (entry : Entry) → is_command entry.asked ≡ true → IsKept plan (journal ++ entry ∷ []) → IsTurned plan journal entry
+command_turned plan journal entry is kept = turned plan journal entry is kept

@@ -1,5 +1,5 @@
 -- The RENAME that is done is the renamer's exchange, and by the sentry relation it comes at the mark.
-use Rattle.std.proofs.Common.{◌≡◌, ℕ, Bool, true, false, not, List, [], ◌∷◌, ◌++◌, drop, Option, Some, None, Result, Ok, Err, refl, sym, ap, ◌∙◌, subst, append_assoc}
+use Rattle.std.proofs.Common.{◌≡◌, ℕ, true, false, not, List, [], ◌∷◌, ◌++◌, drop, Option, Some, None, Result, Ok, Err, refl, sym, ap, ◌∙◌, subst, append-nil, append_assoc}
 use Rattle.std.specs.List.{list_any}
 use Rattle.std.proofs.lemmas.Bool.{true≢false}
 use Rattle.row_store.specs.Databases.{Database, rename_tables}
@@ -51,8 +51,9 @@ use Rattle.machine_laws.specs.Standings.{Standing, free, standing_of}
 use Rattle.machine_laws.proofs.Journals.{Asking, IsRun, IsTogether, asking, calls_so, polls_so}
 use Rattle.machine_laws.proofs.Seated.{IsServed, own_waiting}
 use Rattle.runnable_laws.specs.Laws.{MigratablePlansAreRunnable}
-use Rattle.sentry_laws.specs.Turning.{IsRenamed, IsTurned, IsWhole, WaitsSay}
+use Rattle.sentry_laws.specs.Turning.{IsGuarded, IsRenamed, IsTurned, IsWhole, WaitsSay}
 use Rattle.sentry_laws.proofs.Agreeing.{renames_follow}
+use Rattle.sentry_laws.proofs.Inductions.{all_guarded}
 use Rattle.sentry_laws.proofs.Serving.{exchanged, is_renamed}
 use Rattle.unaltered_laws.specs.Laws.{IsUnaltered}
 use Rattle.unaltered_laws.proofs.Away.{IsKnownAsked, about_asked, all_asked, tool_adds, unaltered_entry, unaltered_front}
@@ -62,7 +63,9 @@ use Rattle.follow_turns.proofs.Follows.{kept_front, kept_run}
 use Rattle.follow_laws.specs.Laws.{FollowersAlter}
 use Rattle.marked_laws.specs.Laws.{MarkedJournalsAreSerial}
 use Rattle.waits_laws.specs.Laws.{WaitsAreTold}
-use Rattle.rename_laws.specs.Laws.{ClientsAreTurned, CommandsAreTurned, IsRename, RenamesAreSerial, RenamesComeAtTheMark, RenamesFindTheAltered}
+use Rattle.locker_turns.specs.Laws.{LockersAreTurned, RenamersAreTurned}
+use Rattle.inspector_turns.specs.Laws.{InspectorsAreTurned}
+use Rattle.rename_laws.specs.Laws.{ClientsAreTurned, IsRename, IsSentriedTurn, OperatorsAreTurned, RenamesAreSerial, RenamesComeAtTheMark, RenamesFindTheAltered}
 
 -- an applier that may read next is reading
 reads : (step : ApplyStep) → appliers.is_reading step ≡ true → step ≡ Reading
@@ -76,30 +79,41 @@ were_renamed : (result : Result Database NotRenamed) (tables : Database) → ren
 were_renamed (Ok made) tables is = let one : made ≡ tables = cc in ap Ok one
 were_renamed (Err reason) tables is = absurd cc
 
--- each turn is such a turn
-all_turned : ClientsAreTurned → CommandsAreTurned → (plan : PlanData) → IsRunnable plan → IsSerialPlan plan → (some journal : List Entry) → IsKept plan (some ++ journal) → IsUnaltered plan (some ++ journal) → Along (λ before one. is_client one.actor ≡ false → is_command one.asked ≡ false → IsTurned plan before one) some journal → Along (IsTurned plan) some journal
-all_turned clients commands plan runs serial some [] kept off tool = tt
-all_turned clients commands plan runs serial some (entry ∷ journal) kept off tool = (one (is_client entry.actor) (is_command entry.asked) refl refl, all_turned clients commands plan runs serial (some ++ entry ∷ []) journal later later_off tool.1) where
-  later : IsKept plan ((some ++ entry ∷ []) ++ journal)
-  later = subst (IsKept plan) (sym (append_assoc some (entry ∷ []) journal)) kept
+-- EACH TURN IS SUCH A TURN
 
-  later_off : IsUnaltered plan ((some ++ entry ∷ []) ++ journal)
-  later_off = subst (IsUnaltered plan) (sym (append_assoc some (entry ∷ []) journal)) off
+pub record TurnLaws : Type 0 where
+  pub clients : ClientsAreTurned
+  pub operators : OperatorsAreTurned
+  pub lockers : LockersAreTurned
+  pub renamers : RenamersAreTurned
+  pub inspectors : InspectorsAreTurned
 
-  front : IsKept plan (some ++ entry ∷ [])
-  front = kept_front plan (some ++ entry ∷ []) journal later
+one_turned : TurnLaws → (plan : PlanData) (journal : List Entry) (entry : Entry) → IsRunnable plan → IsSerialPlan plan → IsKept plan (journal ++ entry ∷ []) → IsUnaltered plan (journal ++ entry ∷ []) → IsGuarded plan journal → IsSentriedTurn plan journal entry → IsTurned plan journal entry
+one_turned laws plan journal entry runs serial kept off guarded sentried = by entry.actor refl where
+  by : (actor : Actor) → entry.actor ≡ actor → IsTurned plan journal entry
+  by (Client number) same = laws.clients plan journal entry (ap is_client same) runs serial kept off
+  by Op same = laws.operators plan journal entry same runs serial kept off
+  by Lock same = laws.lockers plan journal entry same runs serial kept off
+  by Ren same = laws.renamers plan journal entry same runs serial kept off guarded
+  by Insp same = laws.inspectors plan journal entry same runs serial kept off sentried.unhinted
+  by Copy same = sentried.copier same
+  by Apply same = sentried.applier same
 
-  one : (client command : Bool) → is_client entry.actor ≡ client → is_command entry.asked ≡ command → IsTurned plan some entry
-  one true command is asks = clients plan some entry is runs serial front (unaltered_front plan (some ++ entry ∷ []) journal later_off)
-  one false true is asks = commands plan some entry asks front
-  one false false is asks = tool.0 is asks
+all_turned : TurnLaws → (plan : PlanData) → IsRunnable plan → IsSerialPlan plan → (some journal : List Entry) → Along (IsTurned plan) [] some → IsKept plan (some ++ journal) → IsUnaltered plan (some ++ journal) → Along (IsSentriedTurn plan) some journal → Along (IsTurned plan) [] (some ++ journal)
+all_turned laws plan runs serial some [] turned kept off sentried = subst (Along (IsTurned plan) []) (sym (append-nil some)) turned
+all_turned laws plan runs serial some (entry ∷ journal) turned kept off sentried =
+    let same : (some ++ entry ∷ []) ++ journal ≡ some ++ entry ∷ journal = append_assoc some (entry ∷ []) journal in
+    let later : IsKept plan ((some ++ entry ∷ []) ++ journal) = subst (IsKept plan) (sym same) kept in
+    let later_off : IsUnaltered plan ((some ++ entry ∷ []) ++ journal) = subst (IsUnaltered plan) (sym same) off in
+    let one : IsTurned plan some entry = one_turned laws plan some entry runs serial (kept_front plan (some ++ entry ∷ []) journal later) (unaltered_front plan (some ++ entry ∷ []) journal later_off) (all_guarded plan some turned) sentried.0 in
+    subst (Along (IsTurned plan) []) same (all_turned laws plan runs serial (some ++ entry ∷ []) journal (Along-more (IsTurned plan) [] some entry turned one) later later_off sentried.1)
 
 -- what the sentry relation asks of each turn
 all_three : (plan : PlanData) (some journal : List Entry) → Along (IsTurned plan) some journal → Along (IsFollowed plan) some journal → Along (WaitsSay plan) some journal → Along (λ before one. IsTurned plan before one × IsFollowed plan before one × WaitsSay plan before one) some journal
 all_three plan some [] turned followed said = tt
 all_three plan some (entry ∷ journal) turned followed said = ((turned.0, followed.0, said.0), all_three plan (some ++ entry ∷ []) journal turned.1 followed.1 said.1)
 
-module _ (exclusive_is_alone : ExclusiveIsAlone) (definitions_are_done : DefinitionsAreDone) (waits_are_told : WaitsAreTold) (clients : ClientsAreTurned) (commands : CommandsAreTurned) (plan : PlanData) (journal : List Entry) (entry : Entry) (runs : IsRunnable plan) (serial : IsSerialPlan plan) (rename : IsRename plan journal entry) where
+module _ (exclusive_is_alone : ExclusiveIsAlone) (definitions_are_done : DefinitionsAreDone) (waits_are_told : WaitsAreTold) (laws : TurnLaws) (plan : PlanData) (journal : List Entry) (entry : Entry) (runs : IsRunnable plan) (serial : IsSerialPlan plan) (rename : IsRename plan journal entry) where
   abbrev now : State
   now = state_at plan journal
 
@@ -261,7 +275,7 @@ module _ (exclusive_is_alone : ExclusiveIsAlone) (definitions_are_done : Definit
   unfolding Follows
   whole =
       renames_follow plan journal entry working.work
-      (all_three plan [] journal (all_turned clients commands plan runs serial [] journal before rename.unaltered rename.sentried) before.follows (waits_are_told plan journal before.faithful before.follows)) run.followed exchanges.0 uncut
+      (all_three plan [] journal (all_turned laws plan runs serial [] journal tt before rename.unaltered rename.sentried) before.follows (waits_are_told plan journal before.faithful before.follows)) run.followed exchanges.0 uncut
       working.course (subst (λ (s : State). IsRenamed plan s entry.session) (sym together.server) renamed)
 
   mark : IsMark plan journal
@@ -276,8 +290,8 @@ module _ (exclusive_is_alone : ExclusiveIsAlone) (definitions_are_done : Definit
   }
 
 -- *Renames come at the mark*
-pub renames_marked : ExclusiveIsAlone → DefinitionsAreDone → WaitsAreTold → ClientsAreTurned → CommandsAreTurned → RenamesComeAtTheMark
-renames_marked alone done told clients commands plan journal entry runs serial rename = mark alone done told clients commands plan journal entry runs serial rename
+pub renames_marked : ExclusiveIsAlone → DefinitionsAreDone → WaitsAreTold → TurnLaws → RenamesComeAtTheMark
+renames_marked alone done told laws plan journal entry runs serial rename = mark alone done told laws plan journal entry runs serial rename
 
 -- *Renames find the altered table*
 pub renames_altered : MigratablePlansAreRunnable → FollowersAlter → RenamesComeAtTheMark → RenamesFindTheAltered

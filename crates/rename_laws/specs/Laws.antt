@@ -2,7 +2,8 @@
 use Rattle.std.specs.Prelude.{◌≡◌, true, false, List, [], ◌∷◌, ◌++◌}
 use Rattle.std.specs.List.{list_any}
 use Rattle.plain_server.specs.Along.{Along}
-use Rattle.plain_server.specs.Entries.{is_client, is_command}
+use Rattle.script_text.specs.declared.actor.Actor.TheVariants.{Apply, Copy, Op}
+use Rattle.plain_server.specs.Entries.{is_client}
 use Rattle.plain_server.specs.declared.entry.Entry.{Entry}
 use Rattle.plan_words.specs.Migratable.{IsMigratable}
 use Rattle.plan_words.specs.PlanData.{PlanData}
@@ -18,19 +19,26 @@ use Rattle.machine_laws.specs.Runnable.{IsRunnable}
 use Rattle.runnable_laws.specs.Laws.{IsWorded}
 use Rattle.sentry_laws.specs.Turning.{IsTurned}
 use Rattle.unaltered_laws.specs.Laws.{IsUnaltered}
+use Rattle.inspector_turns.specs.Laws.{IsUnhinted}
 use Rattle.follow_turns.specs.Laws.{IsMark}
 
 -- *Clients' turns are turned*: a client's turn leaves the cut-over what the sentry relation asks.
 abbrev pub ClientsAreTurned : Type 0
 ClientsAreTurned = (plan : PlanData) (journal : List Entry) (entry : Entry) → is_client entry.actor ≡ true → IsRunnable plan → IsSerialPlan plan → IsKept plan (journal ++ entry ∷ []) → IsUnaltered plan (journal ++ entry ∷ []) → IsTurned plan journal entry
 
--- *Commands are turned*: so does a command of the operator's.
-abbrev pub CommandsAreTurned : Type 0
-CommandsAreTurned = (plan : PlanData) (journal : List Entry) (entry : Entry) → is_command entry.asked ≡ true → IsKept plan (journal ++ entry ∷ []) → IsTurned plan journal entry
+-- *Operators' turns are turned*: so does each of the operator's, a command.
+abbrev pub OperatorsAreTurned : Type 0
+OperatorsAreTurned = (plan : PlanData) (journal : List Entry) (entry : Entry) → entry.actor ≡ Op → IsRunnable plan → IsSerialPlan plan → IsKept plan (journal ++ entry ∷ []) → IsUnaltered plan (journal ++ entry ∷ []) → IsTurned plan journal entry
 
--- *Sentried*: so does each turn of the tool's
+-- so does a turn of the copier's and of the applier's, and no hint row of an attempt is in the log before its own
+pub record IsSentriedTurn (plan : PlanData) (before : List Entry) (entry : Entry) : Type 0 where
+  pub copier : entry.actor ≡ Copy → IsTurned plan before entry
+  pub applier : entry.actor ≡ Apply → IsTurned plan before entry
+  pub unhinted : IsUnhinted plan before
+
+-- *Sentried*: so is each turn
 abbrev pub IsSentried : PlanData → List Entry → Type 0
-IsSentried plan journal = Along (λ before one. is_client one.actor ≡ false → is_command one.asked ≡ false → IsTurned plan before one) [] journal
+IsSentried plan journal = Along (IsSentriedTurn plan) [] journal
 
 -- *A rename*: the turn behind a journal that is kept, sentried and unaltered, and in which nothing is reverted, does the RENAME of
 -- the migrated table

@@ -1,8 +1,10 @@
 //! The laws: each function's contract is one.
 
-ghost use Rattle.rename_laws.specs.Laws.{ClientsAreTurned, CommandsAreTurned, RenamesAreSerial, RenamesComeAtTheMark, RenamesFindTheAltered};
+ghost use Rattle.rename_laws.specs.Laws.{ClientsAreTurned, OperatorsAreTurned, RenamesAreSerial, RenamesComeAtTheMark, RenamesFindTheAltered};
 
 use follow_laws::laws::followers_alter;
+use inspector_turns::laws::inspectors_are_turned;
+use locker_turns::laws::{lockers_are_turned, renamers_are_turned};
 use marked_laws::laws::marked_journals_are_serial;
 use runnable_laws::laws::migratable_plans_are_runnable;
 use server_laws::laws::{definitions_are_done, entries_are_turns, exclusive_is_alone};
@@ -15,17 +17,22 @@ pub fn clients_are_turned()
     entries_are_turns();
 }
 
-/// So is a command of the operator's.
-pub fn commands_are_turned()
-    ensures { CommandsAreTurned }
-{}
+/// So is a turn of the operator's, a command.
+pub fn operators_are_turned()
+    ensures { OperatorsAreTurned }
+{
+    entries_are_turns();
+}
 
 /// The RENAME comes at the mark.
 pub fn renames_come_at_the_mark()
     ensures { RenamesComeAtTheMark }
 {
     clients_are_turned();
-    commands_are_turned();
+    operators_are_turned();
+    lockers_are_turned();
+    renamers_are_turned();
+    inspectors_are_turned();
     exclusive_is_alone();
     definitions_are_done();
     waits_are_told();

@@ -1,0 +1,4 @@
+pub mod Fitting
+pub mod Keeping
+pub mod Hints
+pub mod Inspectors
