@@ -2,4 +2,4 @@ mod Ends
 mod Going
 mod Idle
 mod Orders
-mod Ready
+pub mod Ready

@@ -1,0 +1,4 @@
+//! What an attempt's requests are answered, and what they leave of the tables: each function's contract is a law.
+#![tactic(auto)]
+
+pub mod laws;
