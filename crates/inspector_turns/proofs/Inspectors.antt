@@ -1,5 +1,5 @@
 -- A turn of the inspector's is such a turn as the sentry relation asks.
-use Rattle.std.proofs.Common.{◌≡◌, ◌≢◌, ◌+◌, ℕ, Bool, true, false, not, cond, List, [], ◌∷◌, ◌++◌, Option, Some, None, refl, sym, ap, ◌∙◌, subst}
+use Rattle.std.proofs.Common.{◌≡◌, ◌≢◌, ◌<◌, ◌+◌, ℕ, Bool, true, false, not, cond, List, [], ◌∷◌, ◌++◌, take, Option, Some, None, refl, sym, ap, ◌∙◌, subst, arith}
 use Rattle.std.proofs.lemmas.Bool.{true≢false}
 use Rattle.row_store.specs.Databases.{has_table}
 use Rattle.event_codec.specs.declared.event.RowEvent.{RowEvent}
@@ -25,6 +25,7 @@ use Rattle.cutover_core.specs.declared.cutover.Clearing.TheVariants.{Drops, Look
 use Rattle.cutover_core.specs.declared.cutover.CutOver.{CutOver}
 use Rattle.cutover_core.specs.declared.cutover.Hold.{Hold}
 use Rattle.cutover_core.specs.declared.cutover.Hold.TheVariants.{Locks, Nothing, WaitsToGuard, WaitsToLock}
+use Rattle.changelog_table.specs.Hints.{last_hint}
 use Rattle.cutover_core.specs.declared.cutover.Phase.{Phase}
 use Rattle.cutover_core.specs.declared.cutover.Phase.TheVariants.{Attempting, Ending, Finished, Finishing, Resting}
 use Rattle.cutover_core.specs.declared.cutover.Stage.TheVariants.{Hinting, Showing}
@@ -50,12 +51,13 @@ use Rattle.sentry_laws.specs.Turning.{Apart, AskedTurn, CourseTurn, InspectorSay
 use Rattle.sentry_laws.proofs.Serving.{others_turn, waits_on}
 use Rattle.unaltered_laws.specs.Laws.{IsUnaltered}
 use Rattle.unaltered_laws.proofs.Away.{unaltered_front}
+use Rattle.hint_laws.specs.Laws.{HintsAreKnown, IsBegun, is_unhinted}
 use Rattle.follow_turns.proofs.Asked.{about_called, gave}
 use Rattle.follow_turns.proofs.Follows.{kept_front, kept_run}
 use Rattle.hold_laws.proofs.Holds.{work_stands}
 use Rattle.hold_laws.proofs.Seats.{kept_differs}
 use Rattle.locker_turns.proofs.Entries as entries
-use Rattle.inspector_turns.specs.Laws.{InspectorsAreTurned, IsUnhinted}
+use Rattle.inspector_turns.specs.Laws.{InspectorsAreTurned}
 use Rattle.inspector_turns.proofs.Fitting.{AsksAt, WaitsAt, waits_asks}
 use Rattle.inspector_turns.proofs.Hints.{Hinted, IsBare, hinted}
 use Rattle.inspector_turns.proofs.Keeping.{CourseFits, WorkFits, all_fit, insp_asks}
@@ -127,6 +129,18 @@ lost_writes t attempt Resting before after = tt
 lost_writes t attempt (Ending clearing) before after = tt
 lost_writes t attempt (Finishing clearing) before after = tt
 lost_writes t attempt Finished before after = tt
+
+-- where the hint row of an attempt comes next, none of that attempt is in the log yet
+abbrev IsUnhinted : PlanData → List Entry → Type 0
+IsUnhinted plan journal =
+    (work : Work) → (moment plan journal).tool.course ≡ Migrating work → work.cutover.phase ≡ Attempting Hinting → (count : ℕ) → last_hint plan.table 0 (take count (state_at plan journal).log) ≢ work.cutover.attempts
+
+none_hinted : HintsAreKnown → (plan : PlanData) (journal : List Entry) → IsRunnable plan → IsSerialPlan plan → IsKept plan journal → IsUnaltered plan journal → IsUnhinted plan journal
+none_hinted hints_are_known plan journal runs serial kept off work course hints count =
+    apart (last_hint plan.table 0 (take count (state_at plan journal).log)) work.cutover.attempts
+    (subst (λ (phase : Phase). IsBegun (is_unhinted phase) work.cutover.attempts (last_hint plan.table 0 (take count (state_at plan journal).log))) hints ((hints_are_known plan journal work runs serial kept off course).begun count)) where
+      apart : (hint attempts : ℕ) → hint < attempts → hint ≢ attempts
+      apart hint attempts less same = omega arith
 
 module _ (entries_are_turns : EntriesAreTurns) (plan : PlanData) (journal : List Entry) (entry : Entry) (inspects : entry.actor ≡ Insp) (runs : IsRunnable plan) (serial : IsSerialPlan plan) (kept : IsKept plan (journal ++ entry ∷ [])) (off : IsUnaltered plan (journal ++ entry ∷ [])) (unhinted : IsUnhinted plan journal) where
   abbrev before : State
@@ -353,5 +367,6 @@ module _ (entries_are_turns : EntriesAreTurns) (plan : PlanData) (journal : List
         (subst (λ (s : State). AskedTurn plan before s locker renamer work ((moment plan journal).tool.turns + 1) entry entry.asked) (sym then_together.server) (asked_turn work course ((moment plan journal).tool.turns + 1) entry.asked refl run.followed.given))
 
 -- *Inspectors are turned*
-pub inspectors_turned : EntriesAreTurns → InspectorsAreTurned
-inspectors_turned entries_are_turns plan journal entry inspects runs serial kept off unhinted = turned entries_are_turns plan journal entry inspects runs serial kept off unhinted
+pub inspectors_turned : EntriesAreTurns → HintsAreKnown → InspectorsAreTurned
+inspectors_turned entries_are_turns hints_are_known plan journal entry inspects runs serial kept off =
+    turned entries_are_turns plan journal entry inspects runs serial kept off (none_hinted hints_are_known plan journal runs serial (kept_front plan journal (entry ∷ []) kept) (unaltered_front plan journal (entry ∷ []) off))

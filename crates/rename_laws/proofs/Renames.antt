@@ -65,7 +65,8 @@ use Rattle.marked_laws.specs.Laws.{MarkedJournalsAreSerial}
 use Rattle.waits_laws.specs.Laws.{WaitsAreTold}
 use Rattle.locker_turns.specs.Laws.{LockersAreTurned, RenamersAreTurned}
 use Rattle.inspector_turns.specs.Laws.{InspectorsAreTurned}
-use Rattle.rename_laws.specs.Laws.{ClientsAreTurned, IsRename, IsSentriedTurn, OperatorsAreTurned, RenamesAreSerial, RenamesComeAtTheMark, RenamesFindTheAltered}
+use Rattle.batch_turns.specs.Laws.{AppliersAreTurned, CopiersAreTurned}
+use Rattle.rename_laws.specs.Laws.{ClientsAreTurned, IsRename, JournalsAreTurned, OperatorsAreTurned, RenamesAreSerial, RenamesComeAtTheMark, RenamesFindTheAltered}
 
 -- an applier that may read next is reading
 reads : (step : ApplyStep) → appliers.is_reading step ≡ true → step ≡ Reading
@@ -87,33 +88,39 @@ pub record TurnLaws : Type 0 where
   pub lockers : LockersAreTurned
   pub renamers : RenamersAreTurned
   pub inspectors : InspectorsAreTurned
+  pub copiers : CopiersAreTurned
+  pub appliers : AppliersAreTurned
 
-one_turned : TurnLaws → (plan : PlanData) (journal : List Entry) (entry : Entry) → IsRunnable plan → IsSerialPlan plan → IsKept plan (journal ++ entry ∷ []) → IsUnaltered plan (journal ++ entry ∷ []) → IsGuarded plan journal → IsSentriedTurn plan journal entry → IsTurned plan journal entry
-one_turned laws plan journal entry runs serial kept off guarded sentried = by entry.actor refl where
+one_turned : TurnLaws → (plan : PlanData) (journal : List Entry) (entry : Entry) → IsRunnable plan → IsSerialPlan plan → IsKept plan (journal ++ entry ∷ []) → IsUnaltered plan (journal ++ entry ∷ []) → IsGuarded plan journal → IsTurned plan journal entry
+one_turned laws plan journal entry runs serial kept off guarded = by entry.actor refl where
   by : (actor : Actor) → entry.actor ≡ actor → IsTurned plan journal entry
   by (Client number) same = laws.clients plan journal entry (ap is_client same) runs serial kept off
   by Op same = laws.operators plan journal entry same runs serial kept off
   by Lock same = laws.lockers plan journal entry same runs serial kept off
   by Ren same = laws.renamers plan journal entry same runs serial kept off guarded
-  by Insp same = laws.inspectors plan journal entry same runs serial kept off sentried.unhinted
-  by Copy same = sentried.copier same
-  by Apply same = sentried.applier same
+  by Insp same = laws.inspectors plan journal entry same runs serial kept off
+  by Copy same = laws.copiers plan journal entry same runs serial kept off
+  by Apply same = laws.appliers plan journal entry same runs serial kept off
 
-all_turned : TurnLaws → (plan : PlanData) → IsRunnable plan → IsSerialPlan plan → (some journal : List Entry) → Along (IsTurned plan) [] some → IsKept plan (some ++ journal) → IsUnaltered plan (some ++ journal) → Along (IsSentriedTurn plan) some journal → Along (IsTurned plan) [] (some ++ journal)
-all_turned laws plan runs serial some [] turned kept off sentried = subst (Along (IsTurned plan) []) (sym (append-nil some)) turned
-all_turned laws plan runs serial some (entry ∷ journal) turned kept off sentried =
+all_turned : TurnLaws → (plan : PlanData) → IsRunnable plan → IsSerialPlan plan → (some journal : List Entry) → Along (IsTurned plan) [] some → IsKept plan (some ++ journal) → IsUnaltered plan (some ++ journal) → Along (IsTurned plan) [] (some ++ journal)
+all_turned laws plan runs serial some [] turned kept off = subst (Along (IsTurned plan) []) (sym (append-nil some)) turned
+all_turned laws plan runs serial some (entry ∷ journal) turned kept off =
     let same : (some ++ entry ∷ []) ++ journal ≡ some ++ entry ∷ journal = append_assoc some (entry ∷ []) journal in
     let later : IsKept plan ((some ++ entry ∷ []) ++ journal) = subst (IsKept plan) (sym same) kept in
     let later_off : IsUnaltered plan ((some ++ entry ∷ []) ++ journal) = subst (IsUnaltered plan) (sym same) off in
-    let one : IsTurned plan some entry = one_turned laws plan some entry runs serial (kept_front plan (some ++ entry ∷ []) journal later) (unaltered_front plan (some ++ entry ∷ []) journal later_off) (all_guarded plan some turned) sentried.0 in
-    subst (Along (IsTurned plan) []) same (all_turned laws plan runs serial (some ++ entry ∷ []) journal (Along-more (IsTurned plan) [] some entry turned one) later later_off sentried.1)
+    let one : IsTurned plan some entry = one_turned laws plan some entry runs serial (kept_front plan (some ++ entry ∷ []) journal later) (unaltered_front plan (some ++ entry ∷ []) journal later_off) (all_guarded plan some turned) in
+    subst (Along (IsTurned plan) []) same (all_turned laws plan runs serial (some ++ entry ∷ []) journal (Along-more (IsTurned plan) [] some entry turned one) later later_off)
+
+-- *Journals are turned*
+pub journals_turned : TurnLaws → JournalsAreTurned
+journals_turned laws plan journal runs serial kept off = all_turned laws plan runs serial [] journal tt kept off
 
 -- what the sentry relation asks of each turn
 all_three : (plan : PlanData) (some journal : List Entry) → Along (IsTurned plan) some journal → Along (IsFollowed plan) some journal → Along (WaitsSay plan) some journal → Along (λ before one. IsTurned plan before one × IsFollowed plan before one × WaitsSay plan before one) some journal
 all_three plan some [] turned followed said = tt
 all_three plan some (entry ∷ journal) turned followed said = ((turned.0, followed.0, said.0), all_three plan (some ++ entry ∷ []) journal turned.1 followed.1 said.1)
 
-module _ (exclusive_is_alone : ExclusiveIsAlone) (definitions_are_done : DefinitionsAreDone) (waits_are_told : WaitsAreTold) (laws : TurnLaws) (plan : PlanData) (journal : List Entry) (entry : Entry) (runs : IsRunnable plan) (serial : IsSerialPlan plan) (rename : IsRename plan journal entry) where
+module _ (exclusive_is_alone : ExclusiveIsAlone) (definitions_are_done : DefinitionsAreDone) (waits_are_told : WaitsAreTold) (journals_are_turned : JournalsAreTurned) (plan : PlanData) (journal : List Entry) (entry : Entry) (runs : IsRunnable plan) (serial : IsSerialPlan plan) (rename : IsRename plan journal entry) where
   abbrev now : State
   now = state_at plan journal
 
@@ -275,7 +282,7 @@ module _ (exclusive_is_alone : ExclusiveIsAlone) (definitions_are_done : Definit
   unfolding Follows
   whole =
       renames_follow plan journal entry working.work
-      (all_three plan [] journal (all_turned laws plan runs serial [] journal tt before rename.unaltered rename.sentried) before.follows (waits_are_told plan journal before.faithful before.follows)) run.followed exchanges.0 uncut
+      (all_three plan [] journal (journals_are_turned plan journal runs serial before rename.unaltered) before.follows (waits_are_told plan journal before.faithful before.follows)) run.followed exchanges.0 uncut
       working.course (subst (λ (s : State). IsRenamed plan s entry.session) (sym together.server) renamed)
 
   mark : IsMark plan journal
@@ -290,8 +297,8 @@ module _ (exclusive_is_alone : ExclusiveIsAlone) (definitions_are_done : Definit
   }
 
 -- *Renames come at the mark*
-pub renames_marked : ExclusiveIsAlone → DefinitionsAreDone → WaitsAreTold → TurnLaws → RenamesComeAtTheMark
-renames_marked alone done told laws plan journal entry runs serial rename = mark alone done told laws plan journal entry runs serial rename
+pub renames_marked : ExclusiveIsAlone → DefinitionsAreDone → WaitsAreTold → JournalsAreTurned → RenamesComeAtTheMark
+renames_marked alone done told turned plan journal entry runs serial rename = mark alone done told turned plan journal entry runs serial rename
 
 -- *Renames find the altered table*
 pub renames_altered : MigratablePlansAreRunnable → FollowersAlter → RenamesComeAtTheMark → RenamesFindTheAltered

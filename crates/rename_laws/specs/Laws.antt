@@ -2,7 +2,7 @@
 use Rattle.std.specs.Prelude.{◌≡◌, true, false, List, [], ◌∷◌, ◌++◌}
 use Rattle.std.specs.List.{list_any}
 use Rattle.plain_server.specs.Along.{Along}
-use Rattle.script_text.specs.declared.actor.Actor.TheVariants.{Apply, Copy, Op}
+use Rattle.script_text.specs.declared.actor.Actor.TheVariants.{Op}
 use Rattle.plain_server.specs.Entries.{is_client}
 use Rattle.plain_server.specs.declared.entry.Entry.{Entry}
 use Rattle.plan_words.specs.Migratable.{IsMigratable}
@@ -19,7 +19,6 @@ use Rattle.machine_laws.specs.Runnable.{IsRunnable}
 use Rattle.runnable_laws.specs.Laws.{IsWorded}
 use Rattle.sentry_laws.specs.Turning.{IsTurned}
 use Rattle.unaltered_laws.specs.Laws.{IsUnaltered}
-use Rattle.inspector_turns.specs.Laws.{IsUnhinted}
 use Rattle.follow_turns.specs.Laws.{IsMark}
 
 -- *Clients' turns are turned*: a client's turn leaves the cut-over what the sentry relation asks.
@@ -30,21 +29,14 @@ ClientsAreTurned = (plan : PlanData) (journal : List Entry) (entry : Entry) → 
 abbrev pub OperatorsAreTurned : Type 0
 OperatorsAreTurned = (plan : PlanData) (journal : List Entry) (entry : Entry) → entry.actor ≡ Op → IsRunnable plan → IsSerialPlan plan → IsKept plan (journal ++ entry ∷ []) → IsUnaltered plan (journal ++ entry ∷ []) → IsTurned plan journal entry
 
--- so does a turn of the copier's and of the applier's, and no hint row of an attempt is in the log before its own
-pub record IsSentriedTurn (plan : PlanData) (before : List Entry) (entry : Entry) : Type 0 where
-  pub copier : entry.actor ≡ Copy → IsTurned plan before entry
-  pub applier : entry.actor ≡ Apply → IsTurned plan before entry
-  pub unhinted : IsUnhinted plan before
+-- *Journals are turned*: so is each turn of a journal that is kept, until the RENAME is done.
+abbrev pub JournalsAreTurned : Type 0
+JournalsAreTurned = (plan : PlanData) (journal : List Entry) → IsRunnable plan → IsSerialPlan plan → IsKept plan journal → IsUnaltered plan journal → Along (IsTurned plan) [] journal
 
--- *Sentried*: so is each turn
-abbrev pub IsSentried : PlanData → List Entry → Type 0
-IsSentried plan journal = Along (IsSentriedTurn plan) [] journal
-
--- *A rename*: the turn behind a journal that is kept, sentried and unaltered, and in which nothing is reverted, does the RENAME of
--- the migrated table
+-- *A rename*: the turn behind a journal that is kept and unaltered, and in which nothing is reverted, does the RENAME of the migrated
+-- table
 pub record IsRename (plan : PlanData) (journal : List Entry) (entry : Entry) : Type 0 where
   pub kept : IsKept plan (journal ++ entry ∷ [])
-  pub sentried : IsSentried plan journal
   pub unaltered : IsUnaltered plan journal
   pub going : is_reverting (moment plan journal).tool.reason ≡ false
   pub alters : list_any is_alter (entry_adds plan journal entry) ≡ true

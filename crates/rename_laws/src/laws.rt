@@ -1,7 +1,8 @@
 //! The laws: each function's contract is one.
 
-ghost use Rattle.rename_laws.specs.Laws.{ClientsAreTurned, OperatorsAreTurned, RenamesAreSerial, RenamesComeAtTheMark, RenamesFindTheAltered};
+ghost use Rattle.rename_laws.specs.Laws.{ClientsAreTurned, JournalsAreTurned, OperatorsAreTurned, RenamesAreSerial, RenamesComeAtTheMark, RenamesFindTheAltered};
 
+use batch_turns::laws::{appliers_are_turned, copiers_are_turned};
 use follow_laws::laws::followers_alter;
 use inspector_turns::laws::inspectors_are_turned;
 use locker_turns::laws::{lockers_are_turned, renamers_are_turned};
@@ -24,15 +25,24 @@ pub fn operators_are_turned()
     entries_are_turns();
 }
 
-/// The RENAME comes at the mark.
-pub fn renames_come_at_the_mark()
-    ensures { RenamesComeAtTheMark }
+/// So is every turn, until the RENAME is done.
+pub fn journals_are_turned()
+    ensures { JournalsAreTurned }
 {
     clients_are_turned();
     operators_are_turned();
     lockers_are_turned();
     renamers_are_turned();
     inspectors_are_turned();
+    copiers_are_turned();
+    appliers_are_turned();
+}
+
+/// The RENAME comes at the mark.
+pub fn renames_come_at_the_mark()
+    ensures { RenamesComeAtTheMark }
+{
+    journals_are_turned();
     exclusive_is_alone();
     definitions_are_done();
     waits_are_told();

@@ -1,0 +1,3 @@
+pub mod Past
+pub mod Once
+pub mod Whole
