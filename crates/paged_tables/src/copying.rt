@@ -1,21 +1,26 @@
 //! Tables copied, and made of plain lists.
 
-ghost use Rattle.std.specs.Prelude.{◌≡◌, ◌<◌, length, slice_get, Some, IfOk};
+ghost use Rattle.std.specs.Prelude.{◌≡◌, IfOk};
 ghost use Rattle.row_store.specs.Databases.{database};
-ghost use Rattle.paged_tables.specs.PagedDatabases.{stored};
+ghost use Rattle.paged_tables.specs.PagedDatabases.{stored, AreNamed};
 
+use crate::adding::add_new;
 use gho_values::Duplicate;
+use name_map::NameMap;
 use row_pages::Table;
 use row_store::{Table as PlainTable, Tables as PlainTables};
 use std::alloc::{AllocError, Global};
 
 /// Copies of tables.
-pub fn copy_of(alloc: Global, tables: &[Table]) -> Result<Vec<Table>, AllocError>
-    ensures { IfOk result (λ copy. database (stored copy.items) ≡ database (stored tables.now)) }
+pub fn copy_of(alloc: Global, tables: &NameMap<Table>) -> Result<NameMap<Table>, AllocError>
+    requires { AreNamed tables.now }
+    ensures tables { IfOk result (λ copy. database (stored copy.values) ≡ database (stored tables.now.values)) }
+    ensures named { IfOk result AreNamed }
 {
-    let mut copy = Vec::with_capacity(alloc, tables.len())?;
-    for table in tables {
-        copy.push(table.copy_table(alloc)?)?;
+    let mut copy = NameMap::new(alloc);
+    for place in 0..tables.len() {
+        let table = tables.at(place);
+        add_new(&mut copy, table.copy_table(alloc)?)?;
     }
     Ok(copy)
 }
@@ -29,12 +34,13 @@ fn paged_table(alloc: Global, table: &PlainTable) -> Result<Table, AllocError>
 }
 
 /// The tables with their rows in pages.
-pub fn paged_tables(alloc: Global, tables: &PlainTables) -> Result<Vec<Table>, AllocError>
-    ensures { IfOk result (λ paged. database (stored paged.items) ≡ database tables.now) }
+pub fn paged_tables(alloc: Global, tables: &PlainTables) -> Result<NameMap<Table>, AllocError>
+    ensures tables { IfOk result (λ paged. database (stored paged.values) ≡ database tables.now) }
+    ensures named { IfOk result AreNamed }
 {
-    let mut paged = Vec::with_capacity(alloc, tables.len())?;
+    let mut paged = NameMap::new(alloc);
     for place in 0..tables.len() {
-        paged.push(paged_table(alloc, tables.at(place))?)?;
+        add_new(&mut paged, paged_table(alloc, tables.at(place))?)?;
     }
     Ok(paged)
 }

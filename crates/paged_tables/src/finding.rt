@@ -1,40 +1,39 @@
 //! Tables found by their names.
 
-ghost use Rattle.std.specs.Prelude.{◌≡◌, not, option_map, option_copied, find};
+ghost use Rattle.std.specs.Prelude.{◌≡◌, not, option_copied, find};
 ghost use Rattle.std.specs.List.{prefix_len};
 ghost use Rattle.row_store.specs.Databases.{database, has_table, is_named};
-ghost use Rattle.paged_tables.specs.PagedDatabases.{stored};
+ghost use Rattle.paged_tables.specs.PagedDatabases.{stored, AreNamed};
 
 use gho_values::Name;
+use name_map::NameMap;
 use row_pages::Table;
 
-/// Whether the table has this name.
-fn is_named(name: &Name, table: &Table) -> bool
-    ensures { result ≡ is_named name.now table.now.table }
-{
-    table.schema().name == *name
-}
-
 /// How many tables stand before the one of this name.
-pub fn place_of(name: &Name, tables: &[Table]) -> usize
-    ensures { result ≡ prefix_len (λ paged. not (is_named name.now paged.table)) tables.now }
+pub fn place_of(name: &Name, tables: &NameMap<Table>) -> usize
+    requires { AreNamed tables.now }
+    ensures { result ≡ prefix_len (λ paged. not (is_named name.now paged.table)) tables.now.values }
 {
-    tables
-        .iter()
-        .take_while(|table| !is_named(name, table))
-        .count()
+    tables.place_of(name.as_str())
 }
 
 /// The table of this name.
-pub fn named<'a>(name: &Name, tables: &'a [Table]) -> Option<&'a Table>
-    ensures { option_copied result ≡ find (λ paged. is_named name.now paged.table) tables.now }
+pub fn named<'a>(name: &Name, tables: &'a NameMap<Table>) -> Option<&'a Table>
+    requires { AreNamed tables.now }
+    ensures { option_copied result ≡ find (λ paged. is_named name.now paged.table) tables.now.values }
 {
-    tables.iter().find(|table| is_named(name, table))
+    let place = place_of(name, tables);
+    if place < tables.len() {
+        Some(tables.at(place))
+    } else {
+        None
+    }
 }
 
 /// Whether a table has this name.
-pub fn has_name(name: &Name, tables: &[Table]) -> bool
-    ensures { result ≡ has_table name.now (database (stored tables.now)) }
+pub fn has_name(name: &Name, tables: &NameMap<Table>) -> bool
+    requires { AreNamed tables.now }
+    ensures { result ≡ has_table name.now (database (stored tables.now.values)) }
 {
     named(name, tables).is_some()
 }

@@ -1,6 +1,7 @@
 //! The database of the program: tables in pages, kept by name, by the contracts of `row_store`'s plain list.
 #![tactic(auto)]
 
+mod adding;
 mod copying;
 mod finding;
 mod renaming;

@@ -5,31 +5,33 @@ ghost use Rattle.row_store.specs.Databases.{database, find_table, has_table, fin
 ghost use Rattle.row_store.specs.declared.tables.AddFault.{AddFault};
 ghost use Rattle.paged_tables.specs.PagedDatabases.{stored_of};
 
+use crate::adding::add_new;
 use crate::copying::{copy_of, paged_tables};
 use crate::finding::{has_name, named, place_of};
 use crate::renaming::rename_from;
 use gho_values::{Key, Name, Row};
+use name_map::NameMap;
 use row_pages::Table;
 use row_store::{AddFault, Pairs, RenameFault, Tables as PlainTables};
 use std::alloc::{AllocError, Global};
 use std::marker::Model;
 
-/// Tables of different names, in order of adding. Contracts see them as those of `row_store`'s plain list.
+/// Tables kept by name, in order of adding. Contracts see them as those of `row_store`'s plain list.
 #[derive(Debug, Drop)]
 pub struct Tables {
-    tables: Vec<Table>,
+    tables: NameMap<Table>,
 }
 
 impl Model for Tables {
     ghost use Rattle.std.specs.Prelude.{List};
-    ghost use Rattle.row_store.specs.Databases.{StoredTable, NamesDiffer, database};
-    ghost use Rattle.paged_tables.specs.PagedDatabases.{stored};
+    ghost use Rattle.row_store.specs.Databases.{StoredTable};
+    ghost use Rattle.paged_tables.specs.PagedDatabases.{stored, AreNamed};
 
     ghost Value = { List StoredTable };
 
-    ghost view = { λ t. stored t.tables.items };
+    ghost view = { λ t. stored t.tables.values };
 
-    ghost invariant = { λ t. NamesDiffer (database (stored t.tables.items)) };
+    ghost invariant = { λ t. AreNamed t.tables };
 }
 
 impl Tables {
@@ -38,7 +40,7 @@ impl Tables {
         ensures { result ≡ [] }
     {
         Tables {
-            tables: Vec::new(alloc),
+            tables: NameMap::new(alloc),
         }
     }
 
@@ -65,7 +67,7 @@ impl Tables {
     pub fn is_empty(&self) -> bool
         ensures { result ≡ (length self.now == 0) }
     {
-        self.tables.is_empty()
+        self.tables.len() == 0
     }
 
     /// The n-th table, counted from 0.
@@ -73,7 +75,7 @@ impl Tables {
         requires { n < length self.now }
         ensures { slice_get self.now n ≡ Some (stored_of result.now) }
     {
-        &self.tables[n]
+        self.tables.at(n)
     }
 
     /// The table of this name.
@@ -81,14 +83,14 @@ impl Tables {
         ensures stored { option_map (λ table. stored_of table.now) result ≡ find_stored name.now self.now }
         ensures table { option_map (λ table. table.now.table) result ≡ find_table name.now (database self.now) }
     {
-        named(name, self.tables.as_slice())
+        named(name, &self.tables)
     }
 
     /// Whether a table has this name.
     pub fn stands(&self, name: &Name) -> bool
         ensures { result ≡ has_table name.now (database self.now) }
     {
-        has_name(name, self.tables.as_slice())
+        has_name(name, &self.tables)
     }
 
     /// A copy of the tables, with what room they may have.
@@ -96,7 +98,7 @@ impl Tables {
         ensures { IfOk result (λ copy. database copy ≡ database self.now) }
     {
         Ok(Tables {
-            tables: copy_of(alloc, self.tables.as_slice())?,
+            tables: copy_of(alloc, &self.tables)?,
         })
     }
 
@@ -110,7 +112,7 @@ impl Tables {
         if self.stands(&table.schema().name) {
             return Err(AddFault::Stands);
         }
-        self.tables.push(table)?;
+        add_new(&mut self.tables, table)?;
         Ok(())
     }
 
@@ -119,9 +121,9 @@ impl Tables {
         ensures table { option_map stored_of result ≡ find_stored name.now self.old }
         ensures others { self.new ≡ others name.now self.old }
     {
-        let place = place_of(name, self.tables.as_slice());
+        let place = place_of(name, &self.tables);
         if place < self.tables.len() {
-            Some(self.tables.remove(place))
+            Some(self.tables.take(place))
         } else {
             None
         }
@@ -135,8 +137,8 @@ impl Tables {
         ensures spare { spare_in name.now self.old ≤ spare_in name.now self.new }
         ensures others { others name.now self.new ≡ others name.now self.old }
     {
-        let place = place_of(name, self.tables.as_slice());
-        let table = &mut self.tables[place];
+        let place = place_of(name, &self.tables);
+        let table = self.tables.at_mut(place);
         table.reserve(n)
     }
 
@@ -148,8 +150,8 @@ impl Tables {
         ensures spare { spare_in name.now self.new + 1 ≡ spare_in name.now self.old }
         ensures others { others name.now self.new ≡ others name.now self.old }
     {
-        let place = place_of(name, self.tables.as_slice());
-        let table = &mut self.tables[place];
+        let place = place_of(name, &self.tables);
+        let table = self.tables.at_mut(place);
         table.put(row);
     }
 
@@ -161,8 +163,8 @@ impl Tables {
         ensures spare { spare_in name.now self.old ≤ spare_in name.now self.new }
         ensures others { others name.now self.new ≡ others name.now self.old }
     {
-        let place = place_of(name, self.tables.as_slice());
-        let table = &mut self.tables[place];
+        let place = place_of(name, &self.tables);
+        let table = self.tables.at_mut(place);
         table.remove(key)
     }
 
@@ -173,6 +175,10 @@ impl Tables {
         ensures err { OnErr result (self.new ≡ self.old) }
         ensures spares { spares self.new ≡ spares self.old }
     {
+        let Some(room) = pairs.len().checked_mul(2) else {
+            return Err(RenameFault::Memory);
+        };
+        self.tables.reserve(room)?;
         rename_from(&mut self.tables, pairs.as_slice())
     }
 }

@@ -1,35 +1,34 @@
-use Rattle.std.proofs.Common.{◌∙◌, ◌<◌, ◌≤◌, ℕ, List, OnOk, length, ap, refl, subst, sym}
-use Rattle.row_pages.specs.StoredRows.{PagedTable}
+use Rattle.std.proofs.Common.{◌∙◌, ◌≤◌, ℕ, OnOk, refl, subst, sym}
 use Rattle.row_store.specs.Databases.{database}
-use Rattle.row_store.proofs.NamedTables.{before, no_op}
+use Rattle.row_store.proofs.NamedTables.{no_op}
 use Rattle.paged_tables.specs.PagedDatabases.{stored}
-use Rattle.paged_tables.proofs.Paged.{Edited, before_stored, edited, within_tables}
+use Rattle.paged_tables.proofs.Paged.{Edited, edited, within_tables}
 use Rattle.paged_tables.proofs.tables.Tables.reserve_in.Goals as goal
 
-pub index_mut-table-requires : goal.index_mut-table-requires
-index_mut-table-requires c = subst (λ (n : ℕ). c.place_of-place.result < n) (ap length (sym c.as_slice.ensures.value) ∙ c.as_slice.ensures.len) (within_tables c.args.name.now c.self.inside.tables.items c.place_of-place.result (c.place_of-place.ensures ∙ before_stored c.args.name.now c.as_slice.result.now ∙ ap (λ (ts : List PagedTable). before c.args.name.now (stored ts)) c.as_slice.ensures.value) (rw (← c.self.view_is) at c.requires))
+pub at_mut-table-requires : goal.at_mut-table-requires
+at_mut-table-requires c = within_tables c.args.name.now c.self.inside.tables.values c.place_of-place.result c.place_of-place.ensures (rw (← c.self.view_is) at c.requires)
 
 pub invariant_of-self : goal.invariant_of-self
 invariant_of-self c =
-    let done : Edited c.args.name.now (λ t. t) c.self.inside.tables.items c.place_of-place.result c.index_mut-table.result.now c.reserve.new.self = edited c.args.name.now (λ t. t) c.self.inside.tables.items c.place_of-place.result c.index_mut-table.result.now c.reserve.new.self (λ t. refl) c.self.invariant (c.place_of-place.ensures ∙ before_stored c.args.name.now c.as_slice.result.now ∙ ap (λ (ts : List PagedTable). before c.args.name.now (stored ts)) c.as_slice.ensures.value) (rw (← c.self.view_is) at c.requires) c.index_mut-table.ensures.value c.reserve.ensures.table in
-    done.differ
+    let done : Edited c.args.name.now (λ t. t) c.self.inside.tables c.place_of-place.result c.at_mut-table.result.now c.reserve.new.self = edited c.args.name.now (λ t. t) c.self.inside.tables c.place_of-place.result c.at_mut-table.result.now c.reserve.new.self (λ t. refl) c.self.invariant c.place_of-place.ensures (rw (← c.self.view_is) at c.requires) c.at_mut-table.ensures.value c.reserve.ensures.table in
+    done.named
 
 pub returns-clause-tables : goal.returns-clause-tables
 returns-clause-tables c =
-    let done : Edited c.args.name.now (λ t. t) c.self.inside.tables.items c.place_of-place.result c.index_mut-table.result.now c.reserve.new.self = edited c.args.name.now (λ t. t) c.self.inside.tables.items c.place_of-place.result c.index_mut-table.result.now c.reserve.new.self (λ t. refl) c.self.invariant (c.place_of-place.ensures ∙ before_stored c.args.name.now c.as_slice.result.now ∙ ap (λ (ts : List PagedTable). before c.args.name.now (stored ts)) c.as_slice.ensures.value) (rw (← c.self.view_is) at c.requires) c.index_mut-table.ensures.value c.reserve.ensures.table in
-    rw (← c.self.view_is) (done.changed ∙ no_op c.args.name.now (database (stored c.self.inside.tables.items)))
+    let done : Edited c.args.name.now (λ t. t) c.self.inside.tables c.place_of-place.result c.at_mut-table.result.now c.reserve.new.self = edited c.args.name.now (λ t. t) c.self.inside.tables c.place_of-place.result c.at_mut-table.result.now c.reserve.new.self (λ t. refl) c.self.invariant c.place_of-place.ensures (rw (← c.self.view_is) at c.requires) c.at_mut-table.ensures.value c.reserve.ensures.table in
+    rw (← c.self.view_is) (done.changed ∙ no_op c.args.name.now (database (stored c.self.inside.tables.values)))
 
 pub returns-clause-ok : goal.returns-clause-ok
 returns-clause-ok c =
-    let done : Edited c.args.name.now (λ t. t) c.self.inside.tables.items c.place_of-place.result c.index_mut-table.result.now c.reserve.new.self = edited c.args.name.now (λ t. t) c.self.inside.tables.items c.place_of-place.result c.index_mut-table.result.now c.reserve.new.self (λ t. refl) c.self.invariant (c.place_of-place.ensures ∙ before_stored c.args.name.now c.as_slice.result.now ∙ ap (λ (ts : List PagedTable). before c.args.name.now (stored ts)) c.as_slice.ensures.value) (rw (← c.self.view_is) at c.requires) c.index_mut-table.ensures.value c.reserve.ensures.table in
+    let done : Edited c.args.name.now (λ t. t) c.self.inside.tables c.place_of-place.result c.at_mut-table.result.now c.reserve.new.self = edited c.args.name.now (λ t. t) c.self.inside.tables c.place_of-place.result c.at_mut-table.result.now c.reserve.new.self (λ t. refl) c.self.invariant c.place_of-place.ensures (rw (← c.self.view_is) at c.requires) c.at_mut-table.ensures.value c.reserve.ensures.table in
     subst (λ (k : ℕ). OnOk c.reserve.result (c.args.n ≤ k)) (sym done.spare) c.reserve.ensures.ok
 
 pub returns-clause-spare : goal.returns-clause-spare
 returns-clause-spare c =
-    let done : Edited c.args.name.now (λ t. t) c.self.inside.tables.items c.place_of-place.result c.index_mut-table.result.now c.reserve.new.self = edited c.args.name.now (λ t. t) c.self.inside.tables.items c.place_of-place.result c.index_mut-table.result.now c.reserve.new.self (λ t. refl) c.self.invariant (c.place_of-place.ensures ∙ before_stored c.args.name.now c.as_slice.result.now ∙ ap (λ (ts : List PagedTable). before c.args.name.now (stored ts)) c.as_slice.ensures.value) (rw (← c.self.view_is) at c.requires) c.index_mut-table.ensures.value c.reserve.ensures.table in
+    let done : Edited c.args.name.now (λ t. t) c.self.inside.tables c.place_of-place.result c.at_mut-table.result.now c.reserve.new.self = edited c.args.name.now (λ t. t) c.self.inside.tables c.place_of-place.result c.at_mut-table.result.now c.reserve.new.self (λ t. refl) c.self.invariant c.place_of-place.ensures (rw (← c.self.view_is) at c.requires) c.at_mut-table.ensures.value c.reserve.ensures.table in
     rw (← c.self.view_is, done.was.spare, done.spare) c.reserve.ensures.spare
 
 pub returns-clause-others : goal.returns-clause-others
 returns-clause-others c =
-    let done : Edited c.args.name.now (λ t. t) c.self.inside.tables.items c.place_of-place.result c.index_mut-table.result.now c.reserve.new.self = edited c.args.name.now (λ t. t) c.self.inside.tables.items c.place_of-place.result c.index_mut-table.result.now c.reserve.new.self (λ t. refl) c.self.invariant (c.place_of-place.ensures ∙ before_stored c.args.name.now c.as_slice.result.now ∙ ap (λ (ts : List PagedTable). before c.args.name.now (stored ts)) c.as_slice.ensures.value) (rw (← c.self.view_is) at c.requires) c.index_mut-table.ensures.value c.reserve.ensures.table in
+    let done : Edited c.args.name.now (λ t. t) c.self.inside.tables c.place_of-place.result c.at_mut-table.result.now c.reserve.new.self = edited c.args.name.now (λ t. t) c.self.inside.tables c.place_of-place.result c.at_mut-table.result.now c.reserve.new.self (λ t. refl) c.self.invariant c.place_of-place.ensures (rw (← c.self.view_is) at c.requires) c.at_mut-table.ensures.value c.reserve.ensures.table in
     rw (← c.self.view_is) done.rest
