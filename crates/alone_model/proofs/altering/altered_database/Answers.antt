@@ -1,0 +1,9 @@
+use Rattle.std.proofs.Common.{sym, subst}
+use Rattle.row_store.specs.Databases.{TableRows}
+use Rattle.schema_rules.specs.Lawful.{IsLawful}
+use Rattle.statement_laws.specs.Databases.{WhereFound}
+use Rattle.alone_model.proofs.Lawful.{found_lawful}
+use Rattle.alone_model.proofs.altering.altered_database.Goals as goal
+
+pub altered_in-requires : goal.altered_in-requires
+altered_in-requires c = subst (WhereFound (λ (found : TableRows). IsLawful found.schema)) (sym c.find_table.ensures) (found_lawful c.table.result.now c.args.tables.now c.requires)

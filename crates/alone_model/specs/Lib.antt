@@ -1,0 +1,4 @@
+pub mod Histories
+pub mod Laws
+pub mod Told
+pub mod Updating

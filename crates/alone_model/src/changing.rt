@@ -1,0 +1,66 @@
+//! What events do to a database.
+
+ghost use Rattle.std.specs.Prelude.{◌≡◌, if◌then◌else◌, IfOk};
+ghost use Rattle.row_store.specs.Databases.{is_named, with_change};
+ghost use Rattle.plain_server.specs.Jobs.{change_table, after_events};
+
+use crate::plain::{PlainTable, PlainTables, is_named};
+use crate::rows::change_rows;
+use event_codec::{Change, RowEvent};
+use gho_values::{Duplicate, Name, Sequence};
+use std::alloc::{AllocError, Global};
+
+/// The table after a change, where it has this name.
+fn change_if_named(
+    alloc: Global,
+    name: &Name,
+    change: &Change,
+    table: &PlainTable,
+) -> Result<PlainTable, AllocError>
+    ensures { IfOk result (λ after. after ≡ (if is_named name.now table.now then change_table change.now table.now else table.now)) }
+{
+    if !is_named(name, table) {
+        return table.copy();
+    }
+    let rows = change_rows(
+        alloc,
+        table.schema.key_places(),
+        change,
+        table.rows.as_slice(),
+    )?;
+    Ok(PlainTable {
+        schema: table.schema.copy()?,
+        rows,
+    })
+}
+
+/// The tables after an event.
+fn after_event(
+    alloc: Global,
+    tables: &[PlainTable],
+    event: &RowEvent,
+) -> Result<PlainTables, AllocError>
+    ensures { IfOk result (λ after. after ≡ with_change event.now.table (change_table event.now.change) tables.now) }
+{
+    let mut after = Sequence::new(alloc);
+    for table in tables {
+        after.push(change_if_named(alloc, &event.table, &event.change, table)?)?;
+    }
+    Ok(after)
+}
+
+/// The tables after events, one by one.
+#[tactic(auto, unfolding(plain_server::specs::Jobs::after_events))]
+pub fn after_events(
+    alloc: Global,
+    tables: &PlainTables,
+    events: &[RowEvent],
+) -> Result<PlainTables, AllocError>
+    ensures { IfOk result (λ after. after ≡ after_events tables.now events.now) }
+{
+    let mut after = tables.copy()?;
+    for event in events {
+        after = after_event(alloc, after.as_slice(), event)?;
+    }
+    Ok(after)
+}

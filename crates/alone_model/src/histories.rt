@@ -1,0 +1,109 @@
+//! Histories, one thing after the other.
+
+ghost use Rattle.std.specs.Prelude.{◌≡◌, ◌∷◌, [], ◌++◌, List, IfOk};
+ghost use Rattle.std.specs.Option.{option_map};
+ghost use Rattle.plain_server.specs.Alone.{alone};
+ghost use Rattle.journal_words.specs.Serials.{altered_database};
+ghost use Rattle.std.specs.List.{AllByRecursion};
+ghost use Rattle.alter_laws.specs.Laws.{IsClause};
+ghost use Rattle.alone_model.specs.Histories.{with_replies, alone_in_order, goes_on, AreLawful, IfLawful};
+ghost use Rattle.alone_model.specs.declared.histories.Happening.{Happening};
+
+use crate::altering::altered_database;
+use crate::plain::PlainTables;
+use crate::runs::alone;
+use alter_laws::altered_schemas_are_lawful;
+use gho_values::{Duplicate, Sequence};
+use plain_server::{Replies, TxnLines};
+use plan_words::Plan;
+use std::alloc::{AllocError, Global};
+
+/// What happened to the clients' tables.
+#[derive(Debug, Drop)]
+pub enum Happening {
+    /// A transaction of these lines ended.
+    Txn(TxnLines),
+    /// The ALTER was done.
+    Alter,
+}
+
+/// What came of a history.
+#[derive(Debug, Drop)]
+pub struct InOrder {
+    /// The replies, a list a transaction.
+    pub replies: Sequence<Replies>,
+    /// The tables that are left.
+    pub tables: PlainTables,
+}
+
+/// A transaction more.
+fn with_txn(alloc: Global, so_far: InOrder, lines: &TxnLines) -> Result<InOrder, AllocError>
+    ensures replies { IfOk result (λ next. next.replies ≡ so_far.replies ++ (alone so_far.tables lines.now).replies ∷ []) }
+    ensures tables { IfOk result (λ next. next.tables ≡ (alone so_far.tables lines.now).tables) }
+{
+    let txn = alone(alloc, &so_far.tables, lines.as_slice())?;
+    let mut replies = so_far.replies;
+    replies.push(txn.replies)?;
+    Ok(InOrder {
+        replies,
+        tables: txn.tables,
+    })
+}
+
+/// The ALTER, where it can be done.
+fn with_alter(alloc: Global, plan: &Plan, so_far: InOrder) -> Result<Option<InOrder>, AllocError>
+    requires { AreLawful so_far.tables }
+    ensures { IfOk result (λ next. next ≡ option_map (λ after. record so_far { tables = after }) (altered_database plan.now so_far.tables)) }
+{
+    match altered_database(alloc, plan, so_far.tables.as_slice())? {
+        Some(tables) => Ok(Some(InOrder {
+            replies: so_far.replies,
+            tables,
+        })),
+        None => Ok(None),
+    }
+}
+
+/// One thing more.
+fn step(
+    alloc: Global,
+    plan: &Plan,
+    so_far: InOrder,
+    happening: &Happening,
+) -> Result<Option<InOrder>, AllocError>
+    requires lawful { AreLawful so_far.tables }
+    requires clauses { AllByRecursion IsClause plan.now.alter }
+    ensures goes { IfOk result (λ next. (rest : List Happening) → goes_on plan.now rest next ≡ with_replies so_far.replies (alone_in_order plan.now so_far.tables (happening.now ∷ rest))) }
+    ensures lawful { IfOk result IfLawful }
+{
+    altered_schemas_are_lawful();
+    match happening {
+        Happening::Txn(lines) => Ok(Some(with_txn(alloc, so_far, lines)?)),
+        Happening::Alter => with_alter(alloc, plan, so_far),
+    }
+}
+
+/// What happened, one thing after the other on these tables, with nobody beside it: the replies of each transaction, and the
+/// tables that are left; none where the ALTER can't be done.
+pub fn run_in_order(
+    alloc: Global,
+    plan: &Plan,
+    tables: PlainTables,
+    happenings: &[Happening],
+) -> Result<Option<InOrder>, AllocError>
+    requires lawful { AreLawful tables }
+    requires clauses { AllByRecursion IsClause plan.now.alter }
+    ensures { IfOk result (λ left. left ≡ alone_in_order plan.now tables happenings.now) }
+{
+    let mut so_far = InOrder {
+        replies: Sequence::new(alloc),
+        tables,
+    };
+    for happening in happenings {
+        so_far = match step(alloc, plan, so_far, happening)? {
+            Some(next) => next,
+            None => return Ok(None),
+        };
+    }
+    Ok(Some(so_far))
+}
