@@ -7,7 +7,7 @@ use crate::copier::{Copier, CopyRange, CopyStep};
 use crate::reading::{end_told, keys_told};
 use changelog_table::ghost_name;
 use gho_values::{Bound, Duplicate, Key, Sequence, Span};
-use plain_server::{Journal, Request};
+use plain_server::{Entry, Request};
 use std::alloc::{AllocError, Global};
 
 impl Copier {
@@ -21,7 +21,7 @@ impl Copier {
     fn low_end(
         &self,
         alloc: Global,
-        journal: &Journal,
+        journal: &[Entry],
         range: &CopyRange,
     ) -> Result<Bound, AllocError>
         ensures { IfOk result (λ low. low ≡ low_end journal.now range.now self.now.behind) }
@@ -33,7 +33,7 @@ impl Copier {
     }
 
     /// The key of the row that is copied next.
-    fn key<'a>(&self, journal: &'a Journal) -> Option<&'a Key>
+    fn key<'a>(&self, journal: &'a [Entry]) -> Option<&'a Key>
         ensures { option_map (λ key. key.now) result ≡ key_at journal.now self.now.step }
     {
         match self.step {
@@ -61,7 +61,7 @@ impl Copier {
     fn call_in(
         &self,
         alloc: Global,
-        journal: &Journal,
+        journal: &[Entry],
         range: &CopyRange,
     ) -> Result<Option<Request>, AllocError>
         ensures { IfOk result (λ request. request ≡ call_at journal.now self.now range.now self.now.step) }
@@ -89,7 +89,7 @@ impl Copier {
     /// The next call; none where the range is copied. The journal is that of the turns in which the copier was told its
     /// keys and the chunks' ends.
     #[tactic(auto, unfolding(crate::specs::Copiers::next))]
-    pub fn next(&self, alloc: Global, journal: &Journal) -> Result<Option<Request>, AllocError>
+    pub fn next(&self, alloc: Global, journal: &[Entry]) -> Result<Option<Request>, AllocError>
         ensures { IfOk result (λ request. request ≡ next journal.now self.now) }
     {
         if self.is_copied {
@@ -103,7 +103,7 @@ impl Copier {
 
     /// Whether there is a next call. It takes no memory.
     #[tactic(auto, unfolding(crate::specs::Copiers::next))]
-    pub fn has_next(&self, journal: &Journal) -> bool
+    pub fn has_next(&self, journal: &[Entry]) -> bool
         ensures { result ≡ is_some (next journal.now self.now) }
     {
         if self.is_copied || self.range.is_none() {
@@ -116,7 +116,7 @@ impl Copier {
     }
 
     /// The clustered key of the row that didn't fit, once an answer said so.
-    pub fn unfit_key(&self, alloc: Global, journal: &Journal) -> Result<Key, AllocError>
+    pub fn unfit_key(&self, alloc: Global, journal: &[Entry]) -> Result<Key, AllocError>
         ensures { IfOk result (λ key. key ≡ unfit_key journal.now self.now) }
     {
         match self.key(journal) {

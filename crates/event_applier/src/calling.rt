@@ -10,7 +10,7 @@ use crate::planning::row_done;
 use changelog_table::log_name;
 use gho_schema::key_of;
 use gho_values::{Duplicate, Key, Sequence};
-use plain_server::{Journal, Request};
+use plain_server::{Entry, Request};
 use std::alloc::{AllocError, Global};
 
 impl Applier {
@@ -35,7 +35,7 @@ impl Applier {
 
     /// The next call. The journal is that of the turn in which the applier was told its events.
     #[tactic(auto, unfolding(crate::specs::Appliers::next))]
-    pub fn next(&self, alloc: Global, journal: &Journal) -> Result<Request, AllocError>
+    pub fn next(&self, alloc: Global, journal: &[Entry]) -> Result<Request, AllocError>
         ensures { IfOk result (λ request. request ≡ next journal.now self.now) }
     {
         match self.step {
@@ -53,7 +53,7 @@ impl Applier {
     pub fn unfit_key(
         &self,
         alloc: Global,
-        journal: &Journal,
+        journal: &[Entry],
         old_places: &[u32],
     ) -> Result<Key, AllocError>
         ensures { IfOk result (λ key. key ≡ unfit_key journal.now old_places.now self.now) }

@@ -12,7 +12,8 @@ use crate::applier::{Applier, ApplyStep, Part};
 use crate::keys::changes_key;
 use event_codec::{Change as RowChange, RowEvent};
 use gho_values::Row;
-use plain_server::{Answer, Journal};
+use plain_server::{Answer, Entry};
+use turn_answers::answer_at;
 
 /// What one statement does to the new table with rows of the old one.
 #[derive(Clone, Copy, Debug)]
@@ -26,10 +27,10 @@ pub(crate) enum Planned<'a> {
 }
 
 /// The events that were told in a turn.
-fn events_told(journal: &Journal, turn: u64) -> &[RowEvent]
+fn events_told(journal: &[Entry], turn: u64) -> &[RowEvent]
     ensures { result.now ≡ events_in (answer_at journal.now turn) }
 {
-    match journal.answer_at(turn) {
+    match answer_at(journal, turn) {
         Some(Answer::Events { events, .. }) => events.as_slice(),
         _ => &[],
     }
@@ -180,7 +181,7 @@ impl Applier {
     }
 
     /// What is done now.
-    pub(crate) fn doing<'a>(&self, journal: &'a Journal) -> Option<Planned<'a>>
+    pub(crate) fn doing<'a>(&self, journal: &'a [Entry]) -> Option<Planned<'a>>
         ensures { option_map meant result ≡ doing_at journal.now self.now self.now.step }
     {
         match self.step {

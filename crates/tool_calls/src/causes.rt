@@ -9,7 +9,7 @@ ghost use Rattle.tool_state.specs.Meanings.{reason_of, course_of, tool_of};
 
 use event_applier::name_at;
 use gho_values::{Key, Name, Sequence};
-use plain_server::{Cause, Journal, Numbers, Verdict};
+use plain_server::{Cause, Entry, Numbers, Verdict};
 use plan_words::Plan;
 use std::alloc::{AllocError, Global};
 use tool_state::{Reason, Tool, Tries};
@@ -44,7 +44,7 @@ fn turns_of(alloc: Global, tries: &Tries) -> Result<Numbers, AllocError>
 }
 
 /// The key of the row that the copier had.
-fn copy_key(alloc: Global, journal: &Journal, tool: &Tool) -> Result<Key, AllocError>
+fn copy_key(alloc: Global, journal: &[Entry], tool: &Tool) -> Result<Key, AllocError>
     ensures { IfOk result (λ key. key ≡ copy_key journal.now (course_of tool.now)) }
 {
     match tool.setup {
@@ -54,7 +54,7 @@ fn copy_key(alloc: Global, journal: &Journal, tool: &Tool) -> Result<Key, AllocE
 }
 
 /// The key of the row that the applier had.
-fn apply_key(alloc: Global, plan: &Plan, journal: &Journal, tool: &Tool) -> Result<Key, AllocError>
+fn apply_key(alloc: Global, plan: &Plan, journal: &[Entry], tool: &Tool) -> Result<Key, AllocError>
     ensures { IfOk result (λ key. key ≡ apply_key plan.now journal.now (course_of tool.now)) }
 {
     match tool.setup {
@@ -69,7 +69,7 @@ fn apply_key(alloc: Global, plan: &Plan, journal: &Journal, tool: &Tool) -> Resu
 fn cause_of(
     alloc: Global,
     plan: &Plan,
-    journal: &Journal,
+    journal: &[Entry],
     tool: &Tool,
     reason: Reason,
 ) -> Result<Cause, AllocError>
@@ -108,7 +108,7 @@ fn cause_of(
 pub fn verdict(
     alloc: Global,
     plan: &Plan,
-    journal: &Journal,
+    journal: &[Entry],
     tool: &Tool,
     is_altered: bool,
 ) -> Result<Verdict, AllocError>

@@ -7,7 +7,7 @@ ghost use Rattle.tool_state.specs.Meanings.{work_of, tool_of};
 ghost use Rattle.tool_calls.specs.Seen.{IsSeen};
 
 use gho_values::Names;
-use plain_server::{Journal, Serve};
+use plain_server::{Entry, Serve};
 use plan_words::Plan;
 use tool_state::Tool;
 
@@ -17,7 +17,7 @@ pub struct Sight<'a, V: Serve> {
     /// The plan.
     pub plan: &'a Plan,
     /// The turns so far.
-    pub journal: &'a Journal,
+    pub journal: &'a [Entry],
     /// How far the tool is.
     pub tool: &'a Tool,
     /// The server.

@@ -1,6 +1,7 @@
 -- What is kept of a journal is kept with one turn more.
 use Rattle.std.proofs.Common.{◌≡◌, ℕ, ◌+◌, ◌<◌, ◌^◌, Bool, true, false, ◌||◌, List, [], ◌∷◌, ◌++◌, map, length, cond, Option, Some, None, refl, sym, ap, ◌∙◌, subst, arith}
-use Rattle.std.specs.Prelude.{is_some}
+use Rattle.std.specs.Prelude.{is_some, Vec}
+use Rattle.std.specs.Global.{Global}
 use Rattle.std.specs.List.{list_any}
 use Rattle.std.proofs.lemmas.Bool.{true≢false, false≢true}
 use Rattle.std.proofs.lemmas.List.{length-append}
@@ -102,3 +103,33 @@ book_begin plan book tool sound names seats clients load busy altered = record {
 -- so many turns were taken
 pub tool_turns : (plan : PlanData) (journal : List Entry) (tool : Tool) → tool_of tool ≡ (moment plan journal).tool → tool.turns ≡ length journal
 tool_turns plan journal tool is = ap (λ (t : program.Tool). t.turns) is ∙ turns_are plan journal
+
+-- *The same book*, whatever room it has
+pub roomed : (plan : PlanData) (journal : List Entry) (book : Book) (turns : Vec Entry Global) (tool : Tool) → IsBook plan journal book → tool_of tool ≡ tool_of book.tool → IsSound plan tool → IsBook plan journal (record book { journal = turns; tool = tool })
+roomed plan journal book turns tool is same sound = record {
+  few = is.few;
+  tool = same ∙ is.tool;
+  sound = sound;
+  names = is.names;
+  seats = is.seats;
+  clients = is.clients;
+  strangers = is.strangers;
+  load = is.load;
+  busy = is.busy;
+  altered = is.altered;
+}
+
+-- what is kept doesn't turn on the turns that are written
+pub written : (plan : PlanData) (journal : List Entry) (book : Book) (turns : Vec Entry Global) → IsBook plan journal book → IsBook plan journal (record book { journal = turns })
+written plan journal book turns is = record {
+  few = is.few;
+  tool = is.tool;
+  sound = is.sound;
+  names = is.names;
+  seats = is.seats;
+  clients = is.clients;
+  strangers = is.strangers;
+  load = is.load;
+  busy = is.busy;
+  altered = is.altered;
+}

@@ -1,5 +1,5 @@
 -- The journal of a run, with what is kept of it so that no turn reads it anew. (This project's rule.)
-use Rattle.std.specs.Prelude.{◌≡◌, ℕ, ◌+◌, ◌<◌, ◌^◌, Bool, true, false, if◌then◌else◌, is_some, List, [], ◌∷◌, map, length, Option, Some, None}
+use Rattle.std.specs.Prelude.{◌≡◌, ℕ, ◌+◌, ◌<◌, ◌^◌, Bool, true, false, if◌then◌else◌, is_some, List, [], ◌∷◌, map, length, Option, Some, None, vec_len, vec_capacity}
 use Rattle.std.specs.List.{list_any, slice_get}
 use Rattle.script_text.specs.declared.actor.Actor.{Actor}
 use Rattle.script_text.specs.declared.actor.Actor.TheVariants.{Op, Insp, Copy, Apply, Lock, Ren, Client}
@@ -15,7 +15,7 @@ use Rattle.journal_words.specs.Histories.{history, is_alter}
 use Rattle.migration_program.specs.Tools.{moment}
 use Rattle.migration_program.specs.Orders.{actors}
 use Rattle.tool_state.specs.Meanings.{tool_of}
-use Rattle.tool_state.specs.Sound.{IsSound}
+use Rattle.tool_state.specs.Sound.{HasRoom, IsSound}
 use Rattle.actor_seats.specs.declared.seat.ActorSeat.{ActorSeat}
 use Rattle.actor_seats.specs.Seats.{seat_at}
 use Rattle.client_turns.specs.declared.seat.ClientSeat.{ClientSeat}
@@ -75,6 +75,11 @@ unfoldable pub AreReached : PlanData → List Entry → ℕ → List (List Scrip
 AreReached plan journal number [] [] = Unit {0}
 AreReached plan journal number (script ∷ scripts) (seat ∷ seats) = IsReached script seat (client_at plan journal number) × AreReached plan journal (number + 1) scripts seats
 AreReached plan journal number scripts seats = ⊥
+
+-- there is room for one turn more
+pub record HasRoomFor (book : Book) : Type 0 where
+  pub turn : vec_len book.journal < vec_capacity book.journal
+  pub tool : HasRoom book.tool
 
 -- *Book*: what is kept is what the journal says
 pub record IsBook (plan : PlanData) (journal : List Entry) (book : Book) : Type 0 where

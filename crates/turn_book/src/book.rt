@@ -3,7 +3,7 @@
 use actor_seats::ActorSeat;
 use client_turns::ClientSeat;
 use gho_values::Names;
-use plain_server::Journal;
+use plain_server::Entry;
 use plan_words::Plan;
 use tool_state::Tool;
 
@@ -13,7 +13,7 @@ pub struct Book<'a> {
     /// The plan.
     pub plan: &'a Plan,
     /// The turns so far.
-    pub journal: Journal,
+    pub journal: Vec<Entry>,
     /// How far the tool is.
     pub tool: Tool,
     /// The tables whose events the applier reads.

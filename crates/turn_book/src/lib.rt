@@ -1,12 +1,11 @@
 //! The journal of a run, with what is kept of it so that no turn reads it anew.
 #![tactic(auto)]
 
-mod adding;
 mod book;
 mod losses;
 mod opening;
 mod program;
 mod reading;
 
-pub use adding::Told;
 pub use book::Book;
+pub use reading::script_of;

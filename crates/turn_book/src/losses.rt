@@ -11,8 +11,8 @@ use script_text::{Actor, Loss, Side};
 impl Book<'_> {
     /// The actor whose session this loss takes away in the turn of this number.
     fn cut_by(&self, turn: u64, loss: &Loss) -> Option<Actor>
-        requires { IsBook self.now.plan.now self.now.journal self.now }
-        ensures { result ≡ cut_by self.now.journal turn loss.now }
+        requires { IsBook self.now.plan.now self.now.journal.items self.now }
+        ensures { result ≡ cut_by self.now.journal.items turn loss.now }
     {
         match loss {
             Loss::Nth { .. } => None,
@@ -32,8 +32,8 @@ impl Book<'_> {
     /// The actor whose session is lost between calls in the next turn.
     #[tactic(auto, unfolding(journal_words::specs::Keeping::cut_among))]
     pub fn cut_due(&self) -> Option<Actor>
-        requires { IsBook self.now.plan.now self.now.journal self.now }
-        ensures { result ≡ cut_due self.now.plan.now self.now.journal }
+        requires { IsBook self.now.plan.now self.now.journal.items self.now }
+        ensures { result ≡ cut_due self.now.plan.now self.now.journal.items }
     {
         let turn = self.journal.len() as u64 + 1;
         for loss in self.plan.faults().as_slice() {
@@ -47,9 +47,9 @@ impl Book<'_> {
 
     /// Where the actor's session is lost in its next turn.
     pub fn side_due(&self, actor: Actor) -> Option<Side>
-        requires book { IsBook self.now.plan.now self.now.journal self.now }
+        requires book { IsBook self.now.plan.now self.now.journal.items self.now }
         requires planned { is_planned self.now.plan.now actor ≡ true }
-        ensures { result ≡ side_due self.now.plan.now self.now.journal actor }
+        ensures { result ≡ side_due self.now.plan.now self.now.journal.items actor }
     {
         let number = self.turns_kept(actor) + 1;
         struck_among(actor, number, self.plan.faults().as_slice())

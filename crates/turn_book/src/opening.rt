@@ -11,7 +11,6 @@ use actor_seats::ActorSeat;
 use changelog_table::log_name;
 use client_turns::ClientSeat;
 use gho_values::{Duplicate, Name, Names, Sequence};
-use plain_server::Journal;
 use plan_words::Plan;
 use script_text::Actor;
 use std::alloc::{AllocError, Global};
@@ -89,11 +88,11 @@ impl<'a> Book<'a> {
     pub fn open(alloc: Global, plan: &'a Plan) -> Result<Book<'a>, AllocError>
         ensures book { IfOk result (λ book. IsBook plan.now [] book) }
         ensures plan { IfOk result (λ book. book.plan.now ≡ plan.now) }
-        ensures journal { IfOk result (λ book. book.journal ≡ []) }
+        ensures journal { IfOk result (λ book. book.journal.items ≡ []) }
     {
         Ok(Book {
             plan,
-            journal: Journal::new(alloc),
+            journal: Vec::new(alloc),
             tool: Tool::new(alloc, plan)?,
             names: names_of(alloc, plan.table())?,
             seats: seats_of(alloc, plan)?,

@@ -25,13 +25,13 @@ impl Book<'_> {
         server: &V,
         actor: Actor,
     ) -> Result<Option<Asked>, AllocError>
-        requires book { IsBook self.now.plan.now self.now.journal self.now }
-        requires state { IsBehind (moment self.now.plan.now self.now.journal).server (V.state server.now) }
-        ensures { IfOk result (λ asked. asked ≡ tool_asks self.now.plan.now self.now.journal (moment self.now.plan.now self.now.journal) actor) }
+        requires book { IsBook self.now.plan.now self.now.journal.items self.now }
+        requires state { IsBehind (moment self.now.plan.now self.now.journal.items).server (V.state server.now) }
+        ensures { IfOk result (λ asked. asked ≡ tool_asks self.now.plan.now self.now.journal.items (moment self.now.plan.now self.now.journal.items) actor) }
     {
         let sight = Sight {
             plan: self.plan,
-            journal: &self.journal,
+            journal: self.journal.as_slice(),
             tool: &self.tool,
             server,
             names: &self.names,
@@ -43,13 +43,13 @@ impl Book<'_> {
     /// Whether an actor of the tool but the operator asks something next.
     #[tactic(auto, using(crate::proofs::Givens::asks_is, crate::proofs::Seen::seen))]
     fn is_tool_ready<V: Serve>(&self, server: &V, actor: Actor) -> bool
-        requires book { IsBook self.now.plan.now self.now.journal self.now }
-        requires state { IsBehind (moment self.now.plan.now self.now.journal).server (V.state server.now) }
-        ensures { result ≡ is_some (tool_asks self.now.plan.now self.now.journal (moment self.now.plan.now self.now.journal) actor) }
+        requires book { IsBook self.now.plan.now self.now.journal.items self.now }
+        requires state { IsBehind (moment self.now.plan.now self.now.journal.items).server (V.state server.now) }
+        ensures { result ≡ is_some (tool_asks self.now.plan.now self.now.journal.items (moment self.now.plan.now self.now.journal.items) actor) }
     {
         let sight = Sight {
             plan: self.plan,
-            journal: &self.journal,
+            journal: self.journal.as_slice(),
             tool: &self.tool,
             server,
             names: &self.names,
@@ -66,9 +66,9 @@ impl Book<'_> {
         server: &V,
         actor: Actor,
     ) -> Result<Option<Asked>, AllocError>
-        requires book { IsBook self.now.plan.now self.now.journal self.now }
-        requires state { IsBehind (moment self.now.plan.now self.now.journal).server (V.state server.now) }
-        ensures { IfOk result (λ asked. asked ≡ given self.now.plan.now self.now.journal actor) }
+        requires book { IsBook self.now.plan.now self.now.journal.items self.now }
+        requires state { IsBehind (moment self.now.plan.now self.now.journal.items).server (V.state server.now) }
+        ensures { IfOk result (λ asked. asked ≡ given self.now.plan.now self.now.journal.items actor) }
     {
         match actor {
             Actor::Client(client) => self.client_asks(client),
@@ -82,9 +82,9 @@ impl Book<'_> {
     /// Whether the actor is ready: something is given to it. It takes no memory.
     #[tactic(auto, unfolding(migration_program::specs::Programs::given))]
     pub fn is_ready<V: Serve>(&self, server: &V, actor: Actor) -> bool
-        requires book { IsBook self.now.plan.now self.now.journal self.now }
-        requires state { IsBehind (moment self.now.plan.now self.now.journal).server (V.state server.now) }
-        ensures { result ≡ is_ready self.now.plan.now self.now.journal actor }
+        requires book { IsBook self.now.plan.now self.now.journal.items self.now }
+        requires state { IsBehind (moment self.now.plan.now self.now.journal.items).server (V.state server.now) }
+        ensures { result ≡ is_ready self.now.plan.now self.now.journal.items actor }
     {
         match actor {
             Actor::Client(client) => self.is_client_ready(client),
@@ -98,8 +98,8 @@ impl Book<'_> {
     /// Whether every client has gone through its script or lost its session. It takes no memory.
     #[tactic(auto, using(crate::proofs::Clients::same_count, crate::proofs::Clients::reached_here), unfolding(journal_words::specs::Clients::all_over))]
     fn clients_over(&self) -> bool
-        requires { IsBook self.now.plan.now self.now.journal self.now }
-        ensures { result ≡ clients_over self.now.plan.now self.now.journal }
+        requires { IsBook self.now.plan.now self.now.journal.items self.now }
+        ensures { result ≡ clients_over self.now.plan.now self.now.journal.items }
     {
         let scripts = self.plan.clients().as_slice();
         for index in 0..scripts.len() {
@@ -113,8 +113,8 @@ impl Book<'_> {
     /// Whether the run has ended: the tool is over, and every client. It takes no memory.
     #[tactic(auto, using(run_laws::proofs::Tallies::busy_counted), unfolding(migration_program::specs::Verdicts::has_ended))]
     pub fn has_ended(&self) -> bool
-        requires { IsBook self.now.plan.now self.now.journal self.now }
-        ensures { result ≡ has_ended self.now.plan.now self.now.journal }
+        requires { IsBook self.now.plan.now self.now.journal.items self.now }
+        ensures { result ≡ has_ended self.now.plan.now self.now.journal.items }
     {
         is_over(&self.tool, 0 < self.busy) && self.clients_over()
     }
@@ -122,12 +122,18 @@ impl Book<'_> {
     /// How the migration ended, and why; unfinished until the run has ended.
     #[tactic(auto, unfolding(migration_program::specs::Verdicts::verdict_of))]
     pub fn verdict(&self, alloc: Global) -> Result<Verdict, AllocError>
-        requires { IsBook self.now.plan.now self.now.journal self.now }
-        ensures { IfOk result (λ verdict. verdict ≡ verdict_of self.now.plan.now self.now.journal) }
+        requires { IsBook self.now.plan.now self.now.journal.items self.now }
+        ensures { IfOk result (λ verdict. verdict ≡ verdict_of self.now.plan.now self.now.journal.items) }
     {
         if !self.has_ended() {
             return Ok(Verdict::Unfinished);
         }
-        verdict(alloc, self.plan, &self.journal, &self.tool, self.is_altered)
+        verdict(
+            alloc,
+            self.plan,
+            self.journal.as_slice(),
+            &self.tool,
+            self.is_altered,
+        )
     }
 }

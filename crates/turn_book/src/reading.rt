@@ -28,7 +28,7 @@ fn place_of(actor: Actor) -> usize
 }
 
 /// The script of a client; clients are numbered from 1.
-pub(crate) fn script_of(plan: &Plan, client: u32) -> Option<&Script>
+pub fn script_of(plan: &Plan, client: u32) -> Option<&Script>
     ensures { option_map (λ script. script.now) result ≡ script_of client plan.now }
 {
     if client == 0 {
@@ -40,7 +40,7 @@ pub(crate) fn script_of(plan: &Plan, client: u32) -> Option<&Script>
 
 impl Book<'_> {
     /// What is kept of an actor; none where the plan has no such client.
-    pub(crate) fn seat(&self, actor: Actor) -> Option<&ActorSeat>
+    pub fn seat(&self, actor: Actor) -> Option<&ActorSeat>
         ensures { option_map (λ seat. seat.now) result ≡ seat_in self.now.seats.items actor }
     {
         match self.seats.as_slice().get(place_of(actor)) {
@@ -71,8 +71,8 @@ impl Book<'_> {
 
     /// The actor's live session.
     pub fn session(&self, actor: Actor) -> Option<u32>
-        requires { IsBook self.now.plan.now self.now.journal self.now }
-        ensures { result ≡ live_session self.now.journal actor }
+        requires { IsBook self.now.plan.now self.now.journal.items self.now }
+        ensures { result ≡ live_session self.now.journal.items actor }
     {
         self.session_kept(actor)
     }
@@ -80,8 +80,8 @@ impl Book<'_> {
     /// What a client asks next; none where it is over.
     #[tactic(auto, using(crate::proofs::Clients::scripted, crate::proofs::Clients::seat_within, crate::proofs::Clients::client_reached, crate::proofs::Clients::stranger_silent, crate::proofs::Clients::asks_is))]
     pub fn client_asks(&self, client: u32) -> Result<Option<Asked>, AllocError>
-        requires { IsBook self.now.plan.now self.now.journal self.now }
-        ensures { IfOk result (λ asked. asked ≡ client_asks self.now.plan.now self.now.journal client) }
+        requires { IsBook self.now.plan.now self.now.journal.items self.now }
+        ensures { IfOk result (λ asked. asked ≡ client_asks self.now.plan.now self.now.journal.items client) }
     {
         match script_of(self.plan, client) {
             Some(script) => self.clients[client as usize - 1].asks(script),
@@ -92,8 +92,8 @@ impl Book<'_> {
     /// Whether a client asks something next. It takes no memory.
     #[tactic(auto, using(crate::proofs::Clients::scripted, crate::proofs::Clients::seat_within, crate::proofs::Clients::client_reached, crate::proofs::Clients::stranger_silent, crate::proofs::Clients::asks_is))]
     pub fn is_client_ready(&self, client: u32) -> bool
-        requires { IsBook self.now.plan.now self.now.journal self.now }
-        ensures { result ≡ is_some (client_asks self.now.plan.now self.now.journal client) }
+        requires { IsBook self.now.plan.now self.now.journal.items self.now }
+        ensures { result ≡ is_some (client_asks self.now.plan.now self.now.journal.items client) }
     {
         match script_of(self.plan, client) {
             Some(script) => self.clients[client as usize - 1].is_ready(script),

@@ -1,16 +1,12 @@
 -- *Run*: a plan's turns taken one by one on a server, each of them written into the journal. (This project's rule.)
-use Rattle.std.specs.Prelude.{◌≡◌, ℕ, ◌≤◌, nat_le, Bool, true, false, ◌||◌, is_some, List, [], ◌∷◌, ◌++◌, length, Some, None}
+use Rattle.std.specs.Prelude.{◌≡◌, nat_le, Bool, true, false, ◌||◌, is_some, List, [], ◌∷◌, ◌++◌, length, Some, None}
 use Rattle.script_text.specs.declared.actor.Actor.{Actor}
 use Rattle.plain_server.specs.declared.entry.Entry.{Entry}
 use Rattle.plain_server.specs.States.{State}
 use Rattle.plan_words.specs.PlanData.{PlanData}
-use Rattle.journal_words.specs.Journals.{state_at, after_entry}
+use Rattle.journal_words.specs.Journals.{after_entry}
 use Rattle.migration_program.specs.Verdicts.{has_ended}
 use Rattle.run_laws.specs.Counting.{IsBehind}
-use Rattle.run_laws.specs.Kept.{IsKept}
-use Rattle.machine_laws.specs.Runnable.{IsRunnable}
-use Rattle.turn_book.specs.declared.book.Book.{Book}
-use Rattle.turn_book.specs.Books.{IsBook}
 use Rattle.migration_run.specs.declared.turn.Turn.{Turn}
 use Rattle.due_turns.specs.Due.{due, next_entry}
 use Rattle.whole_run.specs.declared.run.Stepped.{Stepped}
@@ -27,11 +23,6 @@ pub record RunView : Type 0 where
 -- *Over*: no further turn is taken, since the run has ended, or has as many turns as the plan allows
 unfoldable pub is_over : PlanData → List Entry → Bool
 is_over plan journal = has_ended plan journal || nat_le plan.options.turn_limit (length journal)
-
--- the turn comes next where some actor is to take one
-pub record IsDue (plan : PlanData) (journal : List Entry) (turn : Turn) : Type 0 where
-  pub actor : Actor
-  pub is : due plan journal actor ≡ Some turn
 
 -- the run behind a turn: the server answered it
 abbrev pub with_turn : RunView → Turn → RunView
@@ -55,13 +46,3 @@ Steps before actor Over after = (is_over before.plan before.journal ≡ true) ×
 Steps before actor Idle after = (is_over before.plan before.journal ≡ false) × (due before.plan before.journal actor ≡ None) × (after ≡ before)
 Steps before actor Took after = (is_over before.plan before.journal ≡ false) × TakesTurn before actor after
 Steps before actor NoMemory after = (is_over before.plan before.journal ≡ false) × (is_some (due before.plan before.journal actor) ≡ true) × IsUnmoved before after
-
--- What holds of a run: its plan is runnable; its journal is kept, with no more turns than the plan allows, and the book is
--- that journal's; and the server is the one behind it, with no more sessions than were counted.
-pub record IsRun (plan : PlanData) (journal : List Entry) (one : Book) (sessions : ℕ) (state : State) : Type 0 where
-  pub runs : IsRunnable plan
-  pub kept : IsKept plan journal
-  pub bound : length journal ≤ plan.options.turn_limit
-  pub book : IsBook plan journal one
-  pub server : IsBehind (state_at plan journal) state
-  pub made : state.made ≤ sessions

@@ -13,16 +13,16 @@ use std::alloc::{AllocError, Global};
 use turn_book::Book;
 
 /// The turn that is due where the actor is to take one; none where nothing is given to it.
-#[tactic(auto, using(crate::proofs::Planned::given_planned), unfolding(due_turns::specs::Due::due))]
+#[tactic(auto, using(run_turns::proofs::Planned::given_planned), unfolding(due_turns::specs::Due::due))]
 pub fn due<V: Serve>(
     alloc: Global,
     book: &Book<'_>,
     server: &V,
     actor: Actor,
 ) -> Result<Option<Turn>, AllocError>
-    requires book { IsBook book.now.plan.now book.now.journal book.now }
-    requires state { IsBehind (moment book.now.plan.now book.now.journal).server (V.state server.now) }
-    ensures { IfOk result (λ turn. turn ≡ due book.now.plan.now book.now.journal actor) }
+    requires book { IsBook book.now.plan.now book.now.journal.items book.now }
+    requires state { IsBehind (moment book.now.plan.now book.now.journal.items).server (V.state server.now) }
+    ensures { IfOk result (λ turn. turn ≡ due book.now.plan.now book.now.journal.items actor) }
 {
     if let Some(other) = book.cut_due() {
         return Ok(Some(Turn {
@@ -42,11 +42,11 @@ pub fn due<V: Serve>(
 }
 
 /// Whether a turn is due where the actor is to take one. It takes no memory.
-#[tactic(auto, using(crate::proofs::Planned::is_due_by), unfolding(due_turns::specs::Due::due))]
+#[tactic(auto, using(run_turns::proofs::Planned::is_due_by), unfolding(due_turns::specs::Due::due))]
 pub fn is_due<V: Serve>(book: &Book<'_>, server: &V, actor: Actor) -> bool
-    requires book { IsBook book.now.plan.now book.now.journal book.now }
-    requires state { IsBehind (moment book.now.plan.now book.now.journal).server (V.state server.now) }
-    ensures { result ≡ is_some (due book.now.plan.now book.now.journal actor) }
+    requires book { IsBook book.now.plan.now book.now.journal.items book.now }
+    requires state { IsBehind (moment book.now.plan.now book.now.journal.items).server (V.state server.now) }
+    ensures { result ≡ is_some (due book.now.plan.now book.now.journal.items actor) }
 {
     book.cut_due().is_some() || book.is_ready(server, actor)
 }

@@ -2,11 +2,6 @@
 #![tactic(auto)]
 
 mod due;
-mod keeping;
-mod ranges;
-mod room;
 mod run;
-mod serving;
-mod taking;
 
 pub use run::{Run, Stepped};

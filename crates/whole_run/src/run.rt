@@ -13,9 +13,9 @@ ghost use Rattle.due_turns.specs.Due.{due};
 ghost use Rattle.whole_run.specs.Runs.{is_over, TakesTurn, IsUnmoved, Steps};
 
 use crate::due::{due, is_due};
-use crate::taking::take;
-use plain_server::{Journal, Serve, Verdict};
+use plain_server::{Entry, Journal, Serve, Verdict};
 use plan_words::Plan;
+use run_turns::take;
 use script_text::Actor;
 use std::alloc::{AllocError, Global};
 use std::marker::Model;
@@ -44,20 +44,21 @@ pub struct Run<'a, V: Serve> {
 }
 
 impl<'a, V: Serve> Model for Run<'a, V> {
-    ghost use Rattle.whole_run.specs.Runs.{RunView, IsRun};
+    ghost use Rattle.run_turns.specs.Running.{IsRun};
+    ghost use Rattle.whole_run.specs.Runs.{RunView};
 
     ghost Value = { RunView };
 
-    ghost view = { λ r. record { plan = r.book.plan.now; journal = r.book.journal; server = V.state r.server } };
+    ghost view = { λ r. record { plan = r.book.plan.now; journal = r.book.journal.items; server = V.state r.server } };
 
-    ghost invariant = { λ r. IsRun r.book.plan.now r.book.journal r.book r.sessions (V.state r.server) };
+    ghost invariant = { λ r. IsRun r.book.plan.now r.book.journal.items r.book r.sessions (V.state r.server) };
 }
 
 /// The journal of a book. It takes no memory.
 fn into_journal(book: Book<'_>) -> Journal
-    ensures { result ≡ book.entry.journal }
+    ensures { result ≡ book.entry.journal.items }
 {
-    book.journal
+    Journal::from_vec(book.journal)
 }
 
 impl<'a, V: Serve> Run<'a, V> {
@@ -115,9 +116,9 @@ impl<'a, V: Serve> Run<'a, V> {
         self.book.cut_due().is_some()
     }
 
-    /// Whether no further turn is taken. It takes no memory.
+    /// Whether no further turn is taken: the run has ended, or has as many turns as the plan allows. It takes no memory.
     #[tactic(auto, using(crate::proofs::Steps::few_more), unfolding(crate::specs::Runs::is_over))]
-    fn is_over(&self) -> bool
+    pub fn is_over(&self) -> bool
         ensures over { result ≡ is_over self.now.plan self.now.journal }
         ensures few { result ≡ false → length self.now.journal + 1 < 2 ^ 32 }
     {
@@ -173,7 +174,7 @@ impl<'a, V: Serve> Run<'a, V> {
 
     /// The turns so far. The server's answers are in them; each is a turn that the plan allows and that was given, in its
     /// actor's session. It takes no memory.
-    pub fn journal(&self) -> &Journal
+    pub fn journal(&self) -> &[Entry]
         ensures turns { result.now ≡ self.now.journal }
         ensures faithful { IsFaithful self.now.plan self.now.journal }
         ensures planned { KeepsPlan self.now.plan self.now.journal }
@@ -181,7 +182,7 @@ impl<'a, V: Serve> Run<'a, V> {
         ensures sessions { KeepsSessions self.now.journal }
         ensures bound { length self.now.journal ≤ self.now.plan.options.turn_limit }
     {
-        &self.book.journal
+        self.book.journal.as_slice()
     }
 
     /// The server, behind the journal's turns. It takes no memory.

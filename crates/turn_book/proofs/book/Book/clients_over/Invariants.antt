@@ -4,4 +4,4 @@ use Rattle.turn_book.proofs.book.Book.clients_over.Given as goal
 
 -- the clients from here on decide
 abbrev pub invariant-loop-index : goal.invariant-loop-index
-invariant-loop-index l = all_over l.self.plan.now l.self.journal (l.index + 1) (drop l.index l.self.plan.now.clients) ≡ clients_over l.self.plan.now l.self.journal
+invariant-loop-index l = all_over l.self.plan.now l.self.journal.items (l.index + 1) (drop l.index l.self.plan.now.clients) ≡ clients_over l.self.plan.now l.self.journal.items

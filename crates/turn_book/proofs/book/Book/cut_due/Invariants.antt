@@ -4,4 +4,4 @@ use Rattle.turn_book.proofs.book.Book.cut_due.Given as goal
 
 -- none of the losses so far can be taken
 abbrev pub invariant-loop-loss : goal.invariant-loop-loss
-invariant-loop-loss l = cut_among l.self.journal (drop l.loss-index l.self.plan.now.faults) ≡ cut_due l.self.plan.now l.self.journal
+invariant-loop-loss l = cut_among l.self.journal.items (drop l.loss-index l.self.plan.now.faults) ≡ cut_due l.self.plan.now l.self.journal.items

@@ -8,4 +8,4 @@ pub returns : goal.returns
 returns c =
     c.session_kept.ensures
     ∙ ap (λ (seats : List ActorSeat). session_of (seat_in seats c.args.actor)) c.requires.seats
-    ∙ session_is c.args.self.now.plan.now c.args.self.now.journal c.args.actor c.requires.strangers
+    ∙ session_is c.args.self.now.plan.now c.args.self.now.journal.items c.args.actor c.requires.strangers

@@ -6,22 +6,22 @@ use Rattle.turn_book.specs.Books.{seat_in, turns_in}
 use Rattle.turn_book.proofs.Seats.{planned_seat, turns_few}
 use Rattle.turn_book.proofs.book.Book.side_due.Goals as goal
 
-turns_are : (c : goal.After-turns_kept-number) → c.turns_kept-number.result ≡ turns_of c.args.actor c.args.self.now.journal
+turns_are : (c : goal.After-turns_kept-number) → c.turns_kept-number.result ≡ turns_of c.args.actor c.args.self.now.journal.items
 turns_are c =
     c.turns_kept-number.ensures
     ∙ ap (λ (seats : List ActorSeat). turns_in (seat_in seats c.args.actor)) c.requires.book.seats
-    ∙ ap turns_in (planned_seat c.args.self.now.plan.now c.args.self.now.journal c.args.actor c.requires.planned)
+    ∙ ap turns_in (planned_seat c.args.self.now.plan.now c.args.self.now.journal.items c.args.actor c.requires.planned)
 
 pub overflow_add-number : goal.overflow_add-number
 overflow_add-number c =
-    let few : turns_of c.args.actor c.args.self.now.journal ≤ length c.args.self.now.journal = turns_few c.args.actor c.args.self.now.journal in
+    let few : turns_of c.args.actor c.args.self.now.journal.items ≤ length c.args.self.now.journal.items = turns_few c.args.actor c.args.self.now.journal.items in
     omega (arith, turns_are c, few, c.requires.book.few)
 
 pub returns : goal.returns
 returns c =
-    let turns : c.turns_kept-number.result ≡ turns_of c.args.actor c.args.self.now.journal =
+    let turns : c.turns_kept-number.result ≡ turns_of c.args.actor c.args.self.now.journal.items =
     c.turns_kept-number.ensures
     ∙ ap (λ (seats : List ActorSeat). turns_in (seat_in seats c.args.actor)) c.requires.book.seats
-    ∙ ap turns_in (planned_seat c.args.self.now.plan.now c.args.self.now.journal c.args.actor c.requires.planned) in
+    ∙ ap turns_in (planned_seat c.args.self.now.plan.now c.args.self.now.journal.items c.args.actor c.requires.planned) in
     let struck : c.struck_among.result ≡ struck_among c.args.actor (c.turns_kept-number.result + 1) c.args.self.now.plan.now.faults = search rules in
     struck ∙ ap (λ (n : ℕ). struck_among c.args.actor (n + 1) c.args.self.now.plan.now.faults) turns

@@ -1,0 +1,4 @@
+pub mod Planned
+mod Ranging
+pub mod Results
+pub mod Served

@@ -1,5 +1,0 @@
-use Rattle.whole_run.proofs.Served.{command_is}
-use Rattle.whole_run.proofs.serving.command_entry.Goals as goal
-
-pub returns : goal.returns
-returns c = λ server. command_is server c.args.turn c.requires.asked c.requires.side
