@@ -1,2 +1,3 @@
+mod BareNames
 pub mod Left
 pub mod Joining

@@ -1,6 +1,7 @@
 //! The report of a run: how it ended and why, what each client got, the tables that are left, the history and the turns.
 #![tactic(auto)]
 
+mod names;
 mod tables;
 mod turns;
 mod verdict;

@@ -3,24 +3,40 @@
 ghost use Rattle.std.specs.Prelude.{◌≡◌, ◌++◌, option_to_list, OnOk};
 ghost use Rattle.journal_words.specs.Serials.{tables_left};
 ghost use Rattle.row_store.specs.Databases.{database, find_table};
+ghost use Rattle.table_lines.specs.Tables.{row_lines};
 ghost use Rattle.report_print.specs.Tables.{left_of, rows_text, table_text, tables_text};
 
 use changelog_table::is_tool_name;
 use client_lines::push_number_line;
-use gho_values::{Row, Text};
+use gho_values::Text;
+use paged_tables::Tables;
 use plan_words::Plan;
-use row_store::{Table, Tables};
+use row_pages::{SpanRows, Table};
+use row_store::Table as PlainTable;
 use std::alloc::AllocError;
+use std::slice;
 use table_lines::{push_row_lines, push_table_line};
 
+/// Adds each row on a line of its own.
+#[tactic(auto, unfolding(table_lines::specs::Tables::row_lines))]
+fn push_each(into: &mut Text, rows: SpanRows<'_>) -> Result<(), AllocError>
+    ensures { OnOk result (into.new ≡ into.old ++ row_lines rows.entry) }
+{
+    for row in rows {
+        push_row_lines(into, slice::from_ref(row))?;
+    }
+    Ok(())
+}
+
+/// Adds the rows of a table where they are shown, else how many there are.
 #[tactic(auto, unfolding(crate::specs::Tables::rows_text))]
-fn push_rows(into: &mut Text, shown: bool, rows: &[Row]) -> Result<(), AllocError>
-    ensures { OnOk result (into.new ≡ into.old ++ rows_text shown rows.now) }
+fn push_rows(into: &mut Text, shown: bool, table: &Table) -> Result<(), AllocError>
+    ensures { OnOk result (into.new ≡ into.old ++ rows_text shown table.now.table.rows) }
 {
     if shown {
-        push_row_lines(into, rows)
+        push_each(into, table.rows())
     } else {
-        push_number_line(into, "rows ", rows.len() as u64)
+        push_number_line(into, "rows ", table.len() as u64)
     }
 }
 
@@ -28,7 +44,7 @@ fn push_table(into: &mut Text, shown: bool, table: &Table) -> Result<(), AllocEr
     ensures { OnOk result (into.new ≡ into.old ++ table_text shown table.now.table) }
 {
     push_table_line(into, table.schema())?;
-    push_rows(into, shown, table.rows().as_slice())
+    push_rows(into, shown, table)
 }
 
 /// Adds the table of this one's name among those that stand, where it is there.
@@ -36,7 +52,7 @@ fn push_table(into: &mut Text, shown: bool, table: &Table) -> Result<(), AllocEr
 fn push_found(
     into: &mut Text,
     shown: bool,
-    opening: &Table,
+    opening: &PlainTable,
     tables: &Tables,
 ) -> Result<(), AllocError>
     ensures { OnOk result (into.new ≡ into.old ++ tables_text shown (option_to_list (find_table opening.now.table.schema.name (database tables.now)))) }
@@ -52,7 +68,7 @@ fn push_found(
 fn push_left(
     into: &mut Text,
     plan: &Plan,
-    opening: &Table,
+    opening: &PlainTable,
     tables: &Tables,
 ) -> Result<(), AllocError>
     ensures { OnOk result (into.new ≡ into.old ++ tables_text plan.now.options.show_tables (left_of plan.now opening.now.table (database tables.now))) }

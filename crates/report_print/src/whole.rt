@@ -7,16 +7,16 @@ ghost use Rattle.client_lines.specs.Replies.{clients_text};
 ghost use Rattle.report_print.specs.Reports.{report, where_shown};
 ghost use Rattle.report_print.specs.Turns.{turns_text};
 
+use crate::names::push_names;
 use crate::tables::push_tables_left;
 use crate::turns::push_turns;
 use crate::verdict::push_verdict;
 use client_lines::{push_clients, push_history_line};
 use gho_values::Text;
+use paged_tables::Tables;
 use plain_server::{Entry, Journal, Verdict};
 use plan_words::Plan;
-use row_store::Tables;
 use std::alloc::{AllocError, Global};
-use table_lines::push_names_line;
 
 fn push_shown_replies(into: &mut Text, plan: &Plan, journal: &[Entry]) -> Result<(), AllocError>
     ensures { OnOk result (into.new ≡ into.old ++ where_shown plan.now.options.show_replies (clients_text plan.now journal.now)) }
@@ -68,7 +68,7 @@ pub fn report(
     push_verdict(&mut text, verdict)?;
     push_shown_replies(&mut text, plan, journal.as_slice())?;
     push_tables_left(&mut text, plan, tables)?;
-    push_names_line(alloc, &mut text, tables)?;
+    push_names(alloc, &mut text, tables)?;
     push_shown_history(alloc, &mut text, plan, journal.as_slice())?;
     push_shown_turns(&mut text, plan, journal.as_slice())?;
     Ok(text)
