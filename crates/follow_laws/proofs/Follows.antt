@@ -32,7 +32,7 @@ module _ (plan : PlanData) (is : IsMigratable plan) where
   m = migration_of is.table.schema is.new
 
   -- the plan's one table is found
-  named_table : (name : List ℕ) → is.table.schema.name ≡ name → find_table name plan.tables ≡ Some is.table
+  pub named_table : (name : List ℕ) → is.table.schema.name ≡ name → find_table name plan.tables ≡ Some is.table
   named_table name same = ap (find_table name) is.only ∙ ap (λ (b : Bool). cond b (Some is.table) None) (ap (λ (n : List ℕ). bytes_eq n name) same ∙ same_bytes name)
 
   old_is : old_schema plan ≡ is.table.schema
@@ -59,7 +59,7 @@ module _ (plan : PlanData) (is : IsMigratable plan) where
   lawful : IsRunnable plan → IsLawful is.new.0
   lawful runs = subst IsLawful schema_is runs.fitting.lawful
 
-  migration : StoresAgain → IsRunnable plan → IsSerialPlan plan → IsMigrationOf plan m is.table.rows
+  pub migration : StoresAgain → IsRunnable plan → IsSerialPlan plan → IsMigrationOf plan m is.table.rows
   migration again runs serial =
       let planned : IsPlanned m is.table.rows = plans_planned again plan is in
       let new : Clustered m.new = clustered m.new planned.new_key in

@@ -1,4 +1,4 @@
--- A journal in which the RENAME is done at the mark alone is a run of its plan, and serial.
+-- A journal in which the RENAME is done once at most, and finds the altered table, is a run of its plan, and serial.
 use Rattle.std.proofs.Common.{◌≡◌, ◌≤◌, ◌+◌, ℕ, Bool, true, false, cond, ◌||◌, List, [], ◌∷◌, ◌++◌, Option, Some, None, refl, sym, ap, ◌∙◌, subst, arith, append_assoc, append-nil}
 use Rattle.std.specs.Prelude.{count_by, fold}
 use Rattle.std.specs.Option.{option_map}
@@ -34,19 +34,16 @@ use Rattle.history_laws.proofs.Naming.{migrated_named}
 use Rattle.history_laws.proofs.PlanJournals.{journals_are_serial}
 use Rattle.ghost_laws.specs.Copies.{IsAltered}
 use Rattle.planning_laws.specs.Laws.{migration_of}
-use Rattle.run_laws.specs.Kept.{IsKept}
 use Rattle.actor_seats.proofs.Alters.{of_client}
 use Rattle.statement_laws.proofs.Tests.{same_bytes}
 use Rattle.machine_laws.specs.Runnable.{IsRunnable}
 use Rattle.machine_laws.proofs.Journals.{IsRun, all_runs}
-use Rattle.runnable_laws.specs.Laws.{IsWorded, MigratablePlansAreRunnable}
+use Rattle.runnable_laws.specs.Laws.{MigratablePlansAreRunnable}
 use Rattle.unaltered_laws.proofs.Asking.{exchange_takes}
 use Rattle.unaltered_laws.proofs.Runs.{none_counted}
 use Rattle.unaltered_laws.proofs.Away.{IsKnownAsked, about_asked, asked_begins, asked_more, ghost_is_tool, keeps_away_so, tool_adds, tool_not_mine}
-use Rattle.follow_turns.specs.Laws.{IsMark}
-use Rattle.follow_turns.proofs.Follows.{kept_front}
-use Rattle.follow_laws.specs.Laws.{FollowersAlter}
-use Rattle.marked_laws.specs.Laws.{MarkedJournalsAreRuns, MarkedJournalsAreSerial}
+use Rattle.unaltered_laws.specs.Laws.{IsUnaltered}
+use Rattle.marked_laws.specs.Laws.{IsMarkedAt, MarkedJournalsAreRuns, MarkedJournalsAreSerial}
 
 old_is_tool : (table : List ℕ) → is_tool_name table (old_name table) ≡ true
 old_is_tool table = let name : List ℕ = old_name table in or_right (bytes_eq name (ghost_name table) || bytes_eq name (log_name table)) (bytes_eq name name) (same_bytes name)
@@ -89,13 +86,13 @@ module _ (plan : PlanData) (is : IsMigratable plan) (serial : IsSerialPlan plan)
 
 -- ONE TURN
 
-module _ (alter : FollowersAlter) (plan : PlanData) (is : IsMigratable plan) (worded : IsWorded plan) (runs : IsRunnable plan) (serial : IsSerialPlan plan) (journal : List Entry) (entry : Entry) (kept : IsKept plan journal) (known : IsKnownAsked plan journal) (run : IsRun plan journal entry)
-    (marked : list_any is_alter (entry_adds plan journal entry) ≡ true → IsMark plan journal) where
+module _ (plan : PlanData) (is : IsMigratable plan) (runs : IsRunnable plan) (serial : IsSerialPlan plan) (journal : List Entry) (entry : Entry) (known : IsKnownAsked plan journal) (run : IsRun plan journal entry)
+    (marked : IsMarkedAt plan is journal entry) where
   so_far : (tool : is_client entry.actor ≡ false) (asks : Option Request) → histories.about journal entry ≡ asks → told_in entry.asked entry.side entry.answer entry.missed ≡ Some ok → RenamesSo (scene_of plan []) (state_at plan journal).tables asks
   so_far tool None about told = tt
   so_far tool (Some (requests.Rename pairs)) about told =
       let exchanges : requests.Rename pairs ≡ exchange plan.table = (about_asked plan serial journal entry runs.fitting known run tool (requests.Rename pairs) about).1 in
-      renames_so plan is serial (state_at plan journal).tables (alter plan is worded serial journal kept (marked (alters_here (exchange_takes plan.table pairs exchanges)))) pairs exchanges where
+      renames_so plan is serial (state_at plan journal).tables (marked (alters_here (exchange_takes plan.table pairs exchanges))).1 pairs exchanges where
         alters_here : takes_away plan.table pairs ≡ true → list_any is_alter (entry_adds plan journal entry) ≡ true
         alters_here takes =
             ap (list_any is_alter) (tool_adds plan serial journal entry runs.fitting known run tool entry.actor tool)
@@ -108,25 +105,20 @@ module _ (alter : FollowersAlter) (plan : PlanData) (is : IsMigratable plan) (wo
 
 -- WHOLE JOURNALS
 
-aways : FollowersAlter → (plan : PlanData) → IsMigratable plan → IsWorded plan → IsRunnable plan → IsSerialPlan plan → (before journal : List Entry) → IsKept plan (before ++ journal) → Along (IsRun plan) before journal → IsKnownAsked plan before
-    → Along (λ some entry. list_any is_alter (entry_adds plan some entry) ≡ true → IsMark plan some) before journal → Along (λ some entry. KeepsAway plan some entry entry.actor) before journal
-aways alter plan is worded runs serial before [] kept turns known marked = tt
-aways alter plan is worded runs serial before (entry ∷ journal) kept turns known marked =
-    let later : IsKept plan ((before ++ entry ∷ []) ++ journal) = subst (IsKept plan) (sym (append_assoc before (entry ∷ []) journal)) kept in (
-      away alter plan is worded runs serial before entry (kept_front plan before (entry ∷ journal) kept) known turns.0 marked.0,
-      aways alter plan is worded runs serial (before ++ entry ∷ []) journal later turns.1 (asked_more plan before entry turns.0 known) marked.1,
-    )
+aways : (plan : PlanData) (is : IsMigratable plan) → IsRunnable plan → IsSerialPlan plan → (before journal : List Entry) → Along (IsRun plan) before journal → IsKnownAsked plan before → Along (IsMarkedAt plan is) before journal → Along (λ some entry. KeepsAway plan some entry entry.actor) before journal
+aways plan is runs serial before [] turns known marked = tt
+aways plan is runs serial before (entry ∷ journal) turns known marked = (away plan is runs serial before entry known turns.0 marked.0, aways plan is runs serial (before ++ entry ∷ []) journal turns.1 (asked_more plan before entry turns.0 known) marked.1)
 
 -- *Marked journals are runs*
-pub marked_runs : MigratablePlansAreRunnable → FollowersAlter → MarkedJournalsAreRuns
+pub marked_runs : MigratablePlansAreRunnable → MarkedJournalsAreRuns
 unfolding Follows
-marked_runs runnable alter plan is worded serial journal kept marked =
+marked_runs runnable plan is worded serial journal kept marked =
     let runs : IsRunnable plan = runnable plan is worded in record {
       serial = serial;
       faithful = kept.faithful;
       planned = kept.planned;
       seated = kept.sessions;
-      away = aways alter plan is worded runs serial [] journal kept (all_runs plan [] journal kept.faithful kept.follows) (asked_begins plan runs) marked;
+      away = aways plan is runs serial [] journal (all_runs plan [] journal kept.faithful kept.follows) (asked_begins plan runs) marked;
     }
 
 -- ONCE AT MOST
@@ -162,21 +154,21 @@ history_counts : (plan : PlanData) (before : List Entry) (entry : Entry) → cou
 unfolding history
 history_counts plan before entry = ap (count_by is_alter) (gathered-more (entry_adds plan) [] before entry) ∙ fold-append counted 0 (gathered (entry_adds plan) [] before) (entry_adds plan before entry)
 
-once_more : (plan : PlanData) (before : List Entry) (entry : Entry) → count_by is_alter (history plan before) ≤ 1 → (list_any is_alter (entry_adds plan before entry) ≡ true → IsMark plan before) → count_by is_alter (history plan (before ++ entry ∷ [])) ≤ 1
+once_more : (plan : PlanData) (before : List Entry) (entry : Entry) → count_by is_alter (history plan before) ≤ 1 → (list_any is_alter (entry_adds plan before entry) ≡ true → IsUnaltered plan before) → count_by is_alter (history plan (before ++ entry ∷ [])) ≤ 1
 once_more plan before entry once marked = subst (λ (n : ℕ). n ≤ 1) (sym (history_counts plan before entry)) (by (list_any is_alter (entry_adds plan before entry)) refl) where
   by : (b : Bool) → list_any is_alter (entry_adds plan before entry) ≡ b → fold counted (count_by is_alter (history plan before)) (entry_adds plan before entry) ≤ 1
-  by true is = subst (λ (n : ℕ). fold counted n (entry_adds plan before entry) ≤ 1) (sym (none_counted (history plan before) (marked is).unaltered)) (adds_once plan before entry entry.actor)
+  by true is = subst (λ (n : ℕ). fold counted n (entry_adds plan before entry) ≤ 1) (sym (none_counted (history plan before) (marked is))) (adds_once plan before entry entry.actor)
   by false is = subst (λ (n : ℕ). n ≤ 1) (sym (none_more (count_by is_alter (history plan before)) (entry_adds plan before entry) is)) once
 
-once : (plan : PlanData) (before journal : List Entry) → count_by is_alter (history plan before) ≤ 1 → Along (λ some entry. list_any is_alter (entry_adds plan some entry) ≡ true → IsMark plan some) before journal → count_by is_alter (history plan (before ++ journal)) ≤ 1
-once plan before [] is marked = subst (λ (j : List Entry). count_by is_alter (history plan j) ≤ 1) (sym (append-nil before)) is
-once plan before (entry ∷ journal) is marked =
-    subst (λ (j : List Entry). count_by is_alter (history plan j) ≤ 1) (append_assoc before (entry ∷ []) journal) (once plan (before ++ entry ∷ []) journal (once_more plan before entry is marked.0) marked.1)
+once : (plan : PlanData) (is : IsMigratable plan) (before journal : List Entry) → count_by is_alter (history plan before) ≤ 1 → Along (IsMarkedAt plan is) before journal → count_by is_alter (history plan (before ++ journal)) ≤ 1
+once plan is before [] most marked = subst (λ (j : List Entry). count_by is_alter (history plan j) ≤ 1) (sym (append-nil before)) most
+once plan is before (entry ∷ journal) most marked =
+    subst (λ (j : List Entry). count_by is_alter (history plan j) ≤ 1) (append_assoc before (entry ∷ []) journal) (once plan is (before ++ entry ∷ []) journal (once_more plan before entry most (λ alters. (marked.0 alters).0)) marked.1)
 
 none_yet : (plan : PlanData) → count_by is_alter (history plan []) ≤ 1
 unfolding history
 none_yet plan = omega arith
 
 -- ... and serial
-pub marked_serial : MigratablePlansAreRunnable → FollowersAlter → MarkedJournalsAreSerial
-marked_serial runnable alter plan is worded serial journal kept marked = journals_are_serial plan journal (marked_runs runnable alter plan is worded serial journal kept marked) (once plan [] journal (none_yet plan) marked)
+pub marked_serial : MigratablePlansAreRunnable → MarkedJournalsAreSerial
+marked_serial runnable plan is worded serial journal kept marked = journals_are_serial plan journal (marked_runs runnable plan is worded serial journal kept marked) (once plan is [] journal (none_yet plan) marked)

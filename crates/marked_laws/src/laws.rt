@@ -2,7 +2,6 @@
 
 ghost use Rattle.marked_laws.specs.Laws.{MarkedJournalsAreRuns, MarkedJournalsAreSerial};
 
-use follow_laws::laws::followers_alter;
 use runnable_laws::laws::migratable_plans_are_runnable;
 
 /// A journal that is kept and marked is a run of its plan.
@@ -10,7 +9,6 @@ pub fn marked_journals_are_runs()
     ensures { MarkedJournalsAreRuns }
 {
     migratable_plans_are_runnable();
-    followers_alter();
 }
 
 /// So its history is serial, with one ALTER at most.
@@ -18,5 +16,4 @@ pub fn marked_journals_are_serial()
     ensures { MarkedJournalsAreSerial }
 {
     migratable_plans_are_runnable();
-    followers_alter();
 }

@@ -1,4 +1,4 @@
-//! A journal that follows a migratable plan's program, and in which the RENAME is done at the mark alone, is a run of its plan.
+//! A journal that is kept, and in which the RENAME is done once at most and finds the altered table, is a run of its plan.
 #![tactic(auto)]
 
 pub mod laws;

@@ -1,27 +1,15 @@
--- Whole journals, beyond the RENAME: it is done once at most, and the history is serial.
-use Rattle.std.specs.Prelude.{◌≡◌, true, false, List, []}
+-- Whole journals, beyond the RENAME: it is done once at most.
+use Rattle.std.specs.Prelude.{◌≡◌, true, List, []}
 use Rattle.std.specs.List.{list_any}
 use Rattle.plain_server.specs.Along.{Along}
 use Rattle.plain_server.specs.declared.entry.Entry.{Entry}
-use Rattle.plan_words.specs.Migratable.{IsMigratable}
 use Rattle.plan_words.specs.PlanData.{PlanData}
 use Rattle.journal_words.specs.Histories.{entry_adds, is_alter}
-use Rattle.journal_words.specs.Serials.{IsSerial}
-use Rattle.migration_program.specs.Tools.{is_reverting, moment}
 use Rattle.history_laws.specs.Plans.{IsSerialPlan}
 use Rattle.run_laws.specs.Kept.{IsKept}
 use Rattle.machine_laws.specs.Runnable.{IsRunnable}
-use Rattle.runnable_laws.specs.Laws.{IsWorded}
 use Rattle.unaltered_laws.specs.Laws.{IsUnaltered}
 
 -- *Renames come once*: in a journal that is kept, where a turn does the RENAME of the migrated table no turn before it did.
 abbrev pub RenamesComeOnce : Type 0
 RenamesComeOnce = (plan : PlanData) (journal : List Entry) → IsRunnable plan → IsSerialPlan plan → IsKept plan journal → Along (λ before one. list_any is_alter (entry_adds plan before one) ≡ true → IsUnaltered plan before) [] journal
-
--- no RENAME of the migrated table is done while all is reverted
-abbrev pub RenamesGoing : PlanData → List Entry → Type 0
-RenamesGoing plan journal = Along (λ before one. list_any is_alter (entry_adds plan before one) ≡ true → is_reverting (moment plan before).tool.reason ≡ false) [] journal
-
--- *Kept journals are serial*: so is each journal of a migratable plan that is kept, whatever comes behind its RENAME.
-abbrev pub KeptJournalsAreSerial : Type 0
-KeptJournalsAreSerial = (plan : PlanData) → IsMigratable plan → (journal : List Entry) → IsWorded plan → IsSerialPlan plan → IsKept plan journal → RenamesGoing plan journal → IsSerial plan journal

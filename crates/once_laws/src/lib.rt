@@ -1,4 +1,4 @@
-//! In every journal that is kept the RENAME is done once at most, and its history is serial beyond it: each function's contract is a law.
+//! In every journal that is kept the RENAME is done once at most: the function's contract is the law.
 #![tactic(auto)]
 
 pub mod laws;

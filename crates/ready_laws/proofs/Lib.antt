@@ -1,5 +1,5 @@
 mod Ends
-mod Going
+pub mod Going
 mod Idle
 mod Orders
 pub mod Ready

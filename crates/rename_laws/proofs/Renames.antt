@@ -29,7 +29,7 @@ use Rattle.event_applier.specs.Appliers.{events_of}
 use Rattle.event_applier.specs.declared.applier.ApplyStep.{ApplyStep}
 use Rattle.event_applier.specs.declared.applier.ApplyStep.TheVariants.{Reading, Beginning, Applying, Committing}
 use Rattle.journal_words.specs.Histories as histories
-use Rattle.journal_words.specs.Histories.{adds, alters, asked_about, entry_adds, is_alter, request_waiting, told_in}
+use Rattle.journal_words.specs.Histories.{adds, alters, asked_about, is_alter, request_waiting, told_in}
 use Rattle.journal_words.specs.Journals.{opens, state_at}
 use Rattle.migration_program.specs.Programs.{Follows, IsFollowed, IsGiven, given, tool_call}
 use Rattle.migration_program.specs.Tools.{Course, Migrating, SettingUp, Work, is_reverting, moment}
@@ -50,26 +50,23 @@ use Rattle.machine_laws.specs.Runnable.{IsRunnable}
 use Rattle.machine_laws.specs.Standings.{Standing, free, standing_of}
 use Rattle.machine_laws.proofs.Journals.{Asking, IsRun, IsTogether, asking, calls_so, polls_so}
 use Rattle.machine_laws.proofs.Seated.{IsServed, own_waiting}
-use Rattle.runnable_laws.specs.Laws.{MigratablePlansAreRunnable}
 use Rattle.sentry_laws.specs.Turning.{IsGuarded, IsRenamed, IsTurned, IsWhole, WaitsSay}
 use Rattle.sentry_laws.proofs.Agreeing.{renames_follow}
 use Rattle.sentry_laws.proofs.Inductions.{all_guarded}
 use Rattle.sentry_laws.proofs.Serving.{exchanged, is_renamed}
 use Rattle.unaltered_laws.specs.Laws.{IsUnaltered}
-use Rattle.unaltered_laws.proofs.Away.{IsKnownAsked, about_asked, all_asked, tool_adds, unaltered_entry, unaltered_front}
+use Rattle.unaltered_laws.proofs.Away.{IsKnownAsked, about_asked, all_asked, tool_adds, unaltered_front}
 use Rattle.unaltered_laws.proofs.Runs.{unaltered_runs}
 use Rattle.follow_turns.specs.Laws.{IsMark}
 use Rattle.follow_turns.proofs.Follows.{kept_front, kept_run}
-use Rattle.follow_laws.specs.Laws.{FollowersAlter}
-use Rattle.marked_laws.specs.Laws.{MarkedJournalsAreSerial}
 use Rattle.waits_laws.specs.Laws.{WaitsAreTold}
 use Rattle.locker_turns.specs.Laws.{LockersAreTurned, RenamersAreTurned}
 use Rattle.inspector_turns.specs.Laws.{InspectorsAreTurned}
 use Rattle.batch_turns.specs.Laws.{AppliersAreTurned, CopiersAreTurned}
-use Rattle.rename_laws.specs.Laws.{ClientsAreTurned, IsRename, JournalsAreTurned, OperatorsAreTurned, RenamesAreSerial, RenamesComeAtTheMark, RenamesFindTheAltered}
+use Rattle.rename_laws.specs.Laws.{ClientsAreTurned, IsRename, JournalsAreTurned, OperatorsAreTurned, RenamesComeAtTheMark}
 
 -- an applier that may read next is reading
-reads : (step : ApplyStep) → appliers.is_reading step ≡ true → step ≡ Reading
+pub reads : (step : ApplyStep) → appliers.is_reading step ≡ true → step ≡ Reading
 reads Reading is = refl
 reads (Beginning batch) is = absurd cc
 reads (Applying batch done part) is = absurd cc
@@ -119,6 +116,14 @@ journals_turned laws plan journal runs serial kept off = all_turned laws plan ru
 all_three : (plan : PlanData) (some journal : List Entry) → Along (IsTurned plan) some journal → Along (IsFollowed plan) some journal → Along (WaitsSay plan) some journal → Along (λ before one. IsTurned plan before one × IsFollowed plan before one × WaitsSay plan before one) some journal
 all_three plan some [] turned followed said = tt
 all_three plan some (entry ∷ journal) turned followed said = ((turned.0, followed.0, said.0), all_three plan (some ++ entry ∷ []) journal turned.1 followed.1 said.1)
+
+-- *What the RENAME finds*: all of the table is in the new one, nobody else holds it, and the old table's name is free
+pub record Found (plan : PlanData) (journal : List Entry) (entry : Entry) : Type 0 where
+  pub work : Work
+  pub course : (moment plan journal).tool.course ≡ Migrating work
+  pub whole : IsWhole plan (moment plan journal).server entry.session work
+  pub renamed : IsRenamed plan (state_at plan journal) entry.session
+  pub asks : Asking plan journal Ren entry.asked
 
 module _ (exclusive_is_alone : ExclusiveIsAlone) (definitions_are_done : DefinitionsAreDone) (waits_are_told : WaitsAreTold) (journals_are_turned : JournalsAreTurned) (plan : PlanData) (journal : List Entry) (entry : Entry) (runs : IsRunnable plan) (serial : IsSerialPlan plan) (rename : IsRename plan journal entry) where
   abbrev now : State
@@ -285,35 +290,24 @@ module _ (exclusive_is_alone : ExclusiveIsAlone) (definitions_are_done : Definit
       (all_three plan [] journal (journals_are_turned plan journal runs serial before rename.unaltered) before.follows (waits_are_told plan journal before.faithful before.follows)) run.followed exchanges.0 uncut
       working.course (subst (λ (s : State). IsRenamed plan s entry.session) (sym together.server) renamed)
 
-  mark : IsMark plan journal
-  mark = record {
+  mark : is_reverting (moment plan journal).tool.reason ≡ false → IsMark plan journal
+  mark going = record {
     work = working.work;
     course = working.course;
-    going = rename.going;
+    going = going;
     unaltered = rename.unaltered;
     copied = whole.copied;
     idle = reads working.work.applier.step whole.idle;
     applied = subst (λ (s : State). events_of plan.table (drop working.work.applier.position s.log) ≡ []) together.server whole.applied;
   }
 
+  found : Found plan journal entry
+  found = record { work = working.work; course = working.course; whole = whole; renamed = renamed; asks = asks_now }
+
 -- *Renames come at the mark*
 pub renames_marked : ExclusiveIsAlone → DefinitionsAreDone → WaitsAreTold → JournalsAreTurned → RenamesComeAtTheMark
-renames_marked alone done told turned plan journal entry runs serial rename = mark alone done told turned plan journal entry runs serial rename
+renames_marked alone done told turned plan journal entry runs serial rename going = mark alone done told turned plan journal entry runs serial rename going
 
--- *Renames find the altered table*
-pub renames_altered : MigratablePlansAreRunnable → FollowersAlter → RenamesComeAtTheMark → RenamesFindTheAltered
-renames_altered runnable followers_alter marked plan is journal entry worded serial rename =
-    followers_alter plan is worded serial journal (kept_front plan journal (entry ∷ []) rename.kept) (marked plan journal entry (runnable plan is worded) serial rename)
-
--- until then no turn did the RENAME
-none_marked : (plan : PlanData) (before journal : List Entry) → IsUnaltered plan (before ++ journal) → Along (λ some one. list_any is_alter (entry_adds plan some one) ≡ true → IsMark plan some) before journal
-none_marked plan some [] off = tt
-none_marked plan some (entry ∷ journal) off =
-    let later : IsUnaltered plan ((some ++ entry ∷ []) ++ journal) = subst (IsUnaltered plan) (sym (append_assoc some (entry ∷ []) journal)) off in
-    (λ alters. absurd (true≢false (sym alters ∙ unaltered_entry plan some entry (unaltered_front plan (some ++ entry ∷ []) journal later))), none_marked plan (some ++ entry ∷ []) journal later)
-
--- *Renames are serial*
-pub renames_serial : MigratablePlansAreRunnable → MarkedJournalsAreSerial → RenamesComeAtTheMark → RenamesAreSerial
-renames_serial runnable marked_serial marked plan is journal entry worded serial rename =
-    marked_serial plan is worded serial (journal ++ entry ∷ []) rename.kept
-    (Along-more (λ some one. list_any is_alter (entry_adds plan some one) ≡ true → IsMark plan some) [] journal entry (none_marked plan [] journal rename.unaltered) (λ alters. marked plan journal entry (runnable plan is worded) serial rename))
+-- whatever is reverted
+pub renames_found : ExclusiveIsAlone → DefinitionsAreDone → WaitsAreTold → JournalsAreTurned → (plan : PlanData) (journal : List Entry) (entry : Entry) → IsRunnable plan → IsSerialPlan plan → IsRename plan journal entry → Found plan journal entry
+renames_found alone done told turned plan journal entry runs serial rename = found alone done told turned plan journal entry runs serial rename

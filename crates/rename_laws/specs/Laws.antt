@@ -1,22 +1,16 @@
--- The RENAME that is done finds the altered table, by the sentry relation.
+-- Each turn is a turn of the cut-over, so the RENAME that is done comes at the mark, by the sentry relation.
 use Rattle.std.specs.Prelude.{◌≡◌, true, false, List, [], ◌∷◌, ◌++◌}
 use Rattle.std.specs.List.{list_any}
 use Rattle.plain_server.specs.Along.{Along}
 use Rattle.script_text.specs.declared.actor.Actor.TheVariants.{Op}
 use Rattle.plain_server.specs.Entries.{is_client}
 use Rattle.plain_server.specs.declared.entry.Entry.{Entry}
-use Rattle.plan_words.specs.Migratable.{IsMigratable}
 use Rattle.plan_words.specs.PlanData.{PlanData}
 use Rattle.journal_words.specs.Histories.{entry_adds, is_alter}
-use Rattle.journal_words.specs.Journals.{state_at}
-use Rattle.journal_words.specs.Serials.{IsSerial}
 use Rattle.migration_program.specs.Tools.{is_reverting, moment}
 use Rattle.history_laws.specs.Plans.{IsSerialPlan}
-use Rattle.ghost_laws.specs.Copies.{IsAltered}
-use Rattle.planning_laws.specs.Laws.{migration_of}
 use Rattle.run_laws.specs.Kept.{IsKept}
 use Rattle.machine_laws.specs.Runnable.{IsRunnable}
-use Rattle.runnable_laws.specs.Laws.{IsWorded}
 use Rattle.sentry_laws.specs.Turning.{IsTurned}
 use Rattle.unaltered_laws.specs.Laws.{IsUnaltered}
 use Rattle.follow_turns.specs.Laws.{IsMark}
@@ -33,23 +27,12 @@ OperatorsAreTurned = (plan : PlanData) (journal : List Entry) (entry : Entry) �
 abbrev pub JournalsAreTurned : Type 0
 JournalsAreTurned = (plan : PlanData) (journal : List Entry) → IsRunnable plan → IsSerialPlan plan → IsKept plan journal → IsUnaltered plan journal → Along (IsTurned plan) [] journal
 
--- *A rename*: the turn behind a journal that is kept and unaltered, and in which nothing is reverted, does the RENAME of the migrated
--- table
+-- *A rename*: the turn behind a journal that is kept and unaltered does the RENAME of the migrated table
 pub record IsRename (plan : PlanData) (journal : List Entry) (entry : Entry) : Type 0 where
   pub kept : IsKept plan (journal ++ entry ∷ [])
   pub unaltered : IsUnaltered plan journal
-  pub going : is_reverting (moment plan journal).tool.reason ≡ false
   pub alters : list_any is_alter (entry_adds plan journal entry) ≡ true
 
--- *Renames come at the mark*: all is copied and applied, and no batch is open.
+-- *Renames come at the mark* where nothing is reverted: all is copied and applied, and no batch is open.
 abbrev pub RenamesComeAtTheMark : Type 0
-RenamesComeAtTheMark = (plan : PlanData) (journal : List Entry) (entry : Entry) → IsRunnable plan → IsSerialPlan plan → IsRename plan journal entry → IsMark plan journal
-
--- *Renames find the altered table*: where the RENAME is done, the new table is the altered one.
-abbrev pub RenamesFindTheAltered : Type 0
-RenamesFindTheAltered =
-    (plan : PlanData) (is : IsMigratable plan) (journal : List Entry) (entry : Entry) → IsWorded plan → IsSerialPlan plan → IsRename plan journal entry → IsAltered (migration_of is.table.schema is.new) (state_at plan journal).tables
-
--- *Renames are serial*: the journal that ends with the RENAME has a serial history, which ends with the ALTER.
-abbrev pub RenamesAreSerial : Type 0
-RenamesAreSerial = (plan : PlanData) → IsMigratable plan → (journal : List Entry) (entry : Entry) → IsWorded plan → IsSerialPlan plan → IsRename plan journal entry → IsSerial plan (journal ++ entry ∷ [])
+RenamesComeAtTheMark = (plan : PlanData) (journal : List Entry) (entry : Entry) → IsRunnable plan → IsSerialPlan plan → IsRename plan journal entry → is_reverting (moment plan journal).tool.reason ≡ false → IsMark plan journal

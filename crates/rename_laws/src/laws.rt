@@ -1,13 +1,10 @@
 //! The laws: each function's contract is one.
 
-ghost use Rattle.rename_laws.specs.Laws.{ClientsAreTurned, JournalsAreTurned, OperatorsAreTurned, RenamesAreSerial, RenamesComeAtTheMark, RenamesFindTheAltered};
+ghost use Rattle.rename_laws.specs.Laws.{ClientsAreTurned, JournalsAreTurned, OperatorsAreTurned, RenamesComeAtTheMark};
 
 use batch_turns::laws::{appliers_are_turned, copiers_are_turned};
-use follow_laws::laws::followers_alter;
 use inspector_turns::laws::inspectors_are_turned;
 use locker_turns::laws::{lockers_are_turned, renamers_are_turned};
-use marked_laws::laws::marked_journals_are_serial;
-use runnable_laws::laws::migratable_plans_are_runnable;
 use server_laws::laws::{definitions_are_done, entries_are_turns, exclusive_is_alone};
 use waits_laws::laws::waits_are_told;
 
@@ -38,7 +35,7 @@ pub fn journals_are_turned()
     appliers_are_turned();
 }
 
-/// The RENAME comes at the mark.
+/// Where nothing is reverted the RENAME comes at the mark.
 pub fn renames_come_at_the_mark()
     ensures { RenamesComeAtTheMark }
 {
@@ -46,22 +43,4 @@ pub fn renames_come_at_the_mark()
     exclusive_is_alone();
     definitions_are_done();
     waits_are_told();
-}
-
-/// So it finds the altered table.
-pub fn renames_find_the_altered()
-    ensures { RenamesFindTheAltered }
-{
-    migratable_plans_are_runnable();
-    followers_alter();
-    renames_come_at_the_mark();
-}
-
-/// And the history that it ends is serial.
-pub fn renames_are_serial()
-    ensures { RenamesAreSerial }
-{
-    migratable_plans_are_runnable();
-    marked_journals_are_serial();
-    renames_come_at_the_mark();
 }

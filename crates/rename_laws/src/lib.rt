@@ -1,4 +1,4 @@
-//! By the sentry relation the RENAME comes at the mark, where the new table is the altered one.
+//! Each turn is a turn of the cut-over, so that by the sentry relation the RENAME comes at the mark.
 #![tactic(auto)]
 
 pub mod laws;

@@ -1,0 +1,5 @@
+pub mod Stays
+pub mod Frozen
+pub mod Begins
+pub mod Guarded
+pub mod Reverted

@@ -1,0 +1,35 @@
+//! The laws: each function's contract is one.
+
+ghost use Rattle.revert_laws.specs.Laws.{KeptJournalsAreSerial, RenamesFindTheAltered};
+
+use follow_laws::laws::followers_alter;
+use gho_values::laws::stored_values_store_again;
+use marked_laws::laws::marked_journals_are_serial;
+use once_laws::laws::renames_come_once;
+use rename_laws::laws::journals_are_turned;
+use runnable_laws::laws::migratable_plans_are_runnable;
+use server_laws::laws::{definitions_are_done, exclusive_is_alone};
+use waits_laws::laws::waits_are_told;
+
+/// Where the RENAME is done the new table is the altered one, whether or not all is reverted.
+pub fn renames_find_the_altered()
+    ensures { RenamesFindTheAltered }
+{
+    stored_values_store_again();
+    migratable_plans_are_runnable();
+    followers_alter();
+    journals_are_turned();
+    exclusive_is_alone();
+    definitions_are_done();
+    waits_are_told();
+}
+
+/// So the history of a whole journal is serial, with one ALTER at most.
+pub fn kept_journals_are_serial()
+    ensures { KeptJournalsAreSerial }
+{
+    migratable_plans_are_runnable();
+    marked_journals_are_serial();
+    renames_come_once();
+    renames_find_the_altered();
+}
