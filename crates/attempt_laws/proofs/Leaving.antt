@@ -6,12 +6,12 @@ use Rattle.std.specs.Str.{bytes_eq}
 use Rattle.std.proofs.lemmas.Bool.{true≢false}
 use Rattle.gho_schema.specs.declared.schema.Schema.{Schema}
 use Rattle.row_store.specs.Databases.{TableRows, Database, find_table, has_table, is_named, name_table, with_name, without_table, rename_tables}
-use Rattle.row_store.specs.declared.renaming.NotRenamed.{NotRenamed}
 use Rattle.script_text.specs.declared.actor.Side.{Side}
 use Rattle.script_text.specs.declared.actor.Side.TheVariants.{Before, After}
 use Rattle.plain_server.specs.declared.answer.Answer.{Answer}
 use Rattle.plain_server.specs.declared.answer.Answer.TheVariants as answers
 use Rattle.plain_server.specs.declared.entry.Asked.{Asked}
+use Rattle.plain_server.specs.declared.entry.Asked.TheVariants.{Call, Poll, Command, Cut}
 use Rattle.plain_server.specs.declared.entry.Entry.{Entry}
 use Rattle.plain_server.specs.declared.request.Request.{Request}
 use Rattle.plain_server.specs.declared.request.Request.TheVariants as requests
@@ -25,10 +25,12 @@ use Rattle.plain_server.specs.Showing.{tables_shown}
 use Rattle.plain_server.specs.States.{State, session_of, is_in_transaction, view, waiting_of, tables_named}
 use Rattle.plan_words.specs.PlanData.{PlanData}
 use Rattle.changelog_table.specs.ToolNames.{ghost_name, old_name}
+use Rattle.journal_words.specs.Histories.{told_in}
 use Rattle.journal_words.specs.Journals.{opens, state_at}
 use Rattle.cutover_core.specs.Attempts.{exchange}
 use Rattle.history_laws.specs.Holdings.{face_in}
-use Rattle.history_laws.specs.Turns.{request_of}
+use Rattle.history_laws.specs.Turns.{inner, missed_at, request_of}
+use Rattle.history_laws.proofs.Joined.{told_missed}
 use Rattle.history_laws.proofs.Journals.{opened_waits}
 use Rattle.history_laws.proofs.Moves.{renamed_other}
 use Rattle.statement_laws.proofs.Tests.{same_bytes, turned_bytes}
@@ -152,7 +154,7 @@ show_done found number = at (is_outside (session_of number found.sessions) reque
   at false = refl
 
 -- the two pairs, one after the other
-pub exchange_does : (table : List ℕ) (found : State) (number : ℕ) → Has (ExchangeLeaves table found.tables) (does (defined (renamed_or (rename_tables (record { old = table; new = old_name table } ∷ record { old = ghost_name table; new = table } ∷ []) found.tables))) found number)
+exchange_does : (table : List ℕ) (found : State) (number : ℕ) → Has (ExchangeLeaves table found.tables) (does (defined (renamed_or (rename_tables (record { old = table; new = old_name table } ∷ record { old = ghost_name table; new = table } ∷ []) found.tables))) found number)
 unfolding rename_tables
 exchange_does table found number = first (has_table (old_name table) found.tables) refl (has_table table found.tables) refl where
   moved : Database
@@ -235,27 +237,66 @@ module _ (plan : PlanData) (journal : List Entry) (entry : Entry) (known : IsKno
   same_open : open_now.tables ≡ before
   same_open = opened_tables plan journal entry
 
-  own_left : (P : Answer → Database → Type 0) (request : Request) → IsAbout request (standing_of plan journal entry.actor) entry.asked → HoldsWaiting P before
-      → ((found : State) → IsFoundBy found open_now → Has P (done found entry.session request)) → Left P before entry.answer after
-  unfolding loses
-  own_left P request about undone each = by entry.side refl where
+  served_left : (P : Answer → Database → Type 0) (request : Request) → IsAbout request (standing_of plan journal entry.actor) entry.asked → HoldsWaiting P before → ((found : State) → IsFoundBy found open_now → Has P (done found entry.session request))
+      → Has P (serves open_now entry.session entry.asked)
+  served_left P request about undone each = by about where
     undone_open : HoldsWaiting P open_now.tables
     undone_open = subst (HoldsWaiting P) (sym same_open) undone
 
-    served_left : IsAbout request (standing_of plan journal entry.actor) entry.asked → Has P (serves open_now entry.session entry.asked)
-    served_left (is_called same none) = subst (λ (a : Asked). Has P (serves open_now entry.session a)) (sym same) (called_leaves P open_now entry.session request undone_open each)
-    served_left (is_polled same some) =
+    by : IsAbout request (standing_of plan journal entry.actor) entry.asked → Has P (serves open_now entry.session entry.asked)
+    by (is_called same none) = subst (λ (a : Asked). Has P (serves open_now entry.session a)) (sym same) (called_leaves P open_now entry.session request undone_open each)
+    by (is_polled same some) =
         let waits : request_of (waiting_of entry.session open_now.waiting) ≡ Some request =
         ap (λ (w : List Waiting). request_of (waiting_of entry.session w)) (opened_waits (is_command entry.asked) (not (is_client entry.actor)) entry.session (state_at plan journal)) ∙ own_waiting plan journal entry known served (ap is_command same) ∙ some in
         subst (λ (a : Asked). Has P (serves open_now entry.session a)) (sym same) (polled_leaves P open_now entry.session request undone_open each waits)
 
-    behind : (side : Option Side) → entry.side ≡ side → after ≡ (leaves side open_now entry.session entry.asked).tables
-    behind side at = ap (λ (s : State). s.tables) (state_more plan journal entry ∙ ap (λ (o : Option Side). leaves o open_now entry.session entry.asked) at)
+  behind : (side : Option Side) → entry.side ≡ side → after ≡ (leaves side open_now entry.session entry.asked).tables
+  behind side at = ap (λ (s : State). s.tables) (state_more plan journal entry ∙ ap (λ (o : Option Side). leaves o open_now entry.session entry.asked) at)
+
+  own_left : (P : Answer → Database → Type 0) (request : Request) → IsAbout request (standing_of plan journal entry.actor) entry.asked → HoldsWaiting P before
+      → ((found : State) → IsFoundBy found open_now → Has P (done found entry.session request)) → Left P before entry.answer after
+  unfolding loses
+  own_left P request about undone each = by entry.side refl where
+    served_so : Has P (serves open_now entry.session entry.asked)
+    served_so = served_left P request about undone each
 
     by : (side : Option Side) → entry.side ≡ side → Left P before entry.answer after
-    by None at = heard (subst (λ (a : Answer). P a after) (own_given plan journal entry known served at) (subst (P (serves open_now entry.session entry.asked).answer) (sym (behind None at)) (served_left about)))
+    by None at = heard (subst (λ (a : Answer). P a after) (own_given plan journal entry known served at) (subst (P (serves open_now entry.session entry.asked).answer) (sym (behind None at)) served_so))
     by (Some Before) at = lost (own_missed plan journal entry known served Before at) (λ name. ap (schema_of name) (behind (Some Before) at ∙ same_open))
-    by (Some After) at = missed (serves open_now entry.session entry.asked).answer (own_missed plan journal entry known served After at) (subst (P (serves open_now entry.session entry.asked).answer) (sym (behind (Some After) at)) (served_left about))
+    by (Some After) at = missed (serves open_now entry.session entry.asked).answer (own_missed plan journal entry known served After at) (subst (P (serves open_now entry.session entry.asked).answer) (sym (behind (Some After) at)) served_so)
+
+  -- ... as the entry tells, also where its answer was missed
+  told_left : (P : Answer → Database → Type 0) (request : Request) → IsAbout request (standing_of plan journal entry.actor) entry.asked → HoldsWaiting P before → ((found : State) → IsFoundBy found open_now → Has P (done found entry.session request))
+      → (told : Answer) → told_in entry.asked entry.side entry.answer entry.missed ≡ Some told → P told after
+  unfolding loses
+  told_left P request about undone each told tells = by entry.asked refl entry.side refl tells where
+    served_so : Has P (serves open_now entry.session entry.asked)
+    served_so = served_left P request about undone each
+
+    same_answer : (one other : Answer) → Some one ≡ Some other → one ≡ other
+    same_answer one other same = cc
+
+    heard_so : entry.side ≡ None → Some entry.answer ≡ Some told → P told after
+    heard_so at is = subst (λ (a : Answer). P a after) (own_given plan journal entry known served at ∙ same_answer entry.answer told is) (subst (P (serves open_now entry.session entry.asked).answer) (sym (behind None at)) served_so)
+
+    missed_so : entry.side ≡ Some After → entry.missed ≡ Some told → P told after
+    missed_so at is =
+        subst (λ (a : Answer). P a after)
+        (same_answer (serves open_now entry.session entry.asked).answer told
+        (sym (told_missed (state_at plan journal) entry served.answered ∙ ap (λ (side : Option Side). missed_at side (inner (state_at plan journal) entry)) at) ∙ is))
+        (subst (P (serves open_now entry.session entry.asked).answer) (sym (behind (Some After) at)) served_so)
+
+    by : (asked : Asked) → entry.asked ≡ asked → (side : Option Side) → entry.side ≡ side → told_in asked side entry.answer entry.missed ≡ Some told → P told after
+    by Cut asks side at tells = absurd cc
+    by (Call called) asks None at tells = heard_so at tells
+    by (Call called) asks (Some Before) at tells = absurd cc
+    by (Call called) asks (Some After) at tells = missed_so at tells
+    by Poll asks None at tells = heard_so at tells
+    by Poll asks (Some Before) at tells = absurd cc
+    by Poll asks (Some After) at tells = missed_so at tells
+    by (Command word) asks None at tells = heard_so at tells
+    by (Command word) asks (Some Before) at tells = absurd cc
+    by (Command word) asks (Some After) at tells = missed_so at tells
 
   called_so : (request : Request) → IsAbout request (standing_of plan journal entry.actor) entry.asked → is_command entry.asked ≡ false
   called_so request (is_called same none) = ap is_command same
@@ -284,10 +325,16 @@ module _ (plan : PlanData) (journal : List Entry) (entry : Entry) (known : IsKno
       (λ found is. subst (λ (t : Database). Has (DropLeaves name t) (done found entry.session (requests.Drop name))) (found_tables found is) (drop_done name found entry.session))
 
   -- *The RENAME*
-  pub exchange_left : (table : List ℕ) → IsAbout (exchange table) (standing_of plan journal entry.actor) entry.asked → (standing_of plan journal entry.actor).locked ≡ [] → Left (ExchangeLeaves table before) before entry.answer after
-  exchange_left table about unlocked =
-      own_left (ExchangeLeaves table before) (exchange table) about (record { waits = λ by name. refl; timed = λ waited name. refl })
-      (λ found is. subst (λ (t : Database). Has (ExchangeLeaves table t) (done found entry.session (exchange table))) (found_tables found is) (exchange_done table found entry.session (inside (exchange table) about unlocked found is)))
+  module _ (table : List ℕ) (about : IsAbout (exchange table) (standing_of plan journal entry.actor) entry.asked) (unlocked : (standing_of plan journal entry.actor).locked ≡ []) where
+    exchange_each : (found : State) → IsFoundBy found open_now → Has (ExchangeLeaves table before) (done found entry.session (exchange table))
+    exchange_each found is = subst (λ (t : Database). Has (ExchangeLeaves table t) (done found entry.session (exchange table))) (found_tables found is) (exchange_done table found entry.session (inside (exchange table) about unlocked found is))
+
+    pub exchange_left : Left (ExchangeLeaves table before) before entry.answer after
+    exchange_left = own_left (ExchangeLeaves table before) (exchange table) about (record { waits = λ by name. refl; timed = λ waited name. refl }) exchange_each
+
+    -- where it was done the new table's name is free
+    pub exchange_told : (count : ℕ) → told_in entry.asked entry.side entry.answer entry.missed ≡ Some (answers.Ok count) → schema_of (ghost_name table) after ≡ None
+    exchange_told count tells = told_left (ExchangeLeaves table before) (exchange table) about (record { waits = λ by name. refl; timed = λ waited name. refl }) exchange_each (answers.Ok count) tells
 
   -- *SHOW TABLES*
   pub show_left : IsAbout requests.ShowTables (standing_of plan journal entry.actor) entry.asked → Left (ShowLeaves before) before entry.answer after

@@ -9,7 +9,7 @@ use Rattle.script_text.specs.declared.actor.Actor.TheVariants.{Op, Insp, Copy, A
 use Rattle.script_text.specs.declared.operator.OperatorWord.{OperatorWord}
 use Rattle.script_text.specs.declared.operator.OperatorWord.TheVariants.{ChunkSize}
 use Rattle.row_store.specs.Databases.{Database}
-use Rattle.plain_server.specs.Along.{Along-keeps}
+use Rattle.plain_server.specs.Along.{Along, Along-keeps}
 use Rattle.plain_server.specs.declared.answer.Answer.{Answer}
 use Rattle.plain_server.specs.declared.answer.Answer.TheVariants as answers
 use Rattle.plain_server.specs.declared.entry.Asked.{Asked}
@@ -37,7 +37,7 @@ use Rattle.cutover_core.specs.declared.cutover.Stage.TheVariants.{Guarding, Lock
 use Rattle.cutover_core.specs.Attempts as attempts
 use Rattle.cutover_core.specs.Attempts.{exchange, clears, first_name, is_free}
 use Rattle.cutover_core.specs.CutOvers as cutovers
-use Rattle.cutover_core.specs.CutOvers.{is_bad, is_wait, sentry_alone, applier_turn, reverted}
+use Rattle.cutover_core.specs.CutOvers.{is_wait, applier_turn, reverted}
 use Rattle.migration_program.specs.Programs.{tool_call, given, IsGiven, Follows}
 use Rattle.migration_program.specs.Setups.{Setup, Listing, Clearing, MakingLog, MakingGhost, Marking, Reaching, Ready, setup_call, setup_step}
 use Rattle.migration_program.specs.Tools.{Work, Course, SettingUp, Migrating, Tool, Moment, stopped, is_reverting, course_of, moment}
@@ -132,17 +132,36 @@ module _ (plan : PlanData) (journal : List Entry) (entry : Entry) (is : IsStandi
 
   -- A TURN ABOUT A REQUEST
 
-  about_own : (actor : Actor) (request : Request) → entry.actor ≡ actor → IsAbout request (has actor) entry.asked → IsAbout request (has entry.actor) entry.asked
+  pub about_own : (actor : Actor) (request : Request) → entry.actor ≡ actor → IsAbout request (has actor) entry.asked → IsAbout request (has entry.actor) entry.asked
   about_own actor request same about = subst (λ (a : Actor). IsAbout request (has a) entry.asked) (sym same) about
 
   stays : (name : List ℕ) (request : Request) → IsAbout request (has entry.actor) entry.asked → keeps_table name request ≡ true → schema_of name after ≡ schema_of name before
   stays name request about keeps = schema_stays plan journal entry served (own_waiting plan journal entry known served) name request about keeps
 
-  quiet_stays : (request : Request) → IsAbout request (has entry.actor) entry.asked → is_quiet request ≡ true → AllStay before after
+  pub quiet_stays : (request : Request) → IsAbout request (has entry.actor) entry.asked → is_quiet request ≡ true → AllStay before after
   quiet_stays request about quiet name = stays name request about (quiet_keeps name request quiet)
 
-  rest : may_lose entry.asked ≡ false → AllStay before after
+  pub rest : may_lose entry.asked ≡ false → AllStay before after
   rest nothing name = schema_rests plan journal entry served (own_waiting plan journal entry known served) name nothing
+
+  -- the tables are listed by SHOW TABLES, as they stand
+  pub shows : (request : Request) → IsAbout request (has entry.actor) entry.asked → (tables : List TableName) → entry.answer ≡ answers.Tables tables → request ≡ requests.ShowTables
+  shows request about tables lists = by request (ap (answers_to request) (sym lists) ∙ own_fits plan journal entry known served request about) where
+    by : (request : Request) → answers_to request (answers.Tables tables) ≡ true → request ≡ requests.ShowTables
+    by requests.ShowTables fits = refl
+    by request fits = absurd cc
+
+  pub listed : (request : Request) → IsAbout request (has entry.actor) entry.asked → (tables : List TableName) → entry.answer ≡ answers.Tables tables → tables ≡ tables_shown before
+  listed request about tables lists = by (show_left plan journal entry known served (subst (λ (r : Request). IsAbout r (has entry.actor) entry.asked) (shows request about tables lists) about)) where
+    not_lost : entry.answer ≡ answers.Lost → ⊥
+    not_lost is_lost = no (sym lists ∙ is_lost) where
+      no : answers.Tables tables ≡ answers.Lost → ⊥
+      no both = cc
+
+    by : Left (ShowLeaves before) before entry.answer after → tables ≡ tables_shown before
+    by (heard shown) = subst (λ (a : Answer). ShowLeaves before a after) lists shown
+    by (lost is_lost stay) = absurd (not_lost is_lost)
+    by (missed inner is_lost shown) = absurd (not_lost is_lost)
 
   inspector_same : (actor : Actor) → entry.actor ≡ actor → same_actor actor Insp ≡ false → now_has Insp ≡ has Insp
   inspector_same actor same differ = others_stand plan journal entry known served Insp (ap (λ (a : Actor). same_actor a Insp) same ∙ differ)
@@ -216,25 +235,8 @@ module _ (plan : PlanData) (journal : List Entry) (entry : Entry) (is : IsStandi
     leaves = record {
       keeps = λ name keeps. stays name request about keeps;
       drops = λ drops. drop_left plan journal entry known served (old_name plan.table) (subst (λ (r : Request). IsAbout r (has entry.actor) entry.asked) drops about);
-      lists = λ tables lists. listed tables lists;
-    } where
-      shows : (tables : List TableName) → entry.answer ≡ answers.Tables tables → request ≡ requests.ShowTables
-      shows tables lists = by request (ap (answers_to request) (sym lists) ∙ own_fits plan journal entry known served request about) where
-        by : (request : Request) → answers_to request (answers.Tables tables) ≡ true → request ≡ requests.ShowTables
-        by requests.ShowTables fits = refl
-        by request fits = absurd cc
-
-      listed : (tables : List TableName) → entry.answer ≡ answers.Tables tables → tables ≡ tables_shown before
-      listed tables lists = by (show_left plan journal entry known served (subst (λ (r : Request). IsAbout r (has entry.actor) entry.asked) (shows tables lists) about)) where
-        not_lost : entry.answer ≡ answers.Lost → ⊥
-        not_lost is_lost = no (sym lists ∙ is_lost) where
-          no : answers.Tables tables ≡ answers.Lost → ⊥
-          no both = cc
-
-        by : Left (ShowLeaves before) before entry.answer after → tables ≡ tables_shown before
-        by (heard shown) = subst (λ (a : Answer). ShowLeaves before a after) lists shown
-        by (lost is_lost stay) = absurd (not_lost is_lost)
-        by (missed inner is_lost shown) = absurd (not_lost is_lost)
+      lists = λ tables lists. listed request about tables lists;
+    }
 
     ready_with : (next : Setup) → setup_step plan.table setup entry.answer ≡ next → IfReady next
     ready_with (Ready position range) is_ready = record {
@@ -291,7 +293,7 @@ module _ (plan : PlanData) (journal : List Entry) (entry : Entry) (is : IsStandi
     -- THE INSPECTOR
 
     -- what it calls
-    inspector_calls : (request : Request) → attempts.next Inspector work.cutover ≡ Some request → InspectorAt plan work.cutover.phase request
+    pub inspector_calls : (request : Request) → attempts.next Inspector work.cutover ≡ Some request → InspectorAt plan work.cutover.phase request
     unfolding attempts.next
     inspector_calls request call = by work.cutover.phase call at.left where
       ends : (b : Bool) (clearing : Cleared) → cond b (clears work.cutover.table clearing) None ≡ Some request → LeftAt (Ending clearing) → InspectorAt plan (Ending clearing) request
@@ -347,28 +349,9 @@ module _ (plan : PlanData) (journal : List Entry) (entry : Entry) (is : IsStandi
             is_waiting (answers.TimedOut waited) some = absurd cc
             is_waiting answer some = absurd cc
 
-      -- the listing
-      shows : (tables : List TableName) → entry.answer ≡ answers.Tables tables → request ≡ requests.ShowTables
-      shows tables lists = by request (ap (answers_to request) (sym lists) ∙ own_fits plan journal entry known served request about) where
-        by : (request : Request) → answers_to request (answers.Tables tables) ≡ true → request ≡ requests.ShowTables
-        by requests.ShowTables fits = refl
-        by request fits = absurd cc
-
-      listed : (tables : List TableName) → entry.answer ≡ answers.Tables tables → tables ≡ tables_shown before
-      listed tables lists = by (show_left plan journal entry known served (subst (λ (r : Request). IsAbout r (has entry.actor) entry.asked) (shows tables lists) about)) where
-        not_lost : entry.answer ≡ answers.Lost → ⊥
-        not_lost is_lost = no (sym lists ∙ is_lost) where
-          no : answers.Tables tables ≡ answers.Lost → ⊥
-          no both = cc
-
-        by : Left (ShowLeaves before) before entry.answer after → tables ≡ tables_shown before
-        by (heard shown) = subst (λ (a : Answer). ShowLeaves before a after) lists shown
-        by (lost is_lost stay) = absurd (not_lost is_lost)
-        by (missed inner is_lost shown) = absurd (not_lost is_lost)
-
       lists_at : (phase : Phase) (answer : Answer) → entry.answer ≡ answer → ((tables : List TableName) → phase ≡ Ending Looking → answer ≡ answers.Tables tables → work.cutover.renamer_waits ≡ false)
           → ListsWell plan before after (has Insp).waits (now_has Insp).waits work.cutover.hold work.cutover.renamer_waits work.cutover.is_asked phase answer
-      lists_at (Ending Looking) (answers.Tables tables) is_so frees = (listed tables is_so, frees tables refl refl)
+      lists_at (Ending Looking) (answers.Tables tables) is_so frees = (listed request about tables is_so, frees tables refl refl)
       lists_at (Ending Looking) answer is_so frees = tt
       lists_at (Ending (Drops left)) answer is_so frees = tt
       lists_at Resting answer is_so frees = tt
@@ -391,7 +374,7 @@ module _ (plan : PlanData) (journal : List Entry) (entry : Entry) (is : IsStandi
     inspector_turn same (polls_so request asks some) tries =
         inspector_heard request (about_own Insp request same (is_polled asks some)) same (at.inspector request some) (λ tables looking lists. absurd (never tables lists)) tries where
           never : (tables : List TableName) → entry.answer ≡ answers.Tables tables → ⊥
-          never tables lists = true≢false (sym stands.inspector.waits ∙ ap (waits_so inspector_waits) (some ∙ ap Some (shows request (about_own Insp request same (is_polled asks some)) same tables lists)))
+          never tables lists = true≢false (sym stands.inspector.waits ∙ ap (waits_so inspector_waits) (some ∙ ap Some (shows request (about_own Insp request same (is_polled asks some)) tables lists)))
 
     -- THE LOCKER
 
@@ -424,7 +407,7 @@ module _ (plan : PlanData) (journal : List Entry) (entry : Entry) (is : IsStandi
       unlocked_in : (hold : Hold) → work.cutover.hold ≡ hold → (held work.cutover.table hold).locked ≡ [] → (has entry.actor).locked ≡ []
       unlocked_in hold is_hold none = ap (λ (s : Standing). s.locked) has_locked ∙ ap (λ (h : Hold). (held work.cutover.table h).locked) is_hold ∙ none
 
-      locker_leaves : LockerAsks plan.table work.cutover.hold work.cutover.phase request → LockerLeaves plan before after request entry.answer
+      pub locker_leaves : LockerAsks plan.table work.cutover.hold work.cutover.phase request → LockerLeaves plan before after request entry.answer
       locker_leaves asks = by work.cutover.hold work.cutover.phase refl asks where
         by : (hold : Hold) (phase : Phase) → work.cutover.hold ≡ hold → LockerAsks plan.table hold phase request → LockerLeaves plan before after request entry.answer
         by Nothing Resting is_hold asks = leaves_create asks (unlocked_in Nothing is_hold refl)
@@ -470,11 +453,11 @@ module _ (plan : PlanData) (journal : List Entry) (entry : Entry) (is : IsStandi
       by true some = refl
       by false some = absurd cc
 
-    asks_at : Asking plan journal Ren entry.asked → AsksAt work.cutover.phase work.cutover.renamer_waits
+    pub asks_at : Asking plan journal Ren entry.asked → AsksAt work.cutover.phase work.cutover.renamer_waits
     asks_at (calls_so request asks idle call) = inl (renamer_drained request (ap (λ (c : Course). tool_call plan now.server journal now.tool c Ren) (sym eq) ∙ call))
     asks_at (polls_so request asks some) = inr (renames_on request some)
 
-    renamer_unlocked : (has Ren).locked ≡ []
+    pub renamer_unlocked : (has Ren).locked ≡ []
     renamer_unlocked = ap (λ (s : Standing). s.locked) stands.renamer ∙ by work.cutover.renamer_waits where
       by : (b : Bool) → (renaming work.cutover.table b).locked ≡ []
       by true = refl
@@ -554,14 +537,14 @@ module _ (plan : PlanData) (journal : List Entry) (entry : Entry) (is : IsStandi
 
   -- EVERY ACTOR
 
-  no_asking : (actor : Actor) → has actor ≡ free → ((request : Request) → tool_call plan now.server journal now.tool now.tool.course actor ≡ Some request → ⊥) → Asking plan journal actor entry.asked → ⊥
+  pub no_asking : (actor : Actor) → has actor ≡ free → ((request : Request) → tool_call plan now.server journal now.tool now.tool.course actor ≡ Some request → ⊥) → Asking plan journal actor entry.asked → ⊥
   no_asking actor none no_call (calls_so request asks idle call) = no_call request call
   no_asking actor none no_call (polls_so request asks some) = none_some request (has actor).waits (ap (λ (s : Standing). s.waits) none) some
 
-  no_request : (request : Request) → None ≡ Some request → ⊥
+  pub no_request : (request : Request) → None ≡ Some request → ⊥
   no_request request both = cc
 
-  quiet_still : (actor : Actor) → entry.actor ≡ actor → may_define actor ≡ false → given plan journal actor ≡ Some entry.asked → (entry.asked ≡ Cut → ⊥) → ((word : OperatorWord) → entry.asked ≡ Command word → ⊥) → (course : Course) → now.tool.course ≡ course → same_actor actor Insp ≡ false
+  pub quiet_still : (actor : Actor) → entry.actor ≡ actor → may_define actor ≡ false → given plan journal actor ≡ Some entry.asked → (entry.asked ≡ Cut → ⊥) → ((word : OperatorWord) → entry.asked ≡ Command word → ⊥) → (course : Course) → now.tool.course ≡ course → same_actor actor Insp ≡ false
       → CourseAt plan after (now_has Insp).waits course
   quiet_still actor same none gives called commanded course eq differ =
       still course eq (quiet_stay plan journal entry is.tabled.all is.tabled.quiet run actor same none gives called commanded) (fewer_same (inspector_same actor same differ))
@@ -585,7 +568,7 @@ module _ (plan : PlanData) (journal : List Entry) (entry : Entry) (is : IsStandi
   heard_at (Client c) same gives called commanded (SettingUp setup tries) eq = quiet_still (Client c) same refl gives called commanded (SettingUp setup tries) eq refl
   heard_at (Client c) same gives called commanded (Migrating work) eq = quiet_still (Client c) same refl gives called commanded (Migrating work) eq refl
 
-  cut_stay : entry.asked ≡ Cut → AllStay before after
+  pub cut_stay : entry.asked ≡ Cut → AllStay before after
   cut_stay cut = rest (ap may_lose cut)
 
   -- a session that is lost waits with nothing more
@@ -650,10 +633,12 @@ standing_begins : (plan : PlanData) → IsFitting plan → TableStands plan → 
 unfolding moment
 standing_begins plan fit stands = record { tabled = tabled_begins plan fit stands; both = record { known = sessions_begin; living = living_begin plan }; course = tt }
 
+pub standing_along : (plan : PlanData) (journal : List Entry) → IsFitting plan → TableStands plan → Along (IsRun plan) [] journal → IsStanding plan journal
+standing_along plan journal fit stands runs = Along-keeps (IsRun plan) (IsStanding plan) (λ before entry run is. standing_more plan before entry is run) [] journal runs (standing_begins plan fit stands)
+
 pub all_standing : (plan : PlanData) (journal : List Entry) → IsFitting plan → TableStands plan → IsFaithful plan journal → Follows plan journal → IsStanding plan journal
 unfolding Follows
-all_standing plan journal fit stands faithful follows =
-    Along-keeps (IsRun plan) (IsStanding plan) (λ before entry run is. standing_more plan before entry is run) [] journal (all_runs plan [] journal faithful follows) (standing_begins plan fit stands)
+all_standing plan journal fit stands faithful follows = standing_along plan journal fit stands (all_runs plan [] journal faithful follows)
 
 -- *Attempts wait*
 pub all_wait : AttemptsWait

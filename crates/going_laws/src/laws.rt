@@ -2,8 +2,11 @@
 
 ghost use Rattle.going_laws.specs.Laws.{SomeoneGoes};
 
-/// While a run of a fitting plan, whose migrated table stands and whose scripts leave no transaction open, hasn't ended some
-/// actor is ready, unless an attempt is drained and nothing is left to be read.
+use server_laws::laws::entries_are_turns;
+
+/// While a run of a runnable and serial plan, whose scripts leave no transaction open, hasn't ended some actor is ready.
 pub fn someone_goes()
     ensures { SomeoneGoes }
-{}
+{
+    entries_are_turns();
+}

@@ -1,4 +1,4 @@
-//! While a run hasn't ended some actor is ready, whatever an attempt is answered: each function's contract is a law.
+//! While a run hasn't ended some actor is ready: each function's contract is a law.
 #![tactic(auto)]
 
 pub mod laws;
