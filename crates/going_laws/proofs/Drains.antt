@@ -51,7 +51,6 @@ use Rattle.sentry_laws.specs.Sentries.{IsDraining, WritesHint, scene, InspectorW
 use Rattle.sentry_laws.specs.Turning.{CourseTurn, IsTurned, last_session, WorkTurn, AskedTurn, InspectorSays}
 use Rattle.course_laws.proofs.CourseTurns.{Kept, UnfitKeeps, CopyKeeps, ApplyKeeps, SetupKeeps, CutKeeps, AnswerKeeps, ResizeKeeps, turn_kept, gives_asked}
 use Rattle.unaltered_laws.specs.Laws.{IsUnaltered}
-use Rattle.inspector_turns.specs.Laws.{IsUnhinted}
 use Rattle.inspector_turns.proofs.Inspectors.{inspectors_turned}
 use Rattle.follow_turns.proofs.Follows.{kept_front, kept_run}
 use Rattle.unaltered_laws.proofs.Away.{unaltered_front}
@@ -373,20 +372,10 @@ module _ (turns : EntriesAreTurns) (plan : PlanData) (runs : IsRunnable plan) (s
       below : last_hint t 0 (take 0 now.log) < work.cutover.attempts → 0 < work.cutover.attempts
       below less = omega (arith, less)
 
-    unhinted : IsUnhinted plan journal
-    unhinted other_work other_eq hinting count is_so = by other (subst (λ (w : Work). IsBegun (is_unhinted w.cutover.phase) w.cutover.attempts (last_hint t 0 (take count now.log))) (sym other) (knows.begun count)) where
-      other : other_work ≡ work
-      other = let one : Migrating other_work ≡ Migrating work = sym other_eq ∙ eq in cc
-
-      by : other_work ≡ work → IsBegun (is_unhinted other_work.cutover.phase) other_work.cutover.attempts (last_hint t 0 (take count now.log)) → ⊥
-      by one begun_so = above (subst (λ (p : Phase). IsBegun (is_unhinted p) other_work.cutover.attempts (last_hint t 0 (take count now.log))) hinting begun_so) where
-        above : last_hint t 0 (take count now.log) < other_work.cutover.attempts → ⊥
-        above less = omega (arith, less, is_so)
-
     writes : work.cutover.phase ≡ Attempting Hinting → (count : ℕ) → entry.answer ≡ answers.Ok count → WritesHint t work.cutover.attempts (scene (moment plan journal).server) (scene (moment plan more).server)
     writes hinting count told = by entry.asked refl uncut (subst (λ (c : Course). CourseTurn plan (moment plan journal).server (moment plan more).server (last_session journal Lock) (last_session journal Ren) c ((moment plan journal).tool.turns + 1) entry) eq turned.turn) where
       turned : IsTurned plan journal entry
-      turned = inspectors_turned turns plan journal entry same runs serial kept off unhinted
+      turned = inspectors_turned turns hints_known plan journal entry same runs serial kept off
 
       says : WorkTurn plan (moment plan journal).server (moment plan more).server (last_session journal Lock) (last_session journal Ren) work ((moment plan journal).tool.turns + 1) entry entry.actor (Some entry.answer) → WritesHint t work.cutover.attempts (scene (moment plan journal).server) (scene (moment plan more).server)
       says turn =
