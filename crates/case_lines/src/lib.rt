@@ -2,11 +2,13 @@
 //! line, the pieces of which inputs are made, and the run that says of which lines the answer is another.
 #![tactic(auto)]
 
+mod comparing;
 mod intervals;
 mod line;
 mod reading;
 mod running;
 
+pub use comparing::{are_same, say_difference, say_found, say_row};
 pub use intervals::{key_of, span_of};
 pub use line::Line;
 pub use reading::{

@@ -1,7 +1,6 @@
-//! Runs calls about events, keys, tables and databases over the lines of the files of the folder `data`.
+//! Runs calls about events, keys and tables over the lines of the files of the folder `data`.
 #![tactic(auto)]
 
-mod database_calls;
 mod events;
 mod keys;
 mod table_calls;
@@ -11,7 +10,7 @@ use gho_values::Text;
 use std::alloc::Global;
 use std::io;
 
-/// Calls about events, keys, tables and databases.
+/// Calls about events, keys and tables.
 struct StoreCalls;
 
 impl Calls for StoreCalls {
@@ -21,7 +20,6 @@ impl Calls for StoreCalls {
             "event" => events::decoded(alloc, input),
             "key" => keys::answer(alloc, call, input),
             "table" => table_calls::answers(alloc, input),
-            "database" => database_calls::answers(alloc, input),
             _ => Err(CallFault::Unread),
         }
     }

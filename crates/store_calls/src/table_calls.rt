@@ -2,7 +2,9 @@
 //! `in`, `in-by`, `rows`, `pages`, `len` and `copy`. Each is made of a table in pages and of the same table as a plain list.
 //! What both answer is told once; where they differ, ` or not` stands behind it.
 
-use case_lines::{CallFault, place_of, row_of, say, span_of};
+use case_lines::{
+    CallFault, are_same, place_of, row_of, say, say_difference, say_found, say_row, span_of,
+};
 use gho_schema::{Schema, key_of};
 use gho_values::{Duplicate, Key, Row, Sequence, Text, Value, print_row};
 use row_pages::{SpanRows, Table};
@@ -18,45 +20,11 @@ struct BothTables {
 }
 
 /// The schema of a text of CREATE TABLE.
-pub fn schema_of(alloc: Global, text: &str) -> Result<Schema, CallFault> {
+fn schema_of(alloc: Global, text: &str) -> Result<Schema, CallFault> {
     read_schema(alloc, text, "t").map_err(|fault| match fault {
         SchemaFault::Refused(_) => CallFault::Unread,
         SchemaFault::Memory => CallFault::Memory,
     })
-}
-
-/// Says a row, or that there is none.
-pub fn say_row(told: &mut Text, row: Option<&Row>) -> Result<(), AllocError> {
-    match row {
-        Some(row) => {
-            say(told, "")?;
-            print_row(row.as_slice(), told)
-        }
-        None => say(told, "none"),
-    }
-}
-
-/// Says where two answers differ.
-pub fn say_difference(told: &mut Text, same: bool) -> Result<(), AllocError> {
-    told.push_str(if same { "" } else { " or not" })
-}
-
-fn are_same(paged: Option<&Row>, listed: Option<&Row>) -> bool {
-    match (paged, listed) {
-        (None, None) => true,
-        (Some(row), Some(other)) => row.cmp(other).is_eq(),
-        _ => false,
-    }
-}
-
-/// Says the row that both found, or that there is none.
-pub fn say_found(
-    told: &mut Text,
-    paged: Option<&Row>,
-    listed: Option<&Row>,
-) -> Result<(), AllocError> {
-    say_row(told, paged)?;
-    say_difference(told, are_same(paged, listed))
 }
 
 /// Says the rows that both have.

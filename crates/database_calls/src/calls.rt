@@ -3,8 +3,7 @@
 //! Each call is made of a database in pages and of the same database as plain lists. What both answer is told once; where they
 //! differ, ` or not` stands behind it.
 
-use crate::table_calls::{say_difference, say_found, schema_of};
-use case_lines::{CallFault, row_of, say};
+use case_lines::{CallFault, row_of, say, say_difference, say_found};
 use gho_schema::key_of;
 use gho_values::{Duplicate, Name, Row, Sequence, Text};
 use paged_tables::Tables;
@@ -12,6 +11,7 @@ use row_pages::Table;
 use row_store::{
     AddFault, NotRenamed, Pair, Pairs, RenameFault, Table as ListedTable, Tables as ListedTables,
 };
+use schema_text::read_schema;
 use std::alloc::{AllocError, Global};
 
 /// A database in pages, and the same as plain lists.
@@ -37,7 +37,8 @@ fn add(
     told: &mut Text,
 ) -> Result<(), CallFault> {
     let text = format!(in alloc; "CREATE TABLE `{name}` (id INT PRIMARY KEY, a INT)")?;
-    let schema = schema_of(alloc, text.as_str())?;
+    // (The text is a schema's, so that only memory can be wanting.)
+    let schema = read_schema(alloc, text.as_str(), "t").map_err(|_| CallFault::Memory)?;
     let listed = is_added(both.listed.add(ListedTable::new(alloc, schema.copy()?)))?;
     let paged = is_added(both.paged.add(Table::new(alloc, schema)))?;
     if !paged {
