@@ -1,8 +1,7 @@
 -- Tables in pages under their names: what is so of a plain list of tables, carried over.
-use Rattle.std.proofs.Common.{◌≡◌, ℕ, zero, suc, ◌+◌, ◌<◌, ◌≤◌, Bool, true, false, not, ◌||◌, List, [], ◌∷◌, ◌++◌, length, get_or, set, take, remove, cond, option_map, IsSome, IsSomeAnd, IfSome, is_some, find, Option, Some, None, Result, Ok, Err, OnOk, OnErr, Bor, refl, sym, ap, ◌∙◌, subst}
+use Rattle.std.proofs.Common.{◌≡◌, ℕ, ◌+◌, ◌<◌, ◌≤◌, Bool, true, false, not, ◌||◌, List, [], ◌∷◌, ◌++◌, length, get_or, set, take, remove, cond, option_map, IsSome, IsSomeAnd, IfSome, is_some, find, Option, Some, None, Result, Ok, Err, OnOk, OnErr, Bor, refl, sym, ap, ◌∙◌, subst}
 use Rattle.std.proofs.Math.ListN.{get_or-map}
 use Rattle.std.proofs.Math.Seq.{map-set_same}
-use Rattle.std.proofs.lemmas.Bool.{or_parts}
 use Rattle.std.specs.List.{prefix_len, slice_get, slice_set}
 use Rattle.std.specs.Option.{option_copied}
 use Rattle.std.proofs.lemmas.List.{map-set, map_push, take_more, take-map, length-map}
@@ -13,7 +12,8 @@ use Rattle.gho_schema.specs.Rows.{key_places, with_row}
 use Rattle.row_pages.specs.StoredRows.{PagedTable}
 use Rattle.row_store.specs.Databases.{TableRows, StoredTable, Database, IsNewIn, put_in_table, is_named, find_table, has_table, find_stored, others, spare_in, database, with_change, name_table, name_stored, NamesDiffer}
 use Rattle.row_store.proofs.RowsBetween.{one_more as one_further}
-use Rattle.row_store.proofs.NamedTables.{before, within, Stands, stands, Wrote, wrote, Put, put, is_new, has_found, IsTaken, take_out, IsAbsent, absent, added_differ, other_way}
+use Rattle.row_store.proofs.NamedTables.{before, within, Stands, stands, Wrote, wrote, Put, put, is_new, has_found, IsTaken, take_out, IsAbsent, absent, added_differ}
+use Rattle.row_store.proofs.KeptTables.{not_ahead}
 use Rattle.name_map.specs.NameMaps.{NamedValues, names_before, has_name, with_value}
 use Rattle.name_map.proofs.Entries.{map_remove, got_map}
 use Rattle.paged_tables.specs.PagedDatabases.{stored_of, stored, table_names, AreNamed}
@@ -179,21 +179,6 @@ pub still_named : {X Y : Type 0} (result : Result X Y) (tables after : NamedValu
     → OnOk result (after.names ≡ tables.names ++ name ∷ []) → OnOk result (after.values ≡ tables.values ++ new ∷ []) → OnErr result (after.names ≡ tables.names) → OnErr result (after.values ≡ tables.values) → AreNamed after
 still_named (Ok x) tables after new name named none is names values same_names same_values = added tables after new name named none is names values
 still_named (Err y) tables after new name named none is names values same_names same_values = unchanged tables after named same_names same_values
-
--- ---- a table that comes behind others has none of their names
-
-not_at : (name : List ℕ) (tables : Database) (n : ℕ) (t : TableRows) → has_table name tables ≡ false → slice_get tables n ≡ Some t → is_named name t ≡ false
-not_at name [] n t none at = absurd cc
-not_at name (x ∷ tables) zero t none at = let same : x ≡ t = cc in subst (λ (y : TableRows). is_named name y ≡ false) same (or_parts (is_named name x) (has_table name tables) none).0
-not_at name (x ∷ tables) (suc n) t none at = not_at name tables n t (or_parts (is_named name x) (has_table name tables) none).1 at
-
-pub not_ahead : (tables : Database) (n : ℕ) (t : TableRows) → NamesDiffer tables → slice_get tables n ≡ Some t → has_table t.schema.name (take n tables) ≡ false
-not_ahead [] n t differ at = absurd cc
-not_ahead (x ∷ tables) zero t differ at = refl
-not_ahead (x ∷ tables) (suc n) t differ at =
-    let apart : is_named x.schema.name t ≡ false = not_at x.schema.name tables n t differ.0 at in
-    let other : is_named t.schema.name x ≡ false = other_way t.schema.name x.schema.name (is_named t.schema.name x) apart refl in
-    rw (other) (not_ahead tables n t differ.1 at)
 
 pub fresh_copy : (copy tables : List PagedTable) (i : ℕ) (new old : PagedTable) → NamesDiffer (database (stored tables)) → slice_get tables i ≡ Some old → new.table ≡ old.table → database (stored copy) ≡ database (stored (take i tables))
     → has_table new.table.schema.name (database (stored copy)) ≡ false

@@ -1,6 +1,7 @@
 pub mod Ascending
 pub mod ChangedTables
 pub mod FoundRows
+pub mod KeptTables
 pub mod NamedTables
 pub mod Orders
 pub mod Partitions

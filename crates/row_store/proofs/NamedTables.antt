@@ -1,11 +1,10 @@
 -- The table of a name among tables of different names.
-use Rattle.std.proofs.Common.{◌≡◌, ℕ, ◌+◌, ◌<◌, ◌≤◌, Bool, true, false, not, ◌||◌, List, [], ◌∷◌, ◌++◌, length, get_or, set, take, map, remove, cond, option_map, IsSome, IsSomeAnd, is_some, Option, Some, None, Bor, refl, sym, ap, ◌∙◌, subst}
+use Rattle.std.proofs.Common.{◌≡◌, ℕ, ◌+◌, ◌<◌, ◌≤◌, Bool, true, false, not, ◌||◌, List, [], ◌∷◌, ◌++◌, length, get_or, set, map, remove, cond, option_map, IsSome, IsSomeAnd, is_some, Option, Some, None, Bor, refl, sym, ap, ◌∙◌, subst}
 use Rattle.std.specs.List.{prefix_len, slice_get}
 use Rattle.std.specs.Option.{option_copied, option_map_or}
 use Rattle.std.specs.Str.{bytes_eq}
 use Rattle.std.specs.Cmp.Lexicographic.{bytes_decides}
 use Rattle.std.proofs.lemmas.Bool.{or_parts}
-use Rattle.std.proofs.lemmas.List.{map_push, take_more}
 use Rattle.std.proofs.lemmas.Option.{slice_get_read, slice_get_within, slice_get_past}
 use Rattle.gho_values.specs.declared.value.Value.{Value}
 use Rattle.gho_schema.specs.declared.schema.Schema.{Schema}
@@ -322,12 +321,3 @@ added_differ (stored ∷ tables) new differ none =
 
 pub stands_is : (name : List ℕ) (found : Option (Bor StoredTable)) (tables now : List StoredTable) → option_copied found ≡ find_stored name tables → tables ≡ now → is_some found ≡ has_table name (database now)
 stands_is name found tables now is same = some_copied found ∙ ap (λ (o : Option StoredTable). is_some o) is ∙ has_found name tables ∙ ap (λ (ts : List StoredTable). has_table name (database ts)) same
-
--- one table more is copied
-pub copied_more : (copy tables : List StoredTable) (i : ℕ) (new old : StoredTable) → i < length tables → old ≡ get_or tables i old → new.table ≡ old.table → database copy ≡ database (take i tables) → database (copy ++ new ∷ []) ≡ database (take (i + 1) tables)
-copied_more copy tables i new old lt at same so_far =
-    map_push (λ (s : StoredTable). s.table) copy new
-    ∙ ap (λ (ts : Database). ts ++ new.table ∷ []) so_far
-    ∙ ap (λ (t : TableRows). database (take i tables) ++ t ∷ []) (same ∙ ap (λ (s : StoredTable). s.table) at)
-    ∙ sym (map_push (λ (s : StoredTable). s.table) (take i tables) (get_or tables i old))
-    ∙ ap database (sym (take_more tables i old lt))

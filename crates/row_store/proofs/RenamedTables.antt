@@ -1,8 +1,10 @@
 -- What renaming one table does to tables of different names, and how it is undone.
-use Rattle.std.proofs.Common.{◌≡◌, ℕ, zero, suc, ◌<◌, Bool, true, false, List, [], ◌∷◌, length, set, cond, is_some, IfSome, Option, Some, None, refl, sym, ap, ◌∙◌, subst}
+use Rattle.std.proofs.Common.{◌≡◌, ℕ, zero, suc, ◌<◌, Bool, true, false, not, List, [], ◌∷◌, length, get_or, set, cond, is_some, IfSome, Option, Some, None, refl, sym, ap, ◌∙◌, subst, arith}
 use Rattle.std.specs.List.{slice_get}
 use Rattle.std.proofs.Math.Seq.{map-set_same}
 use Rattle.std.specs.Str.{bytes_eq}
+use Rattle.std.specs.Cmp.Lexicographic.{bytes_decides}
+use Rattle.std.proofs.lemmas.List.Sums.{prefix_len_stops}
 use Rattle.std.proofs.lemmas.Bool.{or_parts}
 use Rattle.std.proofs.lemmas.List.{set-get_or, length-set, get_or-set_same}
 use Rattle.std.proofs.lemmas.Option.{slice_get_within, slice_get-get_or, get_or_from_slice_get}
@@ -99,3 +101,43 @@ renamed old new name tables n had after differ is has none same told =
 pub goes_on : (pair : Pair) (pairs : List Pair) (tables : Database) → has_table pair.new tables ≡ false → has_table pair.old tables ≡ true → rename_tables (pair ∷ pairs) tables ≡ rename_tables pairs (with_name pair.old pair.new tables)
 unfolding rename_tables
 goes_on pair pairs tables none has = rw (none, has) refl
+
+-- a table's name, once it has another
+
+gone_first : (b : Bool) (old new : List ℕ) (table : TableRows) → is_named old table ≡ b → bytes_eq new old ≡ false → is_named old (cond b (name_table new table) table) ≡ false
+gone_first true old new table is apart = apart
+gone_first false old new table is apart = is
+
+gone : (old new : List ℕ) (tables : Database) → bytes_eq new old ≡ false → has_table old (with_name old new tables) ≡ false
+gone old new [] apart = refl
+gone old new (table ∷ tables) apart = rw (gone_first (is_named old table) old new table refl apart) (gone old new tables apart)
+
+differs : (b : Bool) (old new : List ℕ) (tables : Database) → bytes_eq new old ≡ b → has_table old tables ≡ true → has_table new tables ≡ false → b ≡ false
+differs true old new tables is has none = let same : new ≡ old = (bytes_decides new old).0 is in let no : has_table old tables ≡ false = subst (λ n. has_table n tables ≡ false) same none in absurd (cc)
+differs false old new tables is has none = refl
+
+first_named : (name : List ℕ) (tables : List StoredTable) (n : ℕ) (s : StoredTable) → n ≡ before name tables → slice_get tables n ≡ Some s → s.table.schema.name ≡ name
+first_named name tables n s is at =
+    let lt : before name tables < length tables = subst (λ k. k < length tables) is (slice_get_within tables n s at) in
+    let stops = prefix_len_stops (λ (t : StoredTable). not (is_named name t.table)) tables s lt in
+    let here : get_or tables (before name tables) s ≡ s = ap (λ k. get_or tables k s) (sym is) ∙ get_or_from_slice_get tables n s s at in
+    let named : not (is_named name s.table) ≡ false = ap (λ (t : StoredTable). not (is_named name t.table)) (sym here) ∙ stops in
+    (bytes_decides s.table.schema.name name).0 (of_not (is_named name s.table) named)
+  where
+    of_not : (b : Bool) → not b ≡ false → b ≡ true
+    of_not true is = refl
+    of_not false is = absurd cc
+
+at_place : (tables : List StoredTable) (n : ℕ) → n < length tables → (s : StoredTable) × (slice_get tables n ≡ Some s)
+at_place [] n lt = absurd (let no : ⊥ = omega (arith, lt) in no)
+at_place (t ∷ tables) n lt = (get_or (t ∷ tables) n t, slice_get-get_or (t ∷ tables) n t lt)
+
+-- no table has the name that was taken from one
+pub free_again : (old new had : List ℕ) (tables after : List StoredTable) (n : ℕ) (P : StoredTable → Type 0) → n ≡ before old tables → n < length tables → has_table old (database tables) ≡ true → has_table new (database tables) ≡ false
+    → IfSome (slice_get tables n) (λ s. (had ≡ s.table.schema.name) × P s) → database after ≡ with_name old new (database tables) → has_table had (database after) ≡ false
+free_again old new had tables after n P is lt has none told changed =
+    let at = at_place tables n lt in
+    let parts = rw at.1 at told in
+    let same : had ≡ old = parts.0 ∙ first_named old tables n at.0 is at.1 in
+    let apart : bytes_eq new old ≡ false = differs (bytes_eq new old) old new (database tables) refl has none in
+    rw (same, changed) (gone old new (database tables) apart)

@@ -1,6 +1,7 @@
 //! Tables of rows by their clustered keys, and the database that has them.
 #![tactic(auto)]
 
+mod by_name;
 mod comparing;
 mod finding;
 mod key_values;

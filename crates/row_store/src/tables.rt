@@ -1,12 +1,13 @@
 //! The tables of a database.
 
-ghost use Rattle.std.specs.Prelude.{◌≡◌, ◌≤◌, ◌<◌, ◌+◌, ◌==◌, true, [], ◌∷◌, ◌++◌, not, length, slice_get, slice_set, option_map, option_and_then, option_copied, IfOk, IfSome, OnOk, OnErr, IfErr, IsSome, IsSomeAnd};
-ghost use Rattle.std.specs.List.{prefix_len};
-ghost use Rattle.row_store.specs.Databases.{database, find_table, has_table, find_stored, others, spare_in, put_row, remove_row, row_at_key, IsNewIn, NamesDiffer, rename_tables, IsRenameFault, is_named, name_stored, spares};
+ghost use Rattle.std.specs.Prelude.{◌≡◌, ◌≤◌, ◌<◌, ◌+◌, ◌==◌, true, [], ◌∷◌, ◌++◌, length, slice_get, option_map, option_and_then, option_copied, IfOk, OnOk, OnErr, IfErr, IsSome, IsSomeAnd};
+ghost use Rattle.row_store.specs.Databases.{database, find_table, has_table, find_stored, others, spare_in, put_row, remove_row, row_at_key, IsNewIn, NamesDiffer, rename_tables, IsRenameFault, spares};
 
-use crate::renaming::{NotRenamed, Pair, Pairs, RenameFault};
+use crate::by_name::{add_new, copy_of, has_name, named, place_of, rename_from};
+use crate::renaming::{Pairs, RenameFault};
 use crate::table::Table;
-use gho_values::{Duplicate, Key, Name, Row};
+use gho_values::{Key, Name, Row};
+use name_map::NameMap;
 use std::alloc::{AllocError, AllocFailed, Global};
 use std::marker::Model;
 use thiserror::Error;
@@ -42,89 +43,22 @@ impl<T: Drop> From<AllocFailed<T>> for AddFault {
     }
 }
 
-/// Tables of different names, in order of adding.
+/// Tables kept by name, in order of adding.
 #[derive(Debug, Drop)]
 pub struct Tables {
-    tables: Vec<Table>,
+    tables: NameMap<Table>,
 }
 
 impl Model for Tables {
     ghost use Rattle.std.specs.Prelude.{List};
-    ghost use Rattle.row_store.specs.Databases.{StoredTable, NamesDiffer, database};
+    ghost use Rattle.row_store.specs.Databases.{StoredTable};
+    ghost use Rattle.row_store.specs.KeptByName.{AreNamed};
 
     ghost Value = { List StoredTable };
 
-    ghost view = { λ t. t.tables.items };
+    ghost view = { λ t. t.tables.values };
 
-    ghost invariant = { λ t. NamesDiffer (database t.tables.items) };
-}
-
-fn is_named(name: &Name, table: &Table) -> bool
-    ensures { result ≡ is_named name.now table.now.table }
-{
-    table.schema().name == *name
-}
-
-/// How many tables stand before the one of this name.
-fn place_of(name: &Name, tables: &[Table]) -> usize
-    ensures { result ≡ prefix_len (λ stored. not (is_named name.now stored.table)) tables.now }
-{
-    tables
-        .iter()
-        .take_while(|table| !is_named(name, table))
-        .count()
-}
-
-fn named<'a>(name: &Name, tables: &'a [Table]) -> Option<&'a Table>
-    ensures { option_copied result ≡ find_stored name.now tables.now }
-{
-    tables.iter().find(|table| is_named(name, table))
-}
-
-fn has_name(name: &Name, tables: &[Table]) -> bool
-    ensures { result ≡ has_table name.now (database tables.now) }
-{
-    named(name, tables).is_some()
-}
-
-/// Gives the table at this place another name, and answers the one that it had.
-fn set_name_at(tables: &mut Vec<Table>, place: usize, name: Name) -> Name
-    requires { place < length tables.old.items }
-    ensures { IfSome (slice_get tables.old.items place) (λ old. (result ≡ old.table.schema.name) × (tables.new.items ≡ slice_set tables.old.items place (name_stored name old))) }
-{
-    let table = &mut tables[place];
-    table.set_name(name)
-}
-
-/// Renames tables pair by pair; or none, where a pair is refused or memory runs out.
-#[tactic(auto, unfolding(crate::specs::Databases::rename_tables))]
-fn rename_from(tables: &mut Vec<Table>, pairs: &[Pair]) -> Result<(), RenameFault>
-    requires { NamesDiffer (database tables.old.items) }
-    ensures ok { OnOk result (rename_tables pairs.now (database tables.old.items) ≡ Ok (database tables.new.items)) }
-    ensures fault { IfErr result (IsRenameFault (rename_tables pairs.now (database tables.old.items))) }
-    ensures err { OnErr result (tables.new.items ≡ tables.old.items) }
-    ensures differ { NamesDiffer (database tables.new.items) }
-    ensures spares { spares tables.new.items ≡ spares tables.old.items }
-{
-    let Some((pair, others)) = pairs.split_first() else {
-        return Ok(());
-    };
-    if has_name(&pair.new, tables.as_slice()) {
-        return Err(RenameFault::Refused(NotRenamed::Stands));
-    }
-    if !has_name(&pair.old, tables.as_slice()) {
-        return Err(RenameFault::Refused(NotRenamed::Missing));
-    }
-    let name = pair.new.copy()?;
-    let place = place_of(&pair.old, tables.as_slice());
-    let old = set_name_at(tables, place, name);
-    match rename_from(tables, others) {
-        Ok(()) => Ok(()),
-        Err(fault) => {
-            let _ = set_name_at(tables, place, old);
-            Err(fault)
-        }
-    }
+    ghost invariant = { λ t. AreNamed t.tables };
 }
 
 impl Tables {
@@ -133,7 +67,7 @@ impl Tables {
         ensures { result ≡ [] }
     {
         Tables {
-            tables: Vec::new(alloc),
+            tables: NameMap::new(alloc),
         }
     }
 
@@ -149,7 +83,7 @@ impl Tables {
     pub fn is_empty(&self) -> bool
         ensures { result ≡ (length self.now == 0) }
     {
-        self.tables.is_empty()
+        self.tables.len() == 0
     }
 
     /// The n-th table, counted from 0.
@@ -157,7 +91,7 @@ impl Tables {
         requires { n < length self.now }
         ensures { slice_get self.now n ≡ Some result.now }
     {
-        &self.tables[n]
+        self.tables.at(n)
     }
 
     /// The table of this name.
@@ -165,14 +99,14 @@ impl Tables {
         ensures stored { option_copied result ≡ find_stored name.now self.now }
         ensures table { option_map (λ table. table.now.table) result ≡ find_table name.now (database self.now) }
     {
-        named(name, self.tables.as_slice())
+        named(name, &self.tables)
     }
 
     /// Whether a table has this name.
     pub fn stands(&self, name: &Name) -> bool
         ensures { result ≡ has_table name.now (database self.now) }
     {
-        has_name(name, self.tables.as_slice())
+        has_name(name, &self.tables)
     }
 
     /// A copy of the tables, with what room they may have.
@@ -180,7 +114,7 @@ impl Tables {
         ensures { IfOk result (λ copy. database copy ≡ database self.now) }
     {
         Ok(Tables {
-            tables: copy_of(alloc, self.tables.as_slice())?,
+            tables: copy_of(alloc, &self.tables)?,
         })
     }
 
@@ -194,7 +128,7 @@ impl Tables {
         if self.stands(&table.schema().name) {
             return Err(AddFault::Stands);
         }
-        self.tables.push(table)?;
+        add_new(&mut self.tables, table)?;
         Ok(())
     }
 
@@ -203,9 +137,9 @@ impl Tables {
         ensures table { result ≡ find_stored name.now self.old }
         ensures others { self.new ≡ others name.now self.old }
     {
-        let place = place_of(name, self.tables.as_slice());
+        let place = place_of(name, &self.tables);
         if place < self.tables.len() {
-            Some(self.tables.remove(place))
+            Some(self.tables.take(place))
         } else {
             None
         }
@@ -219,8 +153,8 @@ impl Tables {
         ensures spare { spare_in name.now self.old ≤ spare_in name.now self.new }
         ensures others { others name.now self.new ≡ others name.now self.old }
     {
-        let place = place_of(name, self.tables.as_slice());
-        let table = &mut self.tables[place];
+        let place = place_of(name, &self.tables);
+        let table = self.tables.at_mut(place);
         table.reserve(n)
     }
 
@@ -232,8 +166,8 @@ impl Tables {
         ensures spare { spare_in name.now self.new + 1 ≡ spare_in name.now self.old }
         ensures others { others name.now self.new ≡ others name.now self.old }
     {
-        let place = place_of(name, self.tables.as_slice());
-        let table = &mut self.tables[place];
+        let place = place_of(name, &self.tables);
+        let table = self.tables.at_mut(place);
         table.put(row);
     }
 
@@ -245,8 +179,8 @@ impl Tables {
         ensures spare { spare_in name.now self.old ≤ spare_in name.now self.new }
         ensures others { others name.now self.new ≡ others name.now self.old }
     {
-        let place = place_of(name, self.tables.as_slice());
-        let table = &mut self.tables[place];
+        let place = place_of(name, &self.tables);
+        let table = self.tables.at_mut(place);
         table.remove(key)
     }
 
@@ -257,16 +191,10 @@ impl Tables {
         ensures err { OnErr result (self.new ≡ self.old) }
         ensures spares { spares self.new ≡ spares self.old }
     {
+        let Some(room) = pairs.len().checked_mul(2) else {
+            return Err(RenameFault::Memory);
+        };
+        self.tables.reserve(room)?;
         rename_from(&mut self.tables, pairs.as_slice())
     }
-}
-
-fn copy_of(alloc: Global, tables: &[Table]) -> Result<Vec<Table>, AllocError>
-    ensures { IfOk result (λ copy. database copy.items ≡ database tables.now) }
-{
-    let mut copy = Vec::with_capacity(alloc, tables.len())?;
-    for table in tables {
-        copy.push(table.copy_table(alloc)?)?;
-    }
-    Ok(copy)
 }

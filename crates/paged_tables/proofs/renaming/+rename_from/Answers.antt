@@ -1,9 +1,8 @@
 use Rattle.std.proofs.Common.{◌≡◌, ◌∙◌, suc, ap, sym, length, arith, rules}
 use Rattle.row_store.specs.Databases.{database, rename_tables, spares}
-use Rattle.row_store.proofs.RenamedTables.{Renamed, renamed, has_within, goes_on}
+use Rattle.row_store.proofs.RenamedTables.{Renamed, renamed, has_within, goes_on, free_again}
 use Rattle.paged_tables.specs.PagedDatabases.{stored}
 use Rattle.paged_tables.proofs.Paged.{before_stored}
-use Rattle.paged_tables.proofs.TableNames.{free_again}
 use Rattle.paged_tables.proofs.renaming.+rename_from.Goals as goal
 
 pub set_name_at-old-requires-clause-within : goal.set_name_at-old-requires-clause-within

@@ -5,5 +5,5 @@ use Rattle.row_store.proofs.tables.Tables.find.Goals as goal
 
 pub returns-clause-table : goal.returns-clause-table
 returns-clause-table c =
-    table_of_copied c.named.result ∙ ap (λ (found : Option StoredTable). option_map (λ (s : StoredTable). s.table) found) c.named.ensures ∙ find-database c.args.name.now c.as_slice.result.now
-    ∙ ap (λ ts. find_table c.args.name.now (database ts)) (c.as_slice.ensures.value ∙ c.self.view_is)
+    table_of_copied c.named.result ∙ ap (λ (found : Option StoredTable). option_map (λ (s : StoredTable). s.table) found) c.named.ensures ∙ find-database c.args.name.now c.self.inside.tables.values
+    ∙ ap (λ ts. find_table c.args.name.now (database ts)) c.self.view_is

@@ -1,29 +1,29 @@
-use Rattle.std.proofs.Common.{◌∙◌, ◌<◌, ◌≤◌, ℕ, List, length, ap, subst, sym}
-use Rattle.row_store.specs.Databases.{StoredTable, NamesDiffer, database}
-use Rattle.row_store.proofs.NamedTables.{before, IsTaken, take_out, IsAbsent, absent}
+use Rattle.std.proofs.Common.{◌∙◌, ◌≤◌, ℕ, subst, sym}
+use Rattle.row_store.proofs.NamedTables.{IsTaken, IsAbsent, absent}
+use Rattle.row_store.proofs.KeptTables.{taken_out, taken_named}
 use Rattle.row_store.proofs.tables.Tables.take.Goals as goal
 
 pub invariant_of-self : goal.invariant_of-self
 invariant_of-self c =
-    let out : IsTaken c.args.name.now c.self.inside.tables.items c.place_of-place.result c.remove.result = take_out c.args.name.now c.self.inside.tables.items c.place_of-place.result c.remove.result c.self.invariant (c.place_of-place.ensures ∙ ap (before c.args.name.now) c.as_slice.ensures.value) (subst (λ (n : ℕ). c.place_of-place.result < n) (c.len.ensures ∙ sym (ap length (sym c.as_slice.ensures.value) ∙ c.as_slice.ensures.len)) c.if-place-len.true) c.remove.ensures.value in
-    subst (λ (ts : List StoredTable). NamesDiffer (database ts)) (sym c.remove.ensures.items) out.differ
+    let out : IsTaken c.args.name.now c.self.inside.tables.values c.place_of-place.result c.take.result = taken_out c.args.name.now c.self.inside.tables.values c.place_of-place.result c.take.result c.self.invariant.1 c.place_of-place.ensures c.take.ensures.value in
+    taken_named c.args.name.now c.self.inside.tables c.take.new.self c.place_of-place.result c.take.result c.self.invariant out c.take.ensures.names c.take.ensures.values
 
 pub returns-then-place-len-clause-table : goal.returns-then-place-len-clause-table
 returns-then-place-len-clause-table c =
-    let out : IsTaken c.args.name.now c.self.inside.tables.items c.place_of-place.result c.remove.result = take_out c.args.name.now c.self.inside.tables.items c.place_of-place.result c.remove.result c.self.invariant (c.place_of-place.ensures ∙ ap (before c.args.name.now) c.as_slice.ensures.value) (subst (λ (n : ℕ). c.place_of-place.result < n) (c.len.ensures ∙ sym (ap length (sym c.as_slice.ensures.value) ∙ c.as_slice.ensures.len)) c.if-place-len.true) c.remove.ensures.value in
+    let out : IsTaken c.args.name.now c.self.inside.tables.values c.place_of-place.result c.take.result = taken_out c.args.name.now c.self.inside.tables.values c.place_of-place.result c.take.result c.self.invariant.1 c.place_of-place.ensures c.take.ensures.value in
     rw (← c.self.view_is) (sym out.found)
 
 pub returns-then-place-len-clause-others : goal.returns-then-place-len-clause-others
 returns-then-place-len-clause-others c =
-    let out : IsTaken c.args.name.now c.self.inside.tables.items c.place_of-place.result c.remove.result = take_out c.args.name.now c.self.inside.tables.items c.place_of-place.result c.remove.result c.self.invariant (c.place_of-place.ensures ∙ ap (before c.args.name.now) c.as_slice.ensures.value) (subst (λ (n : ℕ). c.place_of-place.result < n) (c.len.ensures ∙ sym (ap length (sym c.as_slice.ensures.value) ∙ c.as_slice.ensures.len)) c.if-place-len.true) c.remove.ensures.value in
-    rw (← c.self.view_is) (c.remove.ensures.items ∙ sym out.rest)
+    let out : IsTaken c.args.name.now c.self.inside.tables.values c.place_of-place.result c.take.result = taken_out c.args.name.now c.self.inside.tables.values c.place_of-place.result c.take.result c.self.invariant.1 c.place_of-place.ensures c.take.ensures.value in
+    rw (← c.self.view_is) (c.take.ensures.values ∙ sym out.rest)
 
 pub returns-else-place-len-clause-table : goal.returns-else-place-len-clause-table
 returns-else-place-len-clause-table c =
-    let out : IsAbsent c.args.name.now c.self.inside.tables.items = absent c.args.name.now c.self.inside.tables.items c.place_of-place.result (c.place_of-place.ensures ∙ ap (before c.args.name.now) c.as_slice.ensures.value) (subst (λ (n : ℕ). n ≤ c.place_of-place.result) (c.len.ensures ∙ sym (ap length (sym c.as_slice.ensures.value) ∙ c.as_slice.ensures.len)) c.if-place-len.false) in
+    let out : IsAbsent c.args.name.now c.self.inside.tables.values = absent c.args.name.now c.self.inside.tables.values c.place_of-place.result c.place_of-place.ensures (subst (λ (n : ℕ). n ≤ c.place_of-place.result) c.len.ensures.values c.if-place-len.false) in
     rw (← c.self.view_is) (sym out.found)
 
 pub returns-else-place-len-clause-others : goal.returns-else-place-len-clause-others
 returns-else-place-len-clause-others c =
-    let out : IsAbsent c.args.name.now c.self.inside.tables.items = absent c.args.name.now c.self.inside.tables.items c.place_of-place.result (c.place_of-place.ensures ∙ ap (before c.args.name.now) c.as_slice.ensures.value) (subst (λ (n : ℕ). n ≤ c.place_of-place.result) (c.len.ensures ∙ sym (ap length (sym c.as_slice.ensures.value) ∙ c.as_slice.ensures.len)) c.if-place-len.false) in
+    let out : IsAbsent c.args.name.now c.self.inside.tables.values = absent c.args.name.now c.self.inside.tables.values c.place_of-place.result c.place_of-place.ensures (subst (λ (n : ℕ). n ≤ c.place_of-place.result) c.len.ensures.values c.if-place-len.false) in
     rw (← c.self.view_is) (sym out.rest)
