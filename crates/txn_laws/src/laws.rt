@@ -1,6 +1,6 @@
 //! What holds of every open transaction: each function's contract is a law.
 
-ghost use Rattle.txn_laws.specs.Laws.{TransactionsBegin, TransactionsGrow, TransactionsOutlastCommits};
+ghost use Rattle.txn_laws.specs.Laws.{TransactionsBegin, TransactionsGrow, TransactionsOutlastCommits, TransactionsOutlastCreations, TransactionsOutlastDrops, TransactionsOutlastRenames};
 
 /// A transaction that wrote nothing is one of every orderly database.
 pub fn transactions_begin()
@@ -15,4 +15,19 @@ pub fn transactions_grow()
 /// A transaction outlasts another one's commit.
 pub fn transactions_outlast_commits()
     ensures { TransactionsOutlastCommits }
+{}
+
+/// A transaction outlasts CREATE TABLE.
+pub fn transactions_outlast_creations()
+    ensures { TransactionsOutlastCreations }
+{}
+
+/// A transaction outlasts DROP TABLE of a table to which it didn't write.
+pub fn transactions_outlast_drops()
+    ensures { TransactionsOutlastDrops }
+{}
+
+/// A transaction outlasts RENAME TABLE of tables to which it didn't write.
+pub fn transactions_outlast_renames()
+    ensures { TransactionsOutlastRenames }
 {}
