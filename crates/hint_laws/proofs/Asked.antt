@@ -1,5 +1,5 @@
 -- What a turn asks and logs, of the changelog.
-use Rattle.std.proofs.Common.{◌≡◌, ◌⊎◌, ℕ, Bool, true, false, cond, List, [], ◌∷◌, ◌++◌, Option, Some, None, refl, sym, ap, ◌∙◌, subst, inl, inr, arith}
+use Rattle.std.proofs.Common.{◌≡◌, ◌⊎◌, ℕ, Bool, true, false, cond, List, [], ◌∷◌, ◌++◌, Option, Some, None, refl, sym, ap, ◌∙◌, subst, inl, inr}
 use Rattle.std.specs.Str.{bytes_eq}
 use Rattle.std.proofs.lemmas.Bool.{true≢false}
 use Rattle.script_text.specs.declared.actor.Actor.{Actor}
@@ -250,7 +250,7 @@ module _ (plan : PlanData) (runs : IsRunnable plan) (serial : IsSerialPlan plan)
 
       left : LeavesHint t work.cutover.attempts entry.answer now then
       left =
-          hint_left t (limits_of plan) (scene_of plan more) journal entry scene_run run.answered.sides none work.cutover.attempts work.cutover.attempts (omega arith) uncut (is ∙ ap (λ (s : Statement). Some (requests.Do s)) asks.0)
+          hint_left t (limits_of plan) (scene_of plan more) journal entry scene_run run.answered.sides none work.cutover.attempts uncut (is ∙ ap (λ (s : Statement). Some (requests.Do s)) asks.0)
           (idle_face same stands.inspector.busy (uncommanded (requests.Do statement) is))
 
       by : LogsAway t now then ⊎ LogsHint t work.cutover.attempts entry.answer now then → LogsAway t now then ⊎ (LogsHint t work.cutover.attempts entry.answer now then × (may_hint work.cutover.phase ≡ true))

@@ -18,6 +18,7 @@ use Rattle.plain_server.specs.declared.request.Request.TheVariants as requests
 use Rattle.plain_server.specs.Entries.{is_cut, same_actor}
 use Rattle.plain_server.specs.States.{State}
 use Rattle.plan_words.specs.PlanData.{PlanData}
+use Rattle.changelog_table.specs.Hints.{last_hint}
 use Rattle.changelog_table.specs.ToolNames.{log_name}
 use Rattle.journal_words.specs.Journals.{opens, state_at}
 use Rattle.journal_words.specs.Sessions.{live_session}
@@ -63,8 +64,8 @@ use Rattle.hint_laws.proofs.Asked.{InspLeft, before, insp_left, insp_setup, insp
 use Rattle.hint_laws.proofs.Logging.{LeavesAway, LogsAway, LogsHint, NoneWrote}
 use Rattle.hint_laws.proofs.Phases.{AsksHint, HintsIn, HintsStand, WaitsHint, asks_waits, drain_ahead, drain_passes, end_drains, end_passes, hint_below, insp_below, insp_drains, locker_drains, locker_hints, may_hint, passes, renamer_drains, renamer_passes}
 use Rattle.hint_laws.proofs.Telling.{both_tables, read_later, reading_said}
-use Rattle.hint_laws.proofs.States.{BatchIs, CourseAhead, CourseHints, HintsGo, NotedIn, SetupHints, batch_is, grows, hints_later, none_hinted, not_both, weakly}
-use Rattle.hint_laws.proofs.Writes.{below_both, none_below}
+use Rattle.hint_laws.proofs.States.{BatchIs, CourseAhead, CourseHints, HintsGo, NotedIn, SetupHints, batch_is, grows, hints_later, last_at_most, none_hinted, not_both, weakly}
+use Rattle.hint_laws.proofs.Writes.{Rises, rises_away, rises_both, below_both, none_below}
 
 -- ONE TURN
 
@@ -146,6 +147,9 @@ module _ (plan : PlanData) (runs : IsRunnable plan) (serial : IsSerialPlan plan)
 
   -- THE SAME COURSE, WITH THE LATER LOG
 
+  rises_later : LogsAway t now then → Rises t 0 now.log → Rises t 0 then.log
+  rises_later logs at = subst (Rises t 0) (sym logs.log) (rises_both t 0 now.log logs.events at (rises_away t (last_hint t 0 now.log) logs.events logs.away))
+
   log_later : LogsAway t now then → (course : Course) → ((work : Work) → course ≡ Migrating work → WaitsHint t work.cutover.attempts work.cutover.phase waits_now) → CourseHints t now.log (has Insp).waits course → Goal course
   log_later logs (SettingUp setup tries) waits at =
       let size : length then.log ≡ length now.log + length logs.events = ap length logs.log ∙ length-append now.log logs.events in
@@ -153,6 +157,7 @@ module _ (plan : PlanData) (runs : IsRunnable plan) (serial : IsSerialPlan plan)
   log_later logs (Migrating work) waits at = record {
     knows = subst (λ (l : List RowEvent). Knows t l work.applier) (sym logs.log) (knows_later t now.log logs.events work.applier at.knows);
     below = subst (HintsIn (is_unhinted work.cutover.phase) t work.cutover.attempts) (sym logs.log) (hints_later t work.cutover.attempts now.log logs.events (is_unhinted work.cutover.phase) logs.away at.below);
+    rises = rises_later logs at.rises;
     waits_so = waits work refl;
   }
 
@@ -208,6 +213,7 @@ module _ (plan : PlanData) (runs : IsRunnable plan) (serial : IsSerialPlan plan)
     took = λ going fits tries. record {
       knows = knows_took t then.log tool.turns work.applier answer (subst (CourseIsNamed plan) course (named plan journal)).applier at.knows (reads going);
       below = at.below;
+      rises = at.rises;
       waits_so = at.waits_so;
     };
   }
@@ -229,6 +235,7 @@ module _ (plan : PlanData) (runs : IsRunnable plan) (serial : IsSerialPlan plan)
   insp_lost work none at tries = record {
     knows = at.knows;
     below = insp_below t work.cutover work.cutover.attempts work.cutover.phase answers.Lost then.log at.below;
+    rises = at.rises;
     waits_so = λ request some. absurd (no_waits (now_has Insp) request none some);
   }
 
@@ -381,6 +388,7 @@ module _ (plan : PlanData) (runs : IsRunnable plan) (serial : IsSerialPlan plan)
     ready position range is told = record {
       knows = record { within = subst (λ (s : Setup). NotedIn s (length then.log)) is at.noted; hint = sym (none_hinted t then.log position at.away); step = tt };
       below = none_below t 0 then.log at.away;
+      rises = rises_away t 0 then.log at.away;
       waits_so = λ request some. absurd (no (waits_wait asks.request request entry.answer (has Insp) (ap (λ (s : Standing). s.waits) (sym (insp_has asks.request same asks.is_about)) ∙ some)));
     } where
       no : {request : Request} → IsWait asks.request request entry.answer → ⊥
@@ -397,7 +405,7 @@ module _ (plan : PlanData) (runs : IsRunnable plan) (serial : IsSerialPlan plan)
 
   insp_work_so : (work : Work) → (moment plan journal).tool.course ≡ Migrating work → entry.actor ≡ Insp → (entry.asked ≡ Cut → ⊥) → ((word : OperatorWord) → entry.asked ≡ Command word → ⊥) → CutKeeps New entry.answer tool Inspector work
   unfolding cutovers.took
-  insp_work_so work course same uncut uncommanded tries = record { knows = knows_so left.logs; below = below_so left.logs; waits_so = waits_so } where
+  insp_work_so work course same uncut uncommanded tries = record { knows = knows_so left.logs; below = below_so left.logs; rises = rises_so left.logs; waits_so = waits_so } where
     at : HintsStand t now.log (has Insp).waits work.applier work.cutover.attempts work.cutover.phase
     at = subst (CourseHints t now.log (has Insp).waits) course was.course
 
@@ -427,6 +435,12 @@ module _ (plan : PlanData) (runs : IsRunnable plan) (serial : IsSerialPlan plan)
     below_so (inr hint) =
         hint_below t work.cutover work.cutover.attempts work.cutover.phase entry.answer then.log hint.1 hint.0.said
         (subst (HintsBelow t work.cutover.attempts) (sym hint.0.log) (below_both t work.cutover.attempts now.log hint.0.events (weakly t work.cutover.attempts now.log (is_unhinted work.cutover.phase) at.below) hint.0.below))
+
+    rises_so : Logs → Rises t 0 then.log
+    rises_so (inl away) = rises_later away at.rises
+    rises_so (inr hint) =
+        subst (Rises t 0) (sym hint.0.log)
+        (rises_both t 0 now.log hint.0.events at.rises (hint.0.rises (last_hint t 0 now.log) (last_at_most t work.cutover.attempts now.log (weakly t work.cutover.attempts now.log (is_unhinted work.cutover.phase) at.below))))
 
     waits_so : WaitsHint t work.cutover.attempts next waits_now
     waits_so request some = by (waits_wait asks.request request entry.answer (has Insp) (ap (λ (s : Standing). s.waits) (sym (insp_has asks.request same asks.is_about)) ∙ some)) where

@@ -1,7 +1,5 @@
 -- What is known of the hint rows behind every journal that is kept.
-use Rattle.std.proofs.Common.{◌≡◌, ◌≤◌, ℕ, Bool, true, false, List, [], ◌∷◌, ◌++◌, take, refl, sym, subst, arith, append_assoc, append-nil}
-use Rattle.std.specs.Prelude.{nat_le}
-use Rattle.std.proofs.lemmas.Bool.Decides.{nat_tests}
+use Rattle.std.proofs.Common.{◌≡◌, ◌≤◌, ℕ, Bool, true, false, List, [], ◌∷◌, ◌++◌, take, sym, subst, arith, append_assoc, append-nil}
 use Rattle.event_codec.specs.declared.event.RowEvent.{RowEvent}
 use Rattle.script_text.specs.declared.actor.Actor.TheVariants.{Insp}
 use Rattle.plain_server.specs.declared.entry.Entry.{Entry}
@@ -14,14 +12,14 @@ use Rattle.history_laws.specs.Plans.{IsSerialPlan}
 use Rattle.run_laws.specs.Kept.{IsKept}
 use Rattle.machine_laws.specs.Runnable.{IsRunnable}
 use Rattle.machine_laws.specs.Standings.{standing_of}
-use Rattle.sentry_laws.proofs.Hinting.{HintsBelow, none_earlier}
 use Rattle.unaltered_laws.specs.Laws.{IsUnaltered}
 use Rattle.unaltered_laws.proofs.Away.{unaltered_front}
 use Rattle.follow_turns.proofs.Follows.{kept_front}
 use Rattle.hint_laws.specs.Laws.{HintsAreKnown, IsBegun, is_unhinted}
 use Rattle.hint_laws.proofs.Courses.{hints_more}
 use Rattle.hint_laws.proofs.Phases.{HintsIn, HintsStand}
-use Rattle.hint_laws.proofs.States.{CourseHints, CourseAhead, HintsGo}
+use Rattle.hint_laws.proofs.Writes.{rises_take}
+use Rattle.hint_laws.proofs.States.{at_most, CourseHints, CourseAhead, HintsGo}
 
 -- from one journal to all that go on from it
 all_go : (plan : PlanData) → IsRunnable plan → IsSerialPlan plan → (journal rest : List Entry) → IsKept plan (journal ++ rest) → IsUnaltered plan (journal ++ rest) → HintsGo plan journal → HintsGo plan (journal ++ rest)
@@ -41,12 +39,6 @@ begins plan = record { none = λ n. tt; course = record { away = tt; noted = tt 
 pub hints_go : (plan : PlanData) (journal : List Entry) → IsRunnable plan → IsSerialPlan plan → IsKept plan journal → IsUnaltered plan journal → HintsGo plan journal
 hints_go plan journal runs serial kept off = all_go plan runs serial [] journal kept off (begins plan)
 
-at_most : (t : List ℕ) (most count : ℕ) (log : List RowEvent) → HintsBelow t most log → last_hint t 0 (take count log) ≤ most
-at_most t most count log below = by (nat_le (last_hint t 0 (take count log)) most) refl where
-  by : (b : Bool) → nat_le (last_hint t 0 (take count log)) most ≡ b → last_hint t 0 (take count log) ≤ most
-  by true is = grind (arith, nat_tests, is)
-  by false is = absurd (none_earlier t most (last_hint t 0 (take count log)) log (grind (arith, nat_tests, is)) below count refl)
-
 -- a hint row in the log is of an attempt that was begun
 begun_by : (t : List ℕ) (attempts count : ℕ) (log : List RowEvent) (b : Bool) → HintsIn b t attempts log → IsBegun b attempts (last_hint t 0 (take count log))
 begun_by t attempts count log true below = let less = below.1 in let most : last_hint t 0 (take count log) ≤ below.0 = at_most t below.0 count log below.2 in omega (arith, less, most)
@@ -58,6 +50,7 @@ hints_known plan journal work runs serial kept off course = record {
   within = at.knows.within;
   hint = at.knows.hint;
   begun = λ count. begun_by plan.table work.cutover.attempts count (state_at plan journal).log (is_unhinted work.cutover.phase) at.below;
+  rising = λ one other less. rises_take plan.table 0 (state_at plan journal).log one other less at.rises;
   ahead = subst CourseAhead course all.ahead;
 } where
   all : HintsGo plan journal

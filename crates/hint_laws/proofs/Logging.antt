@@ -1,5 +1,5 @@
 -- What a turn logs of the changelog: nothing; or the hint row that the inspector writes.
-use Rattle.std.proofs.Common.{◌≡◌, ◌≤◌, ◌⊎◌, ℕ, Bool, true, false, List, [], ◌∷◌, ◌++◌, Option, Some, None, refl, sym, ap, ◌∙◌, subst, inl, inr}
+use Rattle.std.proofs.Common.{◌≡◌, ◌≤◌, ◌⊎◌, ℕ, Bool, true, false, List, [], ◌∷◌, ◌++◌, Option, Some, None, refl, sym, ap, ◌∙◌, subst, inl, inr, arith}
 use Rattle.std.specs.Prelude.{◌==◌}
 use Rattle.std.proofs.lemmas.List.{append-nil}
 use Rattle.gho_schema.specs.declared.schema.Schema.{Schema}
@@ -36,7 +36,7 @@ use Rattle.copy_laws.proofs.Served.Deeded.{outside_so, within_so}
 use Rattle.migration_laws.proofs.Leaves.{Cases, WritesAway, turn_leaves}
 use Rattle.statement_laws.proofs.Tests.{are_one}
 use Rattle.sentry_laws.proofs.Hinting.{HintsBelow}
-use Rattle.hint_laws.proofs.Writes.{Inserts, none_so, one_so, below_both, hint_insert, hint_inserts, none_below}
+use Rattle.hint_laws.proofs.Writes.{Inserts, Rises, away_hint, none_so, one_so, rises_away, rises_both, below_both, hint_insert, hint_inserts, none_below}
 
 -- no session has written a row of the changelog in its open transaction
 abbrev pub NoneWrote : List ℕ → State → Type 0
@@ -48,11 +48,12 @@ pub record LogsAway (t : List ℕ) (before after : State) : Type 0 where
   pub log : after.log ≡ before.log ++ events
   pub away : NotOf (log_name t) events
 
--- hint rows of no later attempt are logged, and the answer says so or was lost
+-- the hint row of an attempt is logged, and the answer says so or was lost
 pub record LogsHint (t : List ℕ) (most : ℕ) (answer : Answer) (before after : State) : Type 0 where
   pub events : List RowEvent
   pub log : after.log ≡ before.log ++ events
   pub below : HintsBelow t most events
+  pub rises : (last : ℕ) → last ≤ most → Rises t last events
   pub said : (answer ≡ answers.Ok 1) ⊎ (answer ≡ answers.Lost)
 
 pub record LeavesAway (t : List ℕ) (before after : State) : Type 0 where
@@ -116,12 +117,12 @@ module _ (t : List ℕ) (limits : Limits) (scene : Scene) (journal : List Entry)
     cut_left is no_side = let left = cuts_are_left limits scene journal entry is (sides no_side) in rests no_hold tt left.0 left.1
 
     -- *The turn that asks for an attempt's hint row*
-    module _ (attempt most : ℕ) (small : attempt ≤ most) (uncut : is_cut entry.asked ≡ false) (asked : about (opens entry before) entry.session entry.asked ≡ Some (requests.Do (hint_insert t attempt))) (idle : (face_of before.sessions entry.session).busy ≡ false) where
+    module _ (attempt : ℕ) (uncut : is_cut entry.asked ≡ false) (asked : about (opens entry before) entry.session entry.asked ≡ Some (requests.Do (hint_insert t attempt))) (idle : (face_of before.sessions entry.session).busy ≡ false) where
       abbrev request : Request
       request = requests.Do (hint_insert t attempt)
 
       abbrev Goal : Type 0
-      Goal = LeavesHint t most entry.answer before after
+      Goal = LeavesHint t attempt entry.answer before after
 
       run : IsSceneRun limits scene journal
       run = run_front limits scene journal (entry ∷ []) more
@@ -171,20 +172,20 @@ module _ (t : List ℕ) (limits : Limits) (scene : Scene) (journal : List Entry)
         said (Some side) at_side is ok = inr (entry_told.answer ∙ ap (λ (s : Option Side). answer_at s (inner before entry)) at_side)
 
         committed : deed_now ≡ Writes result.answer result.events → Goal
-        committed is = by (hint_inserts t attempt most seen small) where
+        committed is = by (hint_inserts t attempt attempt seen (omega arith)) where
           all : DeedLeaves (Writes result.answer result.events) (is_lost entry.side) entry.session (stored before) (stored after) (holds_of before) (holds_of after)
           all = left_as (Writes result.answer result.events) is
 
           none_after : NoneWrote t after
           none_after = none_then (holds_of before) no_hold (λ n differ. refl) tt all.2
 
-          by : Inserts t most result → Goal
+          by : Inserts t attempt attempt result → Goal
           by (none_so none) = record {
             logs = inl (record { events = own.writes; log = all.1 ∙ ap (λ (e : List RowEvent). before.log ++ (own.writes ++ e)) none ∙ ap (λ (e : List RowEvent). before.log ++ e) (append-nil own.writes); away = none_wrote entry.session });
             none = none_after;
           }
-          by (one_so below ok) = record {
-            logs = inr (record { events = own.writes ++ result.events; log = all.1; below = below_both t most own.writes result.events (none_below t most own.writes (none_wrote entry.session)) below; said = said entry.side refl told (says_so ∙ ap deed_answer is ∙ ok) });
+          by (one_so below rises ok) = record {
+            logs = inr (record { events = own.writes ++ result.events; log = all.1; below = below_both t attempt own.writes result.events (none_below t attempt own.writes (none_wrote entry.session)) below; rises = λ last less. rises_both t last own.writes result.events (rises_away t last own.writes (none_wrote entry.session)) (subst (λ (n : ℕ). Rises t n result.events) (sym (away_hint t last own.writes (none_wrote entry.session))) (rises last less)); said = said entry.side refl told (says_so ∙ ap deed_answer is ∙ ok) });
             none = none_after;
           }
 

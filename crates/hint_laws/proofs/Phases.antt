@@ -25,7 +25,7 @@ use Rattle.sentry_laws.specs.Sentries.{IsDraining}
 use Rattle.sentry_laws.proofs.Draining.{Knows}
 use Rattle.sentry_laws.proofs.Hinting.{HintsBelow}
 use Rattle.hint_laws.specs.Laws.{is_unhinted}
-use Rattle.hint_laws.proofs.Writes.{below_more, hint_insert}
+use Rattle.hint_laws.proofs.Writes.{Rises, below_more, hint_insert}
 
 -- the inspector may wait with the INSERT of a hint row
 abbrev pub may_hint : Phase → Bool
@@ -51,6 +51,7 @@ HintsIn false t attempts log = HintsBelow t attempts log
 pub record HintsStand (t : List ℕ) (log : List RowEvent) (waits : Option Request) (applier : Applier) (attempts : ℕ) (phase : Phase) : Type 0 where
   pub knows : Knows t log applier
   pub below : HintsIn (is_unhinted phase) t attempts log
+  pub rises : Rises t 0 log
   pub waits_so : WaitsHint t attempts phase waits
 
 -- FROM ONE PHASE TO ANOTHER
@@ -74,6 +75,7 @@ pub passes : (t : List ℕ) (log : List RowEvent) (waits : Option Request) (appl
 passes t log waits applier attempts phase next moves at = record {
   knows = at.knows;
   below = hints_weaker t attempts log (is_unhinted phase) (is_unhinted next) moves.unhinted at.below;
+  rises = at.rises;
   waits_so = λ request some. asks_moves t attempts phase next request moves.may (at.waits_so request some);
 }
 
@@ -115,6 +117,7 @@ pub locker_hints : (t : List ℕ) (log : List RowEvent) (waits : Option Request)
 locker_hints t log waits applier attempts Resting answer at = record {
   knows = at.knows;
   below = begins t attempts log (is_unhinted (begun answer)) at.below;
+  rises = at.rises;
   waits_so = λ request some. none_asked t attempts (attempts + 1) (begun answer) request (at.waits_so request some);
 }
 locker_hints t log waits applier attempts (Attempting stage) answer at = passes t log waits applier attempts (Attempting stage) (locker_phase (Attempting stage) answer) (locker_passes (Attempting stage) answer (λ same. cc)) at

@@ -1,6 +1,8 @@
 -- What is known of the hint rows behind a journal, and of a log that grows.
-use Rattle.std.proofs.Common.{◌≡◌, ◌≤◌, ℕ, zero, suc, Bool, true, false, List, [], ◌∷◌, ◌++◌, length, take, Option, Some, refl, ◌∙◌, arith}
-use Rattle.std.specs.Prelude.{◌==◌, if◌then◌else◌}
+use Rattle.std.proofs.Common.{◌≡◌, ◌≤◌, ℕ, zero, suc, Bool, true, false, List, [], ◌∷◌, ◌++◌, length, take, Option, Some, refl, subst, ◌∙◌, arith}
+use Rattle.std.specs.Prelude.{nat_le, ◌==◌, if◌then◌else◌}
+use Rattle.std.proofs.lemmas.Bool.Decides.{nat_tests}
+use Rattle.std.proofs.lemmas.List.{take_all}
 use Rattle.event_codec.specs.declared.event.RowEvent.{RowEvent}
 use Rattle.script_text.specs.declared.actor.Actor.TheVariants.{Apply, Insp}
 use Rattle.plain_server.specs.declared.answer.Answer.{Answer}
@@ -84,6 +86,15 @@ none_hinted t events count away =
     by : (n : ℕ) → last_hint t 0 (take count events) ≡ n → n ≤ 0
     by zero is = omega arith
     by (suc n) is = absurd (none_earlier t 0 (suc n) events (omega arith) (none_below t 0 events away) count is)
+
+pub at_most : (t : List ℕ) (most count : ℕ) (log : List RowEvent) → HintsBelow t most log → last_hint t 0 (take count log) ≤ most
+at_most t most count log below = by (nat_le (last_hint t 0 (take count log)) most) refl where
+  by : (b : Bool) → nat_le (last_hint t 0 (take count log)) most ≡ b → last_hint t 0 (take count log) ≤ most
+  by true is = grind (arith, nat_tests, is)
+  by false is = absurd (none_earlier t most (last_hint t 0 (take count log)) log (grind (arith, nat_tests, is)) below count refl)
+
+pub last_at_most : (t : List ℕ) (most : ℕ) (log : List RowEvent) → HintsBelow t most log → last_hint t 0 log ≤ most
+last_at_most t most log below = subst (λ (l : List RowEvent). last_hint t 0 l ≤ most) (take_all (length log) log (omega arith)) (at_most t most (length log) log below)
 
 -- the batch is the plan's
 abbrev pub BatchIs : PlanData → Course → Type 0

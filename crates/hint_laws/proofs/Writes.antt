@@ -1,5 +1,5 @@
 -- What the INSERT of an attempt's hint row writes: one row at most, whose number is the attempt's.
-use Rattle.std.proofs.Common.{◌≡◌, ◌≤◌, ◌==◌, ℕ, pos, Bool, true, false, cond, List, [], ◌∷◌, ◌++◌, length, Option, Some, None, Result, Ok, Err, refl, sym, ap, ◌∙◌, arith}
+use Rattle.std.proofs.Common.{◌≡◌, ◌≤◌, ◌==◌, ℕ, zero, suc, pos, Bool, true, false, cond, List, [], ◌∷◌, ◌++◌, length, take, Option, Some, None, Result, Ok, Err, refl, sym, ap, ◌∙◌, subst, arith}
 use Rattle.std.specs.Prelude.{int_le, nat_lt, codes, ◌&&◌}
 use Rattle.std.specs.Fmt.{signed_decimal}
 use Rattle.std.specs.List.{AllByRecursion, list_any}
@@ -28,7 +28,7 @@ use Rattle.plain_server.specs.declared.work.Work.TheVariants as works
 use Rattle.plain_server.specs.Checking.{◌>>=◌, beside, new_row, or_refused, places_from, row_from, unless, value_at, work_of}
 use Rattle.plain_server.specs.Jobs.{events_of, job_of, job_says, result_in}
 use Rattle.plain_server.specs.Saying.{only, tells}
-use Rattle.changelog_table.specs.Hints.{hint_if, hint_in, hint_of, hint_row, or_last}
+use Rattle.changelog_table.specs.Hints.{hint_if, hint_in, hint_of, hint_row, last_hint, or_last}
 use Rattle.changelog_table.specs.ToolNames.{log_name}
 use Rattle.sentry_laws.proofs.Hinting.{HintsBelow}
 
@@ -83,30 +83,82 @@ hint_small n most last (Num (pos k) ∷ (Text hint ∷ (Text value ∷ []))) beg
   by false = less
 hint_small n most last row begins small less = less
 
+hint_up : (n last : ℕ) (row : List Value) → Begins n row → last ≤ n → last ≤ or_last last (hint_of row)
+hint_up n last (Num (pos k) ∷ (Text hint ∷ (Text value ∷ []))) begins less = by (nat_lt 0 k && bytes_eq hint (codes "cut-over") && bytes_eq value (signed_decimal (pos k))) where
+  by : (b : Bool) → last ≤ or_last last (hint_if b k)
+  by true = let one : k ≡ n = begins (Num (pos k)) (Text hint ∷ (Text value ∷ [])) refl k refl in omega (arith, one, less)
+  by false = omega arith
+hint_up n last row begins less = omega arith
+
+-- RISING NUMBERS
+
+-- the hint behind one event more
+abbrev pub next_hint : List ℕ → ℕ → RowEvent → ℕ
+next_hint t last event = cond (bytes_eq event.table (log_name t)) (hint_in last event.change) last
+
+-- no hint row's number is below the one before
+abbrev pub Rises : List ℕ → ℕ → List RowEvent → Type 0
+Rises t last [] = Unit {0}
+Rises t last (event ∷ log) = (last ≤ next_hint t last event) × Rises t (next_hint t last event) log
+
+pub rises_both : (t : List ℕ) (last : ℕ) (some others : List RowEvent) → Rises t last some → Rises t (last_hint t last some) others → Rises t last (some ++ others)
+rises_both t last [] others one two = two
+rises_both t last (event ∷ some) others one two = (one.0, rises_both t (next_hint t last event) some others one.1 two)
+
+away_same : (t : List ℕ) (last : ℕ) (event : RowEvent) → bytes_eq event.table (log_name t) ≡ false → next_hint t last event ≡ last
+away_same t last event away = rw away refl
+
+pub away_hint : (t : List ℕ) (last : ℕ) (events : List RowEvent) → AllByRecursion (λ event. bytes_eq event.table (log_name t) ≡ false) events → last_hint t last events ≡ last
+away_hint t last [] away = refl
+away_hint t last (event ∷ events) away = ap (λ (n : ℕ). last_hint t n events) (away_same t last event away.0) ∙ away_hint t last events away.1
+
+pub rises_away : (t : List ℕ) (last : ℕ) (events : List RowEvent) → AllByRecursion (λ event. bytes_eq event.table (log_name t) ≡ false) events → Rises t last events
+rises_away t last [] away = tt
+rises_away t last (event ∷ events) away =
+    let same : next_hint t last event ≡ last = away_same t last event away.0 in (omega (arith, same), subst (λ (n : ℕ). Rises t n events) (sym same) (rises_away t last events away.1))
+
+pub rises_up : (t : List ℕ) (last : ℕ) (log : List RowEvent) (count : ℕ) → Rises t last log → last ≤ last_hint t last (take count log)
+rises_up t last log zero rises = omega arith
+rises_up t last [] (suc count) rises = omega arith
+rises_up t last (event ∷ log) (suc count) rises = let first = rises.0 in let rest : next_hint t last event ≤ last_hint t (next_hint t last event) (take count log) = rises_up t (next_hint t last event) log count rises.1 in omega (arith, first, rest)
+
+-- *Numbers rise*
+pub rises_take : (t : List ℕ) (last : ℕ) (log : List RowEvent) (one other : ℕ) → one ≤ other → Rises t last log → last_hint t last (take one log) ≤ last_hint t last (take other log)
+rises_take t last log zero other less rises = rises_up t last log other rises
+rises_take t last log (suc one) zero less rises = absurd (omega (arith, less))
+rises_take t last [] (suc one) (suc other) less rises = omega arith
+rises_take t last (event ∷ log) (suc one) (suc other) less rises = rises_take t (next_hint t last event) log one other (omega (arith, less)) rises.1
+
+row_rises : (t name : List ℕ) (n : ℕ) (row : List Value) (last : ℕ) → Begins n row → last ≤ n → Rises t last (record { table = name; change = Write row } ∷ [])
+row_rises t name n row last begins less = (by (bytes_eq name (log_name t)), tt) where
+  by : (b : Bool) → last ≤ cond b (hint_in last (Write row)) last
+  by true = hint_up n last row begins less
+  by false = omega arith
+
 -- THE STATEMENT
 
 -- the hint row of an attempt is inserted
 abbrev pub hint_insert : List ℕ → ℕ → Statement
 hint_insert table attempt = statements.Insert (log_name table) None (hint_row attempt)
 
--- nothing is written; or rows of no later attempt, with ok 1
-pub data Inserts (t : List ℕ) (most : ℕ) (result : StatementResult) : Type 0 where
-  none_so : result.events ≡ [] → Inserts t most result
-  one_so : HintsBelow t most result.events → result.answer ≡ answers.Ok 1 → Inserts t most result
+-- nothing is written; or this attempt's row, with ok 1
+pub data Inserts (t : List ℕ) (n most : ℕ) (result : StatementResult) : Type 0 where
+  none_so : result.events ≡ [] → Inserts t n most result
+  one_so : HintsBelow t most result.events → ((last : ℕ) → last ≤ n → Rises t last result.events) → result.answer ≡ answers.Ok 1 → Inserts t n most result
 
 row_inserts : (t name : List ℕ) (n most : ℕ) (schema : Schema) (rows : List (List Value)) (row : List Value) → Begins n row → n ≤ most
-    → Inserts t most (record { answer = (tells schema rows (works.Insert row)).answer; events = events_of name (tells schema rows (works.Insert row)).changes })
+    → Inserts t n most (record { answer = (tells schema rows (works.Insert row)).answer; events = events_of name (tells schema rows (works.Insert row)).changes })
 unfolding tells
 row_inserts t name n most schema rows row begins small = by (list_any (clash schema.uniques row) rows) where
   told : Bool → Rattle.plain_server.specs.Saying.TableResult
   told b = cond b (only (Rattle.plain_server.specs.Answers.refuses 1062)) (record { answer = answers.Ok 1; changes = Write row ∷ [] })
 
-  by : (b : Bool) → Inserts t most (record { answer = (told b).answer; events = events_of name (told b).changes })
+  by : (b : Bool) → Inserts t n most (record { answer = (told b).answer; events = events_of name (told b).changes })
   by true = none_so refl
-  by false = one_so ((λ named last less. hint_small n most last row begins small less), tt) refl
+  by false = one_so ((λ named last less. hint_small n most last row begins small less), tt) (λ last less. row_rises t name n row last begins less) refl
 
 made_inserts : (t name : List ℕ) (n most : ℕ) (schema : Schema) (rows : List (List Value)) (made : Result (List Value) Answer) → ((row : List Value) → made ≡ Ok row → Begins n row) → n ≤ most
-    → Inserts t most (record { answer = (tells schema rows (or_refused made works.Insert)).answer; events = events_of name (tells schema rows (or_refused made works.Insert)).changes })
+    → Inserts t n most (record { answer = (tells schema rows (or_refused made works.Insert)).answer; events = events_of name (tells schema rows (or_refused made works.Insert)).changes })
 unfolding tells
 made_inserts t name n most schema rows (Ok row) begins small = row_inserts t name n most schema rows row (begins row refl) small
 made_inserts t name n most schema rows (Err refusal) begins small = none_so (refused refusal) where
@@ -114,10 +166,10 @@ made_inserts t name n most schema rows (Err refusal) begins small = none_so (ref
   refused answer = refl
 
 -- *What the INSERT of a hint row writes*
-pub hint_inserts : (t : List ℕ) (attempt most : ℕ) (seen : Database) → attempt ≤ most → Inserts t most (job_says seen (job_of (hint_insert t attempt)))
+pub hint_inserts : (t : List ℕ) (attempt most : ℕ) (seen : Database) → attempt ≤ most → Inserts t attempt most (job_says seen (job_of (hint_insert t attempt)))
 unfolding job_says work_of hint_row
 hint_inserts t attempt most seen small = by (find_table (log_name t) seen) where
-  by : (found : Option TableRows) → Inserts t most (result_in (job_of (hint_insert t attempt)) found)
+  by : (found : Option TableRows) → Inserts t attempt most (result_in (job_of (hint_insert t attempt)) found)
   by None = none_so refl
   by (Some table) =
       made_inserts t (log_name t) attempt most table.schema table.rows (new_row table.schema None (hint_row attempt)) (λ row is. new_begins attempt _ table.schema row is) small

@@ -34,6 +34,8 @@ pub record KnowsHints (plan : PlanData) (log : List RowEvent) (work : Work) : Ty
   pub hint : KnowsHint plan.table log work.applier
   -- each hint row is of an attempt that was begun
   pub begun : (count : ℕ) → IsBegun (is_unhinted work.cutover.phase) work.cutover.attempts (last_hint plan.table 0 (take count log))
+  -- and their numbers rise
+  pub rising : (one other : ℕ) → one ≤ other → last_hint plan.table 0 (take one log) ≤ last_hint plan.table 0 (take other log)
   -- while an attempt is drained the applier hasn't come behind its hint row
   pub ahead : IsDraining work.cutover.phase → work.applier.hint ≢ work.cutover.attempts
 
