@@ -14,7 +14,7 @@ ghost use Rattle.txn_session.specs.Rooms.{puts_of};
 use crate::keyed::KeyedEvent;
 use event_codec::{Change, RowEvent};
 use gho_values::{Key, Name, Row};
-use row_store::Tables;
+use paged_tables::Tables;
 
 /// The tables' names differ, and the rows of the one of this name stand in order.
 fn look_at(tables: &Tables, name: &Name)

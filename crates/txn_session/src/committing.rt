@@ -11,7 +11,7 @@ ghost use Rattle.txn_session.specs.Rooms.{puts_in};
 use crate::applying::apply;
 use crate::keyed::KeyedEvent;
 use crate::txn::Txn;
-use row_store::Tables;
+use paged_tables::Tables;
 
 /// Does events to their tables, one by one. It takes no memory.
 fn apply_all(tables: &mut Tables, events: Vec<KeyedEvent>)

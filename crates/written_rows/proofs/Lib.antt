@@ -1,3 +1,5 @@
+pub mod Clashing
+pub mod Gathered
 pub mod KeyTables
 pub mod MergedRows
 pub mod MetRows

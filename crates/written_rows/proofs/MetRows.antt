@@ -1,6 +1,6 @@
 -- The rows of a table that a condition reaches, and those that clash with a new row.
-use Rattle.std.proofs.Common.{◌≡◌, ℕ, Bor, option_copied, is_some, Bool, true, false, not, ◌&&◌, ◌||◌, List, [], ◌∷◌, find, filter, cond, Option, Some, None, refl, sym, ap, ◌∙◌}
-use Rattle.std.proofs.lemmas.Bool.{true≢false, false≢true, and_parts}
+use Rattle.std.proofs.Common.{◌≡◌, ℕ, Bool, true, false, ◌&&◌, ◌||◌, List, [], ◌∷◌, find, filter, cond, Option, Some, None, refl, sym, ap, ◌∙◌}
+use Rattle.std.proofs.lemmas.Bool.{true≢false, and_parts}
 use Rattle.std.specs.List.{slice_get}
 use Rattle.gho_values.specs.declared.span.Span.{Span}
 use Rattle.gho_values.specs.Spans.{has}
@@ -8,17 +8,13 @@ use Rattle.gho_schema.specs.declared.schema.Schema.{Schema}
 use Rattle.gho_schema.specs.declared.schema.Index.{Index}
 use Rattle.gho_schema.specs.Clustering.{clustered_place, unique_at}
 use Rattle.gho_schema.specs.Rows.{key_of, key_places, places_of}
-use Rattle.gho_schema.specs.Tables.{Ascends, no_null, clash}
-use Rattle.row_store.specs.RowLists.{is_at}
+use Rattle.gho_schema.specs.Tables.{no_null, clash}
 use Rattle.row_store.specs.Databases.{TableRows, rows_in, clashing}
 use Rattle.row_store.proofs.Orders.{Row}
-use Rattle.row_store.proofs.Ascending.{ascends-filter}
-use Rattle.row_store.proofs.RowLaws.{key_is}
 use Rattle.plain_server.specs.declared.work.Reach.{Reach}
 use Rattle.plain_server.specs.Rows.{lies_under, rows_met, same_row, stands}
 use Rattle.plain_server.specs.Saying.{displaced}
-use Rattle.statement_laws.proofs.Standing.{one_row, same_itself, stands-filter, one_list}
-use Rattle.statement_laws.proofs.OneRow.{one_of_key}
+use Rattle.statement_laws.proofs.Standing.{same_itself}
 
 -- rows that pass a test are among those that pass a wider one
 pub filter_within : (test wide : Row → Bool) (rows : List Row) → ((row : Row) → test row ≡ true → wide row ≡ true) → filter test (filter wide rows) ≡ filter test rows
@@ -42,7 +38,7 @@ none_reached schema reach rows none = ap (λ (found : Option Index). filter (lie
 pub reached_by : (schema : Schema) (reach : Reach) (rows : List Row) (index : Index) → slice_get schema.uniques reach.key ≡ Some index → rows_met schema reach rows ≡ filter (lies_under (Some index) reach.span) rows
 reached_by schema reach rows index is = ap (λ (found : Option Index). filter (lies_under found reach.span) rows) is
 
-lies_in : (index : Index) (span : Span) (row : Row) → lies_under (Some index) span row ≡ true → has span (key_of index.places row) ≡ true
+pub lies_in : (index : Index) (span : Span) (row : Row) → lies_under (Some index) span row ≡ true → has span (key_of index.places row) ≡ true
 unfolding lies_under
 lies_in index span row lies = (and_parts (no_null (key_of index.places row)) (has span (key_of index.places row)) lies).1
 
@@ -91,51 +87,3 @@ found_is test (first ∷ rows) row is = here (test first) refl is (λ (behind : 
       let same : first ≡ row = cc in
       record { stood = ap (λ (r : Row). same_row row r || stands row rows) same ∙ ap (λ (b : Bool). b || stands row rows) (same_itself row); passes = ap test (sym same) ∙ passes }
   here false passes found rest = let later = rest found in record { stood = there (stands row rows) later.stood (same_row row first); passes = later.passes }
-
--- where none passes the test, each row that stands fails it
-pub none_stands : (test : Row → Bool) (rows : List Row) (row : Row) → find test rows ≡ None → stands row rows ≡ true → test row ≡ false
-unfolding stands
-none_stands test [] row none stood = absurd (false≢true stood)
-none_stands test (first ∷ rows) row none stood = here (test first) (same_row row first) refl refl none stood (λ (rest : find test rows ≡ None). none_stands test rows row rest) where
-  here : (b c : Bool) → test first ≡ b → same_row row first ≡ c → cond b (Some first) (find test rows) ≡ None → (c || stands row rows) ≡ true → (find test rows ≡ None → stands row rows ≡ true → test row ≡ false) → test row ≡ false
-  here true c fails same found some rest = absurd (cc)
-  here false true fails same found some rest = ap test (one_row row first same) ∙ fails
-  here false false fails same found some rest = rest found some
-
--- one clashes, and none besides
-pub one_displaced : (table : TableRows) (new first : Row) → Ascends (key_places table.schema) table.rows → clashing table new None ≡ Some first → clashing table new (Some (key_of (key_places table.schema) first)) ≡ None
-    → displaced table.schema new table.rows ≡ first ∷ []
-unfolding stands
-one_displaced table new first ascends found none =
-    let there : Found (λ other. clash table.schema.uniques new other && true) table.rows first = found_is (λ (other : Row). clash table.schema.uniques new other && true) table.rows first found in
-    let clashes : clash table.schema.uniques new first ≡ true = sym (true_and (clash table.schema.uniques new first)) ∙ there.passes in
-    one_list (key_places table.schema) (displaced table.schema new table.rows) (first ∷ []) (ascends-filter (key_places table.schema) (clash table.schema.uniques new) table.rows ascends) (tt, tt) (λ row.
-    stands-filter (clash table.schema.uniques new) row table.rows ∙ each row clashes there.stood (same_row row first) (stands row table.rows && clash table.schema.uniques new row) refl refl) where
-      apart : (b c : Bool) → (b && not c) ≡ false → b ≡ true → c ≡ true
-      apart true true fails is = refl
-      apart true false fails is = absurd (true≢false fails)
-      apart false c fails is = absurd (false≢true is)
-
-      each : (row : Row) → clash table.schema.uniques new first ≡ true → stands first table.rows ≡ true → (b c : Bool) → same_row row first ≡ b → (stands row table.rows && clash table.schema.uniques new row) ≡ c
-          → (stands row table.rows && clash table.schema.uniques new row) ≡ (same_row row first || false)
-      each row clashes stood true c same is =
-          let one : row ≡ first = one_row row first same in
-          ap (λ (r : Row). stands r table.rows && clash table.schema.uniques new r) one ∙ rw (stood, clashes) (ap (λ (b : Bool). b || false) (sym same))
-      each row clashes stood false true same is =
-          let stands_too : stands row table.rows ≡ true = (and_parts (stands row table.rows) (clash table.schema.uniques new row) is).0 in
-          let clashes_too : clash table.schema.uniques new row ≡ true = (and_parts (stands row table.rows) (clash table.schema.uniques new row) is).1 in
-          let at : is_at (key_places table.schema) (key_of (key_places table.schema) first) row ≡ true = apart (clash table.schema.uniques new row) (is_at (key_places table.schema) (key_of (key_places table.schema) first) row)
-          (none_stands (λ (other : Row). clash table.schema.uniques new other && not (is_at (key_places table.schema) (key_of (key_places table.schema) first) other)) table.rows row none stands_too) clashes_too
-          in
-          let one : first ≡ row = one_of_key (key_places table.schema) first row table.rows ascends stood stands_too (key_is (key_places table.schema) (key_of (key_places table.schema) first) row at) in
-          absurd (true≢false (sym (same_itself first) ∙ ap (λ (r : Row). same_row r first) one ∙ same))
-      each row clashes stood false false same is = is ∙ ap (λ (b : Bool). b || false) (sym same)
-
--- what is found behind a reference
-pub some_copied : (found : Option (Bor Row)) → is_some found ≡ is_some (option_copied found)
-some_copied None = refl
-some_copied (Some row) = refl
-
-pub none_of : (found : Option Row) → is_some found ≡ false → found ≡ None
-none_of None none = refl
-none_of (Some row) none = absurd (true≢false none)

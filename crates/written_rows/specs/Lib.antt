@@ -1,4 +1,5 @@
 pub mod Fitting
+pub mod Gathering
 pub mod Laws
 pub mod Merging
 pub mod Stored

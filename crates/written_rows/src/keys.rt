@@ -10,7 +10,7 @@ ghost use Rattle.written_rows.specs.Fitting.{KeysAscend};
 
 use gho_schema::{Index, Places, Schema};
 use gho_values::{Chars, Duplicate, Key, Keys, Name, Sequence};
-use row_store::{SpanRows, Table};
+use row_pages::{SpanRows, Table};
 use std::alloc::{AllocError, Global};
 use std::marker::Model;
 

@@ -11,7 +11,7 @@ ghost use Rattle.written_rows.specs.Fitting.{IsWritten};
 
 use crate::keys::KeySet;
 use gho_values::{Key, Keys};
-use row_store::Table;
+use row_pages::Table;
 
 /// Moves the row of a key into a table, in place of that which has the key there. It takes no memory.
 fn move_row(key: &Key, from: &mut Table, into: &mut Table)

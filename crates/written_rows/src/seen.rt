@@ -11,7 +11,7 @@ use crate::written::WrittenRows;
 use gho_schema::Schema;
 use gho_values::{Row, Rows};
 use plain_server::Reach;
-use row_store::Table;
+use row_pages::Table;
 use std::alloc::{AllocError, Global};
 use std::marker::Model;
 

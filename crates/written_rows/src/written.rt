@@ -16,7 +16,7 @@ use event_codec::Change;
 use gho_schema::{Schema, key_of};
 use gho_values::{Duplicate, Key, Keys, Row, Rows, Sequence};
 use plain_server::Reach;
-use row_store::Table;
+use row_pages::Table;
 use std::alloc::{AllocError, Global};
 use std::marker::Model;
 

@@ -1,6 +1,6 @@
 use Rattle.std.proofs.Common.{◌≡◌, ◌++◌, length, filter, Some}
 use Rattle.plain_server.specs.Rows.{lies_under}
-use Rattle.written_rows.proofs.meeting.copies_under.Given as goal
+use Rattle.written_rows.proofs.lying.copies_under.Given as goal
 
 -- the rows so far, and those of the others that lie under it
 abbrev pub invariant-loop-row : goal.invariant-loop-row
