@@ -14,9 +14,10 @@ ghost use Rattle.server_data.specs.Fitting.{EventsFit, NoneOf};
 use alter_image::ColumnMap;
 use gho_schema::Schema;
 use gho_values::{Key, Name};
+use paged_tables::Tables;
 use plain_server::{Request, StatementResult};
 use row_locks::LockSet;
-use row_store::{Pairs, RenameFault, Tables};
+use row_store::{Pairs, RenameFault};
 use script_text::Statement;
 use std::alloc::AllocError;
 

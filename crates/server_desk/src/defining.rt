@@ -13,11 +13,11 @@ ghost use Rattle.server_desk.specs.Parts.{state_of, HaveWritten};
 use desk_calls::Desk;
 use gho_schema::Schema;
 use gho_values::{Name, Names};
+use paged_answers::{all_stand, refuses};
 use plain_server::Answer;
 use row_store::{Pairs, RenameFault};
 use server_data::Data;
 use std::alloc::AllocError;
-use table_answers::{all_stand, refuses};
 
 /// LOCK TABLES .. WRITE.
 pub fn lock_tables<D: Data>(

@@ -12,11 +12,11 @@ use crate::committing::{commit, roll_back};
 use crate::defining::{create, drop_table, lock_tables, rename};
 use crate::telling::{begin, begin_span, copy_row, statement};
 use desk_calls::Desk;
+use paged_answers::{end_of_chunk, ends, refuses, tables_shown};
 use plain_server::{Answer, Request};
 use row_locks::LockSet;
 use server_data::Data;
 use std::alloc::AllocError;
-use table_answers::{end_of_chunk, ends, refuses, tables_shown};
 
 /// What is answered without a change: ends of keys, the log, and what stands or waits.
 fn look<D: Data>(store: &D, desk: &Desk, request: &Request) -> Result<Answer, AllocError>

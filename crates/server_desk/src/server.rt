@@ -8,10 +8,11 @@ use crate::calling::{call, poll};
 use crate::losing::lose_session;
 use desk_calls::Desk;
 use gho_values::Names;
-use plain_server::{Answer, Asked, Limits, Request, Serve};
-use row_store::Tables;
+use paged_tables::Tables;
+use plain_server::{Answer, Asked, Limits, Request};
 use script_text::Side;
 use server_data::Data;
+use serving::Serve;
 use std::alloc::{AllocError, Global};
 use std::marker::Model;
 

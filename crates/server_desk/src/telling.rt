@@ -14,12 +14,12 @@ use crate::keeping::keep;
 use alter_image::ColumnMap;
 use desk_calls::Desk;
 use gho_values::{Key, Name, Sequence, Span};
+use paged_answers::{keys_of_span, refuses};
 use plain_server::{Answer, Request};
 use row_locks::LockSet;
 use script_text::Statement;
 use server_data::Data;
 use std::alloc::AllocError;
-use table_answers::{keys_of_span, refuses};
 
 /// One statement.
 pub fn statement<D: Data>(

@@ -1,0 +1,4 @@
+mod Cuts
+mod LastRows
+mod Lists
+mod Shown
