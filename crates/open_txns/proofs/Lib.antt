@@ -1,2 +1,3 @@
 pub mod OpenRows
 pub mod OpenTxns
+pub mod Changed

@@ -29,7 +29,7 @@ found_number number one [] found = absurd (cc)
 found_number number one (first ∷ txns) found = number_first number first one txns (is_of number first) refl found (found_number number one txns)
 
 -- one of a session is none of another's
-not_other : (number other : ℕ) (one : OpenTxn) → is_of number one ≡ true → (other == number) ≡ false → is_of other one ≡ false
+pub not_other : (number other : ℕ) (one : OpenTxn) → is_of number one ≡ true → (other == number) ≡ false → is_of other one ≡ false
 not_other number other one is differ = not_so (is_of other one) refl where
   not_so : (b : Bool) → is_of other one ≡ b → b ≡ false
   not_so true so = let same : other ≡ number = sym (are_one one.session other so) ∙ are_one one.session number is in absurd (false≢true (sym differ ∙ ap (λ (n : ℕ). n == number) same ∙ same_number number))

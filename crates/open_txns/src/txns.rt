@@ -1,6 +1,6 @@
 //! The open transactions of sessions.
 
-ghost use Rattle.std.specs.Prelude.{◌≡◌, ◌≤◌, ◌==◌, ℕ, List, IfSome, option_copied};
+ghost use Rattle.std.specs.Prelude.{◌≡◌, ◌≤◌, ◌==◌, ℕ, List, IfSome, is_some, option_copied};
 ghost use Rattle.std.specs.Option.{option_map};
 ghost use Rattle.std.specs.List.{position_or_len};
 ghost use Rattle.open_txns.specs.Open.{txn_of, others, puts_open};
@@ -28,6 +28,13 @@ pub fn txn_of(txns: &[OpenTxn], session: u32) -> Option<&OpenTxn>
     ensures { option_copied result ≡ txn_of session txns.now }
 {
     txns.iter().find(|one| one.session == session)
+}
+
+/// Whether the session has an open transaction.
+pub fn is_open(txns: &[OpenTxn], session: u32) -> bool
+    ensures { result ≡ is_some (txn_of session txns.now) }
+{
+    txn_of(txns, session).is_some()
 }
 
 fn retain_others(txns: &mut Vec<OpenTxn>, session: u32)
