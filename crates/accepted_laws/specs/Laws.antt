@@ -4,9 +4,16 @@ use Rattle.std.specs.Str.{IsUtf8}
 use Rattle.plan_words.specs.PlanData.{PlanData}
 use Rattle.plan_document.specs.Plans.{read}
 use Rattle.history_laws.specs.Plans.{IsSerialPlan}
+use Rattle.machine_laws.specs.Runnable.{IsRunnable}
 use Rattle.machine_laws.specs.Tabling.{TableStands}
 use Rattle.ready_laws.specs.Laws.{ScriptsEnd}
 use Rattle.runnable_laws.specs.Laws.{IsWorded}
+
+-- *Was read*: the plan of some bytes, whose table's name is a text, as every `Name` is
+pub record WasRead (plan : PlanData) : Type 0 where
+  pub bytes : List ℕ
+  pub is : read bytes ≡ Ok plan
+  pub text : IsUtf8 plan.table
 
 -- *Read plans are serial*: their tables are tables with clustered keys, and their scripts name no table of the tool's.
 abbrev pub ReadPlansAreSerial : Type 0
@@ -20,10 +27,13 @@ ReadTablesStand = (bytes : List ℕ) (plan : PlanData) → read bytes ≡ Ok pla
 abbrev pub ReadScriptsEnd : Type 0
 ReadScriptsEnd = (bytes : List ℕ) (plan : PlanData) → read bytes ≡ Ok plan → ScriptsEnd plan
 
--- *Read plans are worded*: transactions are whole, the tool's names have room, sizes are at least 1 and kinds are kinds. (That
--- the name is a text is what every `Name` has.)
+-- *Read plans are worded*: transactions are whole, the tool's names have room, sizes are at least 1 and kinds are kinds.
 abbrev pub ReadPlansAreWorded : Type 0
-ReadPlansAreWorded = (bytes : List ℕ) (plan : PlanData) → read bytes ≡ Ok plan → IsUtf8 plan.table → IsWorded plan
+ReadPlansAreWorded = (plan : PlanData) → WasRead plan → IsWorded plan
+
+-- *Read plans are runnable*: all that their programs give may be called, polled and lost.
+abbrev pub ReadPlansAreRunnable : Type 0
+ReadPlansAreRunnable = (plan : PlanData) → WasRead plan → IsRunnable plan
 
 -- *Read attempts may be drained*: the applier has at least one turn for it.
 abbrev pub ReadAttemptsDrain : Type 0

@@ -1,4 +1,7 @@
-//! What every accepted plan has, so that the laws over journals speak of it: each function's contract is a law.
+//! What every accepted plan has, so that the laws over journals speak of it.
 #![tactic(auto)]
 
 pub mod laws;
+mod reading;
+
+pub use reading::read_accepted_plan;
