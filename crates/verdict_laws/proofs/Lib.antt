@@ -3,4 +3,4 @@ mod Limits
 mod Waits
 mod Tries
 mod Reasons
-mod Standing
+pub mod Standing

@@ -1,0 +1,2 @@
+mod Sentry
+mod Spent
