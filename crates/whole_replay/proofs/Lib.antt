@@ -1,0 +1,6 @@
+mod Choices
+mod GoingOn
+mod Lists
+mod PassChoices
+mod Passing
+mod WordChoices
