@@ -1,5 +1,5 @@
 -- What every plan that is read has.
-use Rattle.std.proofs.Common.{◌≡◌, ◌≤◌, ℕ, false, ◌||◌, List, [], ◌∷◌, length, Option, Some, Result, Ok, Err, unwrap_or, refl, sym, ap, ◌∙◌, subst, Bool, true, cond, None}
+use Rattle.std.proofs.Common.{◌≡◌, ◌≤◌, ℕ, false, ◌||◌, List, [], ◌∷◌, length, Option, Some, Result, Ok, Err, unwrap_or, refl, sym, ap, ◌∙◌, subst}
 use Rattle.std.specs.List.{AllByRecursion, list_any, flat_map}
 use Rattle.std.specs.Option.{option_map}
 use Rattle.std.specs.Str.{IsUtf8, bytes_eq}
@@ -17,12 +17,7 @@ use Rattle.script_reader.specs.Scripts.{names_one_of, script_of}
 use Rattle.script_reader.specs.declared.code.ScriptRefusal.{ScriptRefusal}
 use Rattle.order_reader.specs.declared.fault.OrderRefusal.{OrderRefusal}
 use Rattle.order_reader.specs.Operators.{operator_of}
-use Rattle.gho_schema.specs.declared.schema.Schema.{Schema}
-use Rattle.schema_rules.specs.Lawful.{IsLawful}
-use Rattle.plain_server.specs.Conditions.{IsMapOf}
-use Rattle.machine_laws.specs.Runnable.{IsRunnable}
-use Rattle.plan_words.specs.Migratable.{IsMigratable}
-use Rattle.plan_words.specs.PlanData.{PlanData, Altered, altered_by, old_schema, no_schema, new_altered, new_schema, new_map}
+use Rattle.plan_words.specs.PlanData.{PlanData, old_schema, no_schema}
 use Rattle.plan_keys.specs.Limits.{TextData}
 use Rattle.plan_keys.specs.PlanKeys.{KeyData}
 use Rattle.plan_keys.specs.declared.fault.KeyRefusal.TheVariants.{TooMany}
@@ -35,7 +30,7 @@ use Rattle.plan_document.specs.Orders.{OrderData, faults_of, orders_of}
 use Rattle.plan_document.specs.Refusals.{of_alter, of_operator, of_script, of_tables, of_turns}
 use Rattle.plan_document.specs.Walks.{each_from}
 use Rattle.plan_document.proofs.Opened.{alter_was, opening_is}
-use Rattle.plan_tables.specs.Tables.{tables_of}
+use Rattle.plan_tables.specs.Tables.{IsSound, tables_of}
 use Rattle.plan_laws.specs.PlanLaws.{IsAccepted, ReadPlansAreAccepted}
 use Rattle.turn_reader.specs.Turns.{turns_of}
 use Rattle.plain_server.specs.Jobs.{table_of}
@@ -45,15 +40,14 @@ use Rattle.history_laws.specs.Plans.{names_of, script_names}
 use Rattle.machine_laws.specs.Scripts.{LinesFit}
 use Rattle.machine_laws.specs.Tabling.{TableStands}
 use Rattle.ready_laws.specs.Laws.{LinesEnd, ScriptsEnd}
-use Rattle.runnable_laws.specs.Laws.{IsWorded, MigratablePlansAreRunnable}
-use Rattle.statement_laws.proofs.Tests.{nor_left, nor_right, same_bytes, turned_bytes}
-use Rattle.accepted_laws.specs.Laws.{ReadAttemptsDrain, ReadPlansAreRunnable, ReadPlansAreSerial, ReadPlansAreWorded, ReadScriptsEnd, ReadTablesStand}
+use Rattle.runnable_laws.specs.Laws.{AlterablePlansAreRunnable, IsWorded}
+use Rattle.statement_laws.proofs.Tests.{nor_left, nor_right, turned_bytes}
+use Rattle.accepted_laws.specs.Laws.{ReadAttemptsDrain, ReadPlansAreAlterable, ReadPlansAreRunnable, ReadPlansAreSerial, ReadPlansAreWorded, ReadScriptsEnd, ReadTablesStand}
 use Rattle.accepted_laws.proofs.Commands.{operator_fits}
 use Rattle.accepted_laws.proofs.Names.{names_fit}
 use Rattle.accepted_laws.proofs.Numbers.{options_ranged}
 use Rattle.accepted_laws.proofs.Parts.{parts_of}
 use Rattle.accepted_laws.proofs.Scripts.{IsScript, script_is}
-use Rattle.plan_tables.specs.Tables.{IsSound}
 use Rattle.accepted_laws.proofs.Tables.{Laws, all_orderly, found_is, migrated_named}
 
 -- SCRIPTS
@@ -176,51 +170,25 @@ plans_serial accepted bytes plan is =
       scripts = subst (λ (p : PlanData). AllByRecursion (λ name. is_tool_name p.table name ≡ false) (script_names p)) parts.same free;
     }
 
-module _ (plan : PlanData) (all : IsAccepted plan) (named : all.table.schema.name ≡ plan.table) where
-  -- the plan with the migrated table alone
-  abbrev one : PlanData
-  one = record plan { tables = all.table ∷ [] }
-
-  old_is : old_schema plan ≡ all.table.schema
-  old_is = ap (λ (t : Option TableRows). unwrap_or (option_map (λ table. table.schema) t) no_schema) all.found
-
-  is_named_so : bytes_eq all.table.schema.name plan.table ≡ true
-  is_named_so = ap (λ (n : List ℕ). bytes_eq n plan.table) named ∙ same_bytes plan.table
-
-  old_one : old_schema one ≡ all.table.schema
-  old_one = ap (λ (b : Bool). unwrap_or (option_map (λ table. table.schema) (cond b (Some all.table) None)) no_schema) is_named_so
-
-  same_old : old_schema plan ≡ old_schema one
-  same_old = old_is ∙ sym old_one
-
-  same_new : new_altered plan ≡ new_altered one
-  same_new = ap (λ (s : Schema). unwrap_or (altered_by plan s) (no_schema, [])) same_old
-
-  -- what is runnable of the one table alone is so among the others
-  pub runnable_so : AllByRecursion IsSound plan.tables → IsWorded plan → IsRunnable one → IsRunnable plan
-  unfolding new_schema new_map
-  runnable_so sound worded is =
-      let mapped : IsMapOf (new_altered plan).1 (old_schema plan) (record ((new_altered plan).0) { name = ghost_name plan.table }) =
-      subst (λ (n : Altered). IsMapOf n.1 (old_schema plan) (record (n.0) { name = ghost_name plan.table })) (sym same_new)
-      (subst (λ (s : Schema). IsMapOf (new_altered one).1 s (record ((new_altered one).0) { name = ghost_name plan.table })) (sym same_old) (record { origins = is.mapped.origins; columns = is.mapped.columns })) in
-      record {
-        fitting = record { scripts = worded.scripts; names = worded.names; chunk = worded.chunk; commands = worded.commands; batch = worded.batch; lawful = subst (λ (n : Altered). IsLawful n.0) (sym same_new) is.fitting.lawful };
-        tables = all_orderly plan.tables sound;
-        stands = table_stands plan all;
-        mapped = record { origins = mapped.origins; columns = mapped.columns };
-      }
+-- *Read plans are alterable*
+pub plans_alterable : ReadPlansAreAccepted → ReadPlansAreAlterable
+plans_alterable accepted bytes plan is =
+    let all = accepted bytes plan is in
+    let found = found_is IsSound plan.table plan.tables all.table all.sound all.found in
+    record {
+      tables = all_orderly plan.tables all.sound;
+      table = all.table;
+      found = all.found;
+      is_table = found.is.is_table;
+      lawful = found.is.lawful;
+      new = all.new;
+      alters = all.alters;
+      keeps = all.keeps;
+    }
 
 -- *Read plans are runnable*
-pub plans_runnable : ReadPlansAreAccepted → ReadPlansAreWorded → MigratablePlansAreRunnable → ReadPlansAreRunnable
-unfolding words_of
-plans_runnable accepted worded runnable plan was =
-    let all = accepted was.bytes plan was.is in
-    let words = worded plan was in
-    let found = found_is IsSound plan.table plan.tables all.table all.sound all.found in
-    let single : PlanData = record plan { tables = all.table ∷ [] } in
-    let is : IsMigratable single = record { table = all.table; only = refl; named = found.named; is_table = found.is.is_table; lawful = found.is.lawful; new = all.new; alters = all.alters; keeps = all.keeps } in
-    let fits : IsWorded single = record { scripts = words.scripts; names = words.names; chunk = words.chunk; commands = words.commands; batch = words.batch; clauses = words.clauses } in
-    runnable_so plan all found.named all.sound words (runnable single is fits)
+pub plans_runnable : ReadPlansAreAlterable → ReadPlansAreWorded → AlterablePlansAreRunnable → ReadPlansAreRunnable
+plans_runnable alterable worded runnable plan was = runnable plan (alterable was.bytes plan was.is) (worded plan was)
 
 -- *Read scripts end*
 pub scripts_end : ReadScriptsEnd

@@ -7,7 +7,7 @@ use Rattle.history_laws.specs.Plans.{IsSerialPlan}
 use Rattle.machine_laws.specs.Runnable.{IsRunnable}
 use Rattle.machine_laws.specs.Tabling.{TableStands}
 use Rattle.ready_laws.specs.Laws.{ScriptsEnd}
-use Rattle.runnable_laws.specs.Laws.{IsWorded}
+use Rattle.runnable_laws.specs.Laws.{IsAlterable, IsWorded}
 
 -- *Was read*: the plan of some bytes, whose table's name is a text, as every `Name` is
 pub record WasRead (plan : PlanData) : Type 0 where
@@ -26,6 +26,10 @@ ReadTablesStand = (bytes : List ℕ) (plan : PlanData) → read bytes ≡ Ok pla
 -- *Read scripts end*: the last line of none leaves a transaction open.
 abbrev pub ReadScriptsEnd : Type 0
 ReadScriptsEnd = (bytes : List ℕ) (plan : PlanData) → read bytes ≡ Ok plan → ScriptsEnd plan
+
+-- *Read plans are alterable*: the migrated table is one of theirs, and its ALTER is taken and keeps the keys of its rows.
+abbrev pub ReadPlansAreAlterable : Type 0
+ReadPlansAreAlterable = (bytes : List ℕ) (plan : PlanData) → read bytes ≡ Ok plan → IsAlterable plan
 
 -- *Read plans are worded*: transactions are whole, the tool's names have room, sizes are at least 1 and kinds are kinds.
 abbrev pub ReadPlansAreWorded : Type 0

@@ -1,20 +1,21 @@
 //! The laws: each function's contract is one.
 
-ghost use Rattle.accepted_laws.specs.Laws.{ReadPlansAreSerial, ReadTablesStand, ReadScriptsEnd, ReadPlansAreWorded, ReadAttemptsDrain, ReadPlansAreRunnable};
+ghost use Rattle.accepted_laws.specs.Laws.{ReadPlansAreSerial, ReadTablesStand, ReadScriptsEnd, ReadPlansAreAlterable, ReadPlansAreWorded, ReadAttemptsDrain, ReadPlansAreRunnable};
 
 use alter_laws::read_clauses_write_kinds;
 use gho_values::laws::stored_values_store_again;
 use plan_laws::laws::read_plans_are_accepted;
 use reread_laws::read_schemas_are_declared;
 use row_store::laws::put_keeps_tables;
-use runnable_laws::laws::migratable_plans_are_runnable;
+use runnable_laws::laws::alterable_plans_are_runnable;
 use schema_laws::read_schemas_are_lawful;
 
-/// The tables of a plan that is read are tables with clustered keys, the migrated one is one of them, and its scripts
-/// name no table of the tool's.
+/// The tables of a plan that is read are tables with clustered keys, the migrated one is one of them, and its ALTER is
+/// taken; its scripts name no table of the tool's.
 pub fn read_plans_are_serial()
     ensures serial { ReadPlansAreSerial }
     ensures stands { ReadTablesStand }
+    ensures alterable { ReadPlansAreAlterable }
 {
     read_plans_are_accepted();
 }
@@ -40,7 +41,7 @@ pub fn read_plans_are_worded()
 pub fn read_plans_are_runnable()
     ensures { ReadPlansAreRunnable }
 {
-    read_plans_are_accepted();
+    read_plans_are_serial();
     read_plans_are_worded();
-    migratable_plans_are_runnable();
+    alterable_plans_are_runnable();
 }

@@ -1,8 +1,7 @@
--- Every journal that follows the program of a migratable plan: from its opening on, and at the mark.
+-- Every journal that follows the program of an alterable plan: from its opening on, and at the mark.
 use Rattle.std.specs.Prelude.{◌≡◌, false, List, Some}
 use Rattle.row_store.specs.Databases.{find_table}
 use Rattle.plain_server.specs.declared.entry.Entry.{Entry}
-use Rattle.plan_words.specs.Migratable.{IsMigratable}
 use Rattle.plan_words.specs.PlanData.{PlanData}
 use Rattle.journal_words.specs.Journals.{state_at}
 use Rattle.migration_program.specs.Tools.{Migrating, Work, is_reverting, moment}
@@ -13,7 +12,7 @@ use Rattle.ghost_laws.specs.Copies.{IsAltered}
 use Rattle.ghost_laws.specs.Holding.{Clustered}
 use Rattle.planning_laws.specs.Laws.{migration_of}
 use Rattle.run_laws.specs.Kept.{IsKept}
-use Rattle.runnable_laws.specs.Laws.{IsWorded}
+use Rattle.runnable_laws.specs.Laws.{IsAlterable, IsWorded}
 use Rattle.unaltered_laws.specs.Laws.{IsUnaltered}
 use Rattle.follow_turns.specs.Laws.{GoesSomehow, IsMark, IsMigrationOf}
 
@@ -24,7 +23,7 @@ FollowersGo =
     (plan : PlanData) (m : Migration) (at : Clustered m.schema) (rows : List Row) → IsMigrationOf plan m rows → find_table m.name plan.tables ≡ Some (record { schema = m.schema; rows = rows }) → (journal : List Entry) (work : Work) → IsKept plan journal → IsUnaltered plan journal
     → is_reverting (moment plan journal).tool.reason ≡ false → (moment plan journal).tool.course ≡ Migrating work → GoesSomehow plan m at rows journal
 
--- *Followers alter*: in every journal that follows the program of a migratable plan, whatever is answered, refused, lost or
+-- *Followers alter*: in every journal that follows the program of an alterable plan, whatever is answered, refused, lost or
 -- repeated, at the mark the new table is the altered one.
 abbrev pub FollowersAlter : Type 0
-FollowersAlter = (plan : PlanData) (is : IsMigratable plan) → IsWorded plan → IsSerialPlan plan → (journal : List Entry) → IsKept plan journal → IsMark plan journal → IsAltered (migration_of is.table.schema is.new) (state_at plan journal).tables
+FollowersAlter = (plan : PlanData) (is : IsAlterable plan) → IsWorded plan → IsSerialPlan plan → (journal : List Entry) → IsKept plan journal → IsMark plan journal → IsAltered (migration_of is.table.schema is.new) (state_at plan journal).tables

@@ -3,7 +3,7 @@
 ghost use Rattle.follow_laws.specs.Laws.{FollowersAlter, FollowersGo};
 
 use gho_values::laws::stored_values_store_again;
-use runnable_laws::laws::migratable_plans_are_runnable;
+use runnable_laws::laws::alterable_plans_are_runnable;
 
 /// From the opening on, once the setup is over the migration goes.
 pub fn followers_go()
@@ -15,5 +15,5 @@ pub fn followers_alter()
     ensures { FollowersAlter }
 {
     stored_values_store_again();
-    migratable_plans_are_runnable();
+    alterable_plans_are_runnable();
 }

@@ -1,4 +1,4 @@
-//! In every journal that follows a migratable plan's program the new table becomes the altered one.
+//! In every journal that follows an alterable plan's program the new table becomes the altered one.
 #![tactic(auto)]
 
 pub mod laws;

@@ -18,7 +18,6 @@ use Rattle.plain_server.specs.declared.entry.Entry.{Entry}
 use Rattle.plain_server.specs.declared.request.Request.{Request}
 use Rattle.plain_server.specs.declared.request.Request.TheVariants as requests
 use Rattle.plain_server.specs.Entries.{is_client}
-use Rattle.plan_words.specs.Migratable.{IsMigratable}
 use Rattle.plan_words.specs.PlanData.{Altered, PlanData}
 use Rattle.changelog_table.specs.ToolNames.{ghost_name, log_name, old_name, is_tool_name}
 use Rattle.cutover_core.specs.Attempts.{exchange}
@@ -38,7 +37,8 @@ use Rattle.actor_seats.proofs.Alters.{of_client}
 use Rattle.statement_laws.proofs.Tests.{same_bytes}
 use Rattle.machine_laws.specs.Runnable.{IsRunnable}
 use Rattle.machine_laws.proofs.Journals.{IsRun, all_runs}
-use Rattle.runnable_laws.specs.Laws.{MigratablePlansAreRunnable}
+use Rattle.runnable_laws.specs.Laws.{AlterablePlansAreRunnable, IsAlterable}
+use Rattle.runnable_laws.proofs.Runnable.{named}
 use Rattle.unaltered_laws.proofs.Asking.{exchange_takes}
 use Rattle.unaltered_laws.proofs.Runs.{none_counted}
 use Rattle.unaltered_laws.proofs.Away.{IsKnownAsked, about_asked, asked_begins, asked_more, ghost_is_tool, keeps_away_so, tool_adds, tool_not_mine}
@@ -50,7 +50,7 @@ old_is_tool table = let name : List ℕ = old_name table in or_right (bytes_eq n
 
 -- THE EXCHANGE
 
-module _ (plan : PlanData) (is : IsMigratable plan) (serial : IsSerialPlan plan) (tables : Database) (altered : IsAltered (migration_of is.table.schema is.new) tables) where
+module _ (plan : PlanData) (is : IsAlterable plan) (serial : IsSerialPlan plan) (tables : Database) (altered : IsAltered (migration_of is.table.schema is.new) tables) where
   abbrev old_table : TableRows
   old_table = record { schema = is.table.schema; rows = altered.rows }
 
@@ -58,7 +58,7 @@ module _ (plan : PlanData) (is : IsMigratable plan) (serial : IsSerialPlan plan)
   new_table = record { schema = record (is.new.0) { name = ghost_name is.table.schema.name }; rows = altered.made }
 
   new_named : is.new.0.name ≡ plan.table
-  new_named = is.keeps.name ∙ is.named
+  new_named = is.keeps.name ∙ named plan is
 
   -- the altered table, under the migrated one's name
   made_is : plan_altered_table plan old_table ≡ Some (name_table plan.table new_table)
@@ -76,8 +76,8 @@ module _ (plan : PlanData) (is : IsMigratable plan) (serial : IsSerialPlan plan)
     kept_other = tool_not_mine plan (old_name plan.table) serial (old_is_tool plan.table);
     old = old_table;
     new = new_table;
-    was = ap (λ (n : List ℕ). find_table n tables) (sym is.named) ∙ altered.old;
-    stands = ap (λ (n : List ℕ). find_table (ghost_name n) tables) (sym is.named) ∙ altered.new;
+    was = ap (λ (n : List ℕ). find_table n tables) (sym (named plan is)) ∙ altered.old;
+    stands = ap (λ (n : List ℕ). find_table (ghost_name n) tables) (sym (named plan is)) ∙ altered.new;
     made = made_is;
   }
 
@@ -86,7 +86,7 @@ module _ (plan : PlanData) (is : IsMigratable plan) (serial : IsSerialPlan plan)
 
 -- ONE TURN
 
-module _ (plan : PlanData) (is : IsMigratable plan) (runs : IsRunnable plan) (serial : IsSerialPlan plan) (journal : List Entry) (entry : Entry) (known : IsKnownAsked plan journal) (run : IsRun plan journal entry)
+module _ (plan : PlanData) (is : IsAlterable plan) (runs : IsRunnable plan) (serial : IsSerialPlan plan) (journal : List Entry) (entry : Entry) (known : IsKnownAsked plan journal) (run : IsRun plan journal entry)
     (marked : IsMarkedAt plan is journal entry) where
   so_far : (tool : is_client entry.actor ≡ false) (asks : Option Request) → histories.about journal entry ≡ asks → told_in entry.asked entry.side entry.answer entry.missed ≡ Some ok → RenamesSo (scene_of plan []) (state_at plan journal).tables asks
   so_far tool None about told = tt
@@ -105,12 +105,12 @@ module _ (plan : PlanData) (is : IsMigratable plan) (runs : IsRunnable plan) (se
 
 -- WHOLE JOURNALS
 
-aways : (plan : PlanData) (is : IsMigratable plan) → IsRunnable plan → IsSerialPlan plan → (before journal : List Entry) → Along (IsRun plan) before journal → IsKnownAsked plan before → Along (IsMarkedAt plan is) before journal → Along (λ some entry. KeepsAway plan some entry entry.actor) before journal
+aways : (plan : PlanData) (is : IsAlterable plan) → IsRunnable plan → IsSerialPlan plan → (before journal : List Entry) → Along (IsRun plan) before journal → IsKnownAsked plan before → Along (IsMarkedAt plan is) before journal → Along (λ some entry. KeepsAway plan some entry entry.actor) before journal
 aways plan is runs serial before [] turns known marked = tt
 aways plan is runs serial before (entry ∷ journal) turns known marked = (away plan is runs serial before entry known turns.0 marked.0, aways plan is runs serial (before ++ entry ∷ []) journal turns.1 (asked_more plan before entry turns.0 known) marked.1)
 
 -- *Marked journals are runs*
-pub marked_runs : MigratablePlansAreRunnable → MarkedJournalsAreRuns
+pub marked_runs : AlterablePlansAreRunnable → MarkedJournalsAreRuns
 unfolding Follows
 marked_runs runnable plan is worded serial journal kept marked =
     let runs : IsRunnable plan = runnable plan is worded in record {
@@ -160,7 +160,7 @@ once_more plan before entry once marked = subst (λ (n : ℕ). n ≤ 1) (sym (hi
   by true is = subst (λ (n : ℕ). fold counted n (entry_adds plan before entry) ≤ 1) (sym (none_counted (history plan before) (marked is))) (adds_once plan before entry entry.actor)
   by false is = subst (λ (n : ℕ). n ≤ 1) (sym (none_more (count_by is_alter (history plan before)) (entry_adds plan before entry) is)) once
 
-once : (plan : PlanData) (is : IsMigratable plan) (before journal : List Entry) → count_by is_alter (history plan before) ≤ 1 → Along (IsMarkedAt plan is) before journal → count_by is_alter (history plan (before ++ journal)) ≤ 1
+once : (plan : PlanData) (is : IsAlterable plan) (before journal : List Entry) → count_by is_alter (history plan before) ≤ 1 → Along (IsMarkedAt plan is) before journal → count_by is_alter (history plan (before ++ journal)) ≤ 1
 once plan is before [] most marked = subst (λ (j : List Entry). count_by is_alter (history plan j) ≤ 1) (sym (append-nil before)) most
 once plan is before (entry ∷ journal) most marked =
     subst (λ (j : List Entry). count_by is_alter (history plan j) ≤ 1) (append_assoc before (entry ∷ []) journal) (once plan is (before ++ entry ∷ []) journal (once_more plan before entry most (λ alters. (marked.0 alters).0)) marked.1)
@@ -170,5 +170,5 @@ unfolding history
 none_yet plan = omega arith
 
 -- ... and serial
-pub marked_serial : MigratablePlansAreRunnable → MarkedJournalsAreSerial
+pub marked_serial : AlterablePlansAreRunnable → MarkedJournalsAreSerial
 marked_serial runnable plan is worded serial journal kept marked = journals_are_serial plan journal (marked_runs runnable plan is worded serial journal kept marked) (once plan is [] journal (none_yet plan) marked)

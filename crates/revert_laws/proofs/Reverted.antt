@@ -11,7 +11,6 @@ use Rattle.plain_server.specs.States.{State}
 use Rattle.plain_server.specs.declared.entry.Entry.{Entry}
 use Rattle.plain_server.specs.declared.request.Request.{Request}
 use Rattle.plain_server.specs.declared.request.Request.TheVariants as requests
-use Rattle.plan_words.specs.Migratable.{IsMigratable}
 use Rattle.plan_words.specs.PlanData.{PlanData}
 use Rattle.cutover_core.specs.Attempts as attempts
 use Rattle.cutover_core.specs.Attempts.{renamer_call}
@@ -44,7 +43,7 @@ use Rattle.machine_laws.specs.Runnable.{IsRunnable}
 use Rattle.machine_laws.specs.Standings.{Standing, free, standing_of}
 use Rattle.machine_laws.proofs.Journals.{Asking, IsRun, IsTogether, calls_so, polls_so}
 use Rattle.migration_laws.proofs.Migrating.{ends}
-use Rattle.runnable_laws.specs.Laws.{IsWorded, MigratablePlansAreRunnable}
+use Rattle.runnable_laws.specs.Laws.{AlterablePlansAreRunnable, IsAlterable, IsWorded}
 use Rattle.unaltered_laws.specs.Laws.{IsUnaltered}
 use Rattle.unaltered_laws.proofs.Away.{IsKnownAsked, all_asked, unaltered_front}
 use Rattle.ready_laws.proofs.Going.{CourseGoes, all_going}
@@ -57,7 +56,7 @@ use Rattle.follow_turns.specs.Laws.{GoesSomehow, IsMark, IsMigrationOf}
 use Rattle.follow_turns.proofs.Follows.{kept_front, kept_run, kept_scene}
 use Rattle.follow_turns.proofs.Goes.{in_scene}
 use Rattle.follow_laws.specs.Laws.{FollowersAlter}
-use Rattle.follow_laws.proofs.Follows.{migration, named_table}
+use Rattle.follow_laws.proofs.Follows.{migration, own_table}
 use Rattle.follow_laws.proofs.Starts.{followers_go}
 use Rattle.marked_laws.specs.Laws.{IsMarkedAt, MarkedJournalsAreSerial}
 use Rattle.once_laws.specs.Laws.{RenamesComeOnce}
@@ -322,7 +321,7 @@ module _ (plan : PlanData) (m : Migration) (at : Clustered m.schema) (rows : Lis
         }) (in_scene plan m at rows [] journal journal frozen.machines frozen.stands)
 
 -- *Renames find the altered table*
-pub renames_altered : StoresAgain → MigratablePlansAreRunnable → FollowersAlter → JournalsAreTurned → ExclusiveIsAlone → DefinitionsAreDone → WaitsAreTold → RenamesFindTheAltered
+pub renames_altered : StoresAgain → AlterablePlansAreRunnable → FollowersAlter → JournalsAreTurned → ExclusiveIsAlone → DefinitionsAreDone → WaitsAreTold → RenamesFindTheAltered
 renames_altered again runnable alter turned alone done told plan is journal entry worded serial rename = by (is_reverting (moment plan journal).tool.reason) refl where
   runs : IsRunnable plan
   runs = runnable plan is worded
@@ -338,19 +337,19 @@ renames_altered again runnable alter turned alone done told plan is journal entr
 
   by : (b : Bool) → is_reverting (moment plan journal).tool.reason ≡ b → IsAltered (migration_of is.table.schema is.new) (state_at plan journal).tables
   by true on =
-      altered_on plan (migration_of is.table.schema is.new) (clustered is.table.schema of.planned.old_key) is.table.rows of (named_table plan is is.table.schema.name refl) journal entry rename (turned plan journal runs serial kept rename.unaltered) finds on
+      altered_on plan (migration_of is.table.schema is.new) (clustered is.table.schema of.planned.old_key) is.table.rows of (own_table plan is) journal entry rename (turned plan journal runs serial kept rename.unaltered) finds on
   by false going = alter plan is worded serial journal kept (marked going) where
     marked : is_reverting (moment plan journal).tool.reason ≡ false → IsMark plan journal
     marked going = renames_marked alone done told turned plan journal entry runs serial rename going
 
 -- each turn that does the RENAME is the first, and finds the altered table
-all_marked : RenamesFindTheAltered → (plan : PlanData) (is : IsMigratable plan) → IsWorded plan → IsSerialPlan plan → (some journal : List Entry) → IsKept plan (some ++ journal) → Along (λ before one. list_any is_alter (entry_adds plan before one) ≡ true → IsUnaltered plan before) some journal → Along (IsMarkedAt plan is) some journal
+all_marked : RenamesFindTheAltered → (plan : PlanData) (is : IsAlterable plan) → IsWorded plan → IsSerialPlan plan → (some journal : List Entry) → IsKept plan (some ++ journal) → Along (λ before one. list_any is_alter (entry_adds plan before one) ≡ true → IsUnaltered plan before) some journal → Along (IsMarkedAt plan is) some journal
 all_marked finds plan is worded serial some [] follows firsts = tt
 all_marked finds plan is worded serial some (entry ∷ journal) follows firsts =
     let later : IsKept plan ((some ++ entry ∷ []) ++ journal) = subst (IsKept plan) (sym (append_assoc some (entry ∷ []) journal)) follows in
     (λ alters. (firsts.0 alters, finds plan is some entry worded serial (record { kept = kept_front plan (some ++ entry ∷ []) journal later; unaltered = firsts.0 alters; alters = alters })), all_marked finds plan is worded serial (some ++ entry ∷ []) journal later firsts.1)
 
 -- *Kept journals are serial*
-pub kept_serial : MigratablePlansAreRunnable → MarkedJournalsAreSerial → RenamesComeOnce → RenamesFindTheAltered → KeptJournalsAreSerial
+pub kept_serial : AlterablePlansAreRunnable → MarkedJournalsAreSerial → RenamesComeOnce → RenamesFindTheAltered → KeptJournalsAreSerial
 kept_serial runnable marked_serial once finds plan is journal worded serial kept =
     marked_serial plan is worded serial journal kept (all_marked finds plan is worded serial [] journal kept (once plan journal (runnable plan is worded) serial kept))

@@ -1,7 +1,6 @@
 -- Whatever is reverted, the RENAME that is done finds the altered table, and kept journals are serial.
 use Rattle.std.specs.Prelude.{List}
 use Rattle.plain_server.specs.declared.entry.Entry.{Entry}
-use Rattle.plan_words.specs.Migratable.{IsMigratable}
 use Rattle.plan_words.specs.PlanData.{PlanData}
 use Rattle.journal_words.specs.Journals.{state_at}
 use Rattle.journal_words.specs.Serials.{IsSerial}
@@ -9,15 +8,15 @@ use Rattle.history_laws.specs.Plans.{IsSerialPlan}
 use Rattle.ghost_laws.specs.Copies.{IsAltered}
 use Rattle.planning_laws.specs.Laws.{migration_of}
 use Rattle.run_laws.specs.Kept.{IsKept}
-use Rattle.runnable_laws.specs.Laws.{IsWorded}
+use Rattle.runnable_laws.specs.Laws.{IsAlterable, IsWorded}
 use Rattle.rename_laws.specs.Laws.{IsRename}
 
 -- *Renames find the altered table*: where the RENAME is done, the new table is the altered one, whether or not all is reverted.
 abbrev pub RenamesFindTheAltered : Type 0
 RenamesFindTheAltered =
-    (plan : PlanData) (is : IsMigratable plan) (journal : List Entry) (entry : Entry) → IsWorded plan → IsSerialPlan plan → IsRename plan journal entry → IsAltered (migration_of is.table.schema is.new) (state_at plan journal).tables
+    (plan : PlanData) (is : IsAlterable plan) (journal : List Entry) (entry : Entry) → IsWorded plan → IsSerialPlan plan → IsRename plan journal entry → IsAltered (migration_of is.table.schema is.new) (state_at plan journal).tables
 
--- *Kept journals are serial*: so is each journal of a migratable plan that is kept, whatever is answered, refused, lost or repeated,
+-- *Kept journals are serial*: so is each journal of an alterable plan that is kept, whatever is answered, refused, lost or repeated,
 -- whatever is reverted, and whatever comes behind its RENAME.
 abbrev pub KeptJournalsAreSerial : Type 0
-KeptJournalsAreSerial = (plan : PlanData) → IsMigratable plan → (journal : List Entry) → IsWorded plan → IsSerialPlan plan → IsKept plan journal → IsSerial plan journal
+KeptJournalsAreSerial = (plan : PlanData) → IsAlterable plan → (journal : List Entry) → IsWorded plan → IsSerialPlan plan → IsKept plan journal → IsSerial plan journal

@@ -7,7 +7,7 @@ use gho_values::laws::stored_values_store_again;
 use marked_laws::laws::marked_journals_are_serial;
 use once_laws::laws::renames_come_once;
 use rename_laws::laws::journals_are_turned;
-use runnable_laws::laws::migratable_plans_are_runnable;
+use runnable_laws::laws::alterable_plans_are_runnable;
 use server_laws::laws::{definitions_are_done, exclusive_is_alone};
 use waits_laws::laws::waits_are_told;
 
@@ -16,7 +16,7 @@ pub fn renames_find_the_altered()
     ensures { RenamesFindTheAltered }
 {
     stored_values_store_again();
-    migratable_plans_are_runnable();
+    alterable_plans_are_runnable();
     followers_alter();
     journals_are_turned();
     exclusive_is_alone();
@@ -28,7 +28,7 @@ pub fn renames_find_the_altered()
 pub fn kept_journals_are_serial()
     ensures { KeptJournalsAreSerial }
 {
-    migratable_plans_are_runnable();
+    alterable_plans_are_runnable();
     marked_journals_are_serial();
     renames_come_once();
     renames_find_the_altered();

@@ -1,2 +1,2 @@
 mod Origins
-mod Runnable
+pub mod Runnable

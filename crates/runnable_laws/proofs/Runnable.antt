@@ -1,15 +1,16 @@
--- Every migratable plan whose words fit is runnable.
-use Rattle.std.proofs.Common.{◌≡◌, ℕ, Bool, List, [], ◌∷◌, cond, Option, Some, None, Ok, unwrap_or, sym, ap, subst, ◌∙◌}
+-- Every alterable plan whose words fit is runnable.
+use Rattle.std.proofs.Common.{◌≡◌, ℕ, Bool, true, false, List, [], ◌∷◌, cond, Option, Some, None, Ok, unwrap_or, refl, sym, ap, subst, ◌∙◌}
 use Rattle.std.specs.List.{AllByRecursion}
 use Rattle.std.specs.Option.{option_map}
 use Rattle.gho_values.specs.Laws.{StoresAgain}
 use Rattle.gho_schema.specs.declared.schema.Schema.{Schema}
 use Rattle.alter_schema.specs.Altering.{altered}
 use Rattle.alter_laws.proofs.KeepingLaws.{altered-lawful}
-use Rattle.row_store.specs.Databases.{TableRows, find_table}
+use Rattle.row_store.specs.Databases.{TableRows, Database, is_named, find_table}
+use Rattle.schema_rules.proofs.Steps.{some_is}
 use Rattle.schema_rules.specs.Lawful.{IsLawful}
 use Rattle.statement_laws.specs.Covering.{IsOrderlyTable}
-use Rattle.statement_laws.proofs.Tests.{same_bytes}
+use Rattle.statement_laws.proofs.Tests.{are_same, same_bytes}
 use Rattle.plan_words.specs.PlanData.{PlanData, Altered, altered_by, no_schema, old_schema, new_altered, new_schema, new_map}
 use Rattle.plan_words.specs.Migratable.{IsMigratable}
 use Rattle.plain_server.specs.Conditions.{IsMapOf}
@@ -17,17 +18,23 @@ use Rattle.planning_laws.proofs.Planned.{was_ok}
 use Rattle.machine_laws.specs.Tabling.{TableStands}
 use Rattle.machine_laws.specs.Keying.{IsMapped}
 use Rattle.machine_laws.proofs.Staying.{lawful_table}
-use Rattle.runnable_laws.specs.Laws.{IsWorded, MigratablePlansAreRunnable}
+use Rattle.runnable_laws.specs.Laws.{IsAlterable, IsWorded, AlterablePlansAreRunnable, MigratablePlansAreAlterable, MigratablePlansAreRunnable}
 use Rattle.runnable_laws.proofs.Origins.{altered_is_mapped}
 
-module _ (plan : PlanData) (is : IsMigratable plan) where
-  found : find_table plan.table plan.tables ≡ Some is.table
-  found =
-      ap (find_table plan.table) is.only ∙ ap (λ (name : List ℕ). find_table name (is.table ∷ [])) (sym is.named)
-      ∙ ap (λ (b : Bool). cond b (Some is.table) None) (same_bytes is.table.schema.name)
+-- the migrated table has the plan's name for it
+named_so : (name : List ℕ) (tables : Database) (table : TableRows) → find_table name tables ≡ Some table → table.schema.name ≡ name
+named_so name [] table found = absurd cc
+named_so name (first ∷ tables) table found = by (is_named name first) refl found (named_so name tables table) where
+  by : (b : Bool) → is_named name first ≡ b → cond b (Some first) (find_table name tables) ≡ Some table → (find_table name tables ≡ Some table → table.schema.name ≡ name) → table.schema.name ≡ name
+  by true named is later = subst (λ (t : TableRows). t.schema.name ≡ name) (some_is first table is) (are_same first.schema.name name named)
+  by false named is later = later is
 
+pub named : (plan : PlanData) (is : IsAlterable plan) → is.table.schema.name ≡ plan.table
+named plan is = named_so plan.table plan.tables is.table is.found
+
+module _ (plan : PlanData) (is : IsAlterable plan) where
   old_is : old_schema plan ≡ is.table.schema
-  old_is = ap (λ (t : Option TableRows). unwrap_or (option_map (λ table. table.schema) t) no_schema) found
+  old_is = ap (λ (t : Option TableRows). unwrap_or (option_map (λ table. table.schema) t) no_schema) is.found
 
   new_is : new_altered plan ≡ is.new
   new_is = ap (λ (s : Schema). unwrap_or (altered_by plan s) (no_schema, [])) old_is ∙ ap (λ (o : Option Altered). unwrap_or o (no_schema, [])) is.alters
@@ -40,13 +47,8 @@ module _ (plan : PlanData) (is : IsMigratable plan) where
   new_lawful again worded =
       subst (λ (n : Altered). IsLawful n.0) (sym new_is) (altered-lawful again plan.options.approve_renamed_columns is.table.schema plan.alter is.new is.lawful worded.clauses taken)
 
-  orderly : AllByRecursion IsOrderlyTable plan.tables
-  orderly =
-      let empty : IsOrderlyTable (record { schema = is.table.schema; rows = [] }) = lawful_table is.table.schema is.lawful in
-      subst (AllByRecursion IsOrderlyTable) (sym is.only) (record { keyed = empty.keyed; defaults = empty.defaults; is_table = is.is_table }, tt)
-
   stands : TableStands plan
-  stands = ap (λ (t : Option TableRows). option_map (λ table. table.schema) t) found ∙ ap Some (sym old_is)
+  stands = ap (λ (t : Option TableRows). option_map (λ table. table.schema) t) is.found ∙ ap Some (sym old_is)
 
   mapped : IsMapped plan
   unfolding new_schema new_map
@@ -56,11 +58,32 @@ module _ (plan : PlanData) (is : IsMigratable plan) where
       subst (λ (n : Altered). IsMapOf n.1 (old_schema plan) n.0) (sym new_is) (subst (λ (s : Schema). IsMapOf is.new.1 s is.new.0) (sym old_is) made) in
       record { origins = both.origins; columns = both.columns }
 
--- *Migratable plans are runnable*
-pub plans_run : StoresAgain → MigratablePlansAreRunnable
-plans_run again plan is worded = record {
+-- *Alterable plans are runnable*
+pub alterables_run : StoresAgain → AlterablePlansAreRunnable
+alterables_run again plan is worded = record {
   fitting = record { scripts = worded.scripts; names = worded.names; chunk = worded.chunk; commands = worded.commands; batch = worded.batch; lawful = new_lawful plan is again worded };
-  tables = orderly plan is;
+  tables = is.tables;
   stands = stands plan is;
   mapped = mapped plan is;
 }
+
+-- *Migratable plans are alterable*
+unfoldable pub plans_alterable : MigratablePlansAreAlterable
+plans_alterable plan is =
+    let empty : IsOrderlyTable (record { schema = is.table.schema; rows = [] }) = lawful_table is.table.schema is.lawful in
+    record {
+      tables = subst (AllByRecursion IsOrderlyTable) (sym is.only) (record { keyed = empty.keyed; defaults = empty.defaults; is_table = is.is_table }, tt);
+      table = is.table;
+      found =
+          ap (find_table plan.table) is.only ∙ ap (λ (name : List ℕ). find_table name (is.table ∷ [])) (sym is.named)
+          ∙ ap (λ (b : Bool). cond b (Some is.table) None) (same_bytes is.table.schema.name);
+      is_table = is.is_table;
+      lawful = is.lawful;
+      new = is.new;
+      alters = is.alters;
+      keeps = is.keeps;
+    }
+
+-- ... and runnable
+pub plans_run : StoresAgain → MigratablePlansAreRunnable
+plans_run again plan is worded = alterables_run again plan (plans_alterable plan is) worded

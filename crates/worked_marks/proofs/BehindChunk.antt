@@ -29,6 +29,7 @@ use Rattle.ghost_laws.specs.Copies.{IsAltered}
 use Rattle.planning_laws.specs.Laws.{migration_of}
 use Rattle.run_laws.specs.Kept.{IsKept}
 use Rattle.runnable_laws.specs.Laws.{IsWorded}
+use Rattle.runnable_laws.proofs.Runnable.{plans_alterable}
 use Rattle.follow_turns.specs.Laws.{IsMark}
 use Rattle.follow_laws.specs.Laws.{FollowersAlter}
 use Rattle.worked_runs.proofs.Computing.{computing}
@@ -259,5 +260,5 @@ mark = record {
 
 -- *By the law the new table is the altered one when the RENAME comes.*
 altered_by_then : FollowersAlter → IsAltered (migration_of old_schema new_table) (state_at plan_behind_chunk journal_to_mark).tables
-unfolding migratable
-altered_by_then followers_alter = followers_alter plan_behind_chunk migratable worded serial journal_to_mark kept mark
+unfolding migratable plans_alterable
+altered_by_then followers_alter = followers_alter plan_behind_chunk (plans_alterable plan_behind_chunk migratable) worded serial journal_to_mark kept mark
