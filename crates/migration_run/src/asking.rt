@@ -6,8 +6,9 @@ ghost use Rattle.plain_server.specs.Serving.{serves, leaves, given_at};
 ghost use Rattle.journal_words.specs.Journals.{heard, missed};
 ghost use Rattle.migration_run.specs.Asking.{MayAsk};
 
-use plain_server::{Answer, Asked, Serve};
+use plain_server::{Answer, Asked};
 use script_text::Side;
+use serving::Serve;
 use std::alloc::AllocError;
 
 /// What an actor hears of the server's answer, and what it misses.

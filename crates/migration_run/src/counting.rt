@@ -8,8 +8,8 @@ ghost use Rattle.migration_run.specs.Turning.{is_lost_in};
 
 use crate::turn::Turn;
 use actor_seats::is_client;
-use plain_server::Serve;
 use script_text::Actor;
+use serving::Serve;
 
 /// What a run counts of its server.
 #[derive(Clone, Copy, Debug, PartialEq, Eq)]

@@ -9,8 +9,9 @@ ghost use Rattle.migration_run.specs.Sessions.{IsSessionOf};
 ghost use Rattle.migration_run.specs.Turning.{session_for};
 
 use actor_seats::is_client;
-use plain_server::{Asked, Serve};
+use plain_server::Asked;
 use script_text::Actor;
+use serving::Serve;
 use std::alloc::AllocError;
 
 /// The actor's session: the one that it has, else a new one.

@@ -12,7 +12,8 @@ use crate::asking::{Heard, ask};
 use crate::counting::{Counts, has_work, share_behind, share_of};
 use crate::opening::{close_session, open_session};
 use crate::turn::Turn;
-use plain_server::{Entry, Serve};
+use plain_server::Entry;
+use serving::Serve;
 use std::alloc::AllocError;
 
 /// A turn that was taken in a session.

@@ -6,12 +6,12 @@ ghost use Rattle.tool_setup.specs.Meanings.{range_told};
 ghost use Rattle.due_calls.specs.Ranges.{range_in, ahead_of, IsTold};
 
 use gho_values::Name;
+use paged_answers::ends;
+use paged_tables::Tables;
 use plain_server::{Answer, KeyRange};
 use plan_words::Plan;
-use row_store::Tables;
 use script_text::Actor;
 use std::alloc::{AllocError, Global};
-use table_answers::ends;
 
 /// The range of the table of this name; none where it has no row, or doesn't stand.
 #[tactic(auto, using(crate::proofs::Ranging::range_by_ends))]

@@ -10,7 +10,8 @@ ghost use Rattle.due_turns.specs.Due.{next_entry};
 ghost use Rattle.run_turns.specs.Running.{IsDue, IsRun};
 
 use migration_run::{Counts, Taken, Turn, has_work, take_turn};
-use plain_server::{Answer, Asked, Entry, Serve};
+use plain_server::{Answer, Asked, Entry};
+use serving::Serve;
 use std::alloc::AllocError;
 use turn_book::Book;
 

@@ -11,7 +11,7 @@ use crate::ranges::ahead_of;
 use crate::serving::serve_turn;
 use book_turns::reserve;
 use migration_run::Turn;
-use plain_server::Serve;
+use serving::Serve;
 use std::alloc::{AllocError, Global};
 use turn_book::Book;
 

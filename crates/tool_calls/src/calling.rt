@@ -12,9 +12,10 @@ ghost use Rattle.tool_calls.specs.Seen.{IsSeen};
 
 use crate::sight::Sight;
 use cutover_core::Role;
-use plain_server::{Asked, Request, Serve};
+use plain_server::{Asked, Request};
 use plan_words::Plan;
 use script_text::Actor;
+use serving::Serve;
 use std::alloc::{AllocError, Global};
 use tool_setup::Setup;
 use tool_state::Tool;

@@ -8,8 +8,8 @@ ghost use Rattle.tool_calls.specs.Seen.{IsSeen};
 
 use crate::sight::Sight;
 use cutover_core::Role;
-use plain_server::Serve;
 use script_text::Actor;
+use serving::Serve;
 
 impl<'a, V: Serve> Sight<'a, V> {
     fn has_copy_call(&self) -> bool

@@ -7,8 +7,9 @@ ghost use Rattle.tool_state.specs.Meanings.{work_of, tool_of};
 ghost use Rattle.tool_calls.specs.Seen.{IsSeen};
 
 use gho_values::Names;
-use plain_server::{Entry, Serve};
+use plain_server::Entry;
 use plan_words::Plan;
+use serving::Serve;
 use tool_state::Tool;
 
 /// What the tool looks at before it asks: its plan, its turns so far, its own record, and the server.

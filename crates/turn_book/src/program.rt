@@ -11,8 +11,9 @@ ghost use Rattle.run_laws.specs.Counting.{IsBehind};
 ghost use Rattle.turn_book.specs.Books.{IsBook};
 
 use crate::book::Book;
-use plain_server::{Asked, Serve, Verdict};
+use plain_server::{Asked, Verdict};
 use script_text::Actor;
+use serving::Serve;
 use std::alloc::{AllocError, Global};
 use tool_calls::{Sight, commands, is_over, verdict};
 

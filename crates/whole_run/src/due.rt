@@ -7,8 +7,9 @@ ghost use Rattle.turn_book.specs.Books.{IsBook};
 ghost use Rattle.due_turns.specs.Due.{due};
 
 use migration_run::Turn;
-use plain_server::{Asked, Serve};
+use plain_server::Asked;
 use script_text::Actor;
+use serving::Serve;
 use std::alloc::{AllocError, Global};
 use turn_book::Book;
 

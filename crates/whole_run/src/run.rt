@@ -13,10 +13,11 @@ ghost use Rattle.due_turns.specs.Due.{due};
 ghost use Rattle.whole_run.specs.Runs.{is_over, TakesTurn, IsUnmoved, Steps};
 
 use crate::due::{due, is_due};
-use plain_server::{Entry, Journal, Serve, Verdict};
+use plain_server::{Entry, Journal, Verdict};
 use plan_words::Plan;
 use run_turns::take;
 use script_text::Actor;
+use serving::Serve;
 use std::alloc::{AllocError, Global};
 use std::marker::Model;
 use turn_book::Book;
