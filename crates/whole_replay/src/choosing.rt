@@ -7,7 +7,7 @@ ghost use Rattle.whole_replay.specs.Places.{queue_of, choice_of};
 use crate::passes::next_in_pass;
 use crate::place::{NextTurn, Place};
 use crate::words::next_word;
-use plain_server::Serve;
+use serving::Serve;
 use whole_run::Run;
 
 /// The actor whose turn comes next: that of the first word whose actor is ready; else the first ready one of the pass, else of

@@ -6,8 +6,8 @@ ghost use Rattle.whole_replay.specs.Places.{choice_of};
 
 use crate::place::{NextTurn, Place};
 use crate::words::run_count;
-use plain_server::Serve;
 use script_text::Actor;
+use serving::Serve;
 use whole_run::Run;
 
 /// How many actors the plan has.

@@ -11,8 +11,8 @@ ghost use Rattle.whole_replay.specs.Replays.{IsFresh, IsReplaying, Passes, IsSta
 use crate::choosing::choose;
 use crate::passes::actor_count;
 use crate::place::Place;
-use plain_server::Serve;
 use script_text::Actor;
+use serving::Serve;
 use whole_run::{Run, Stepped};
 
 /// What became of a replay.

@@ -5,8 +5,8 @@ ghost use Rattle.migration_program.specs.Orders.{is_ready, first_ready};
 ghost use Rattle.whole_replay.specs.Places.{queue_of, choice_of, by_word};
 
 use crate::place::{NextTurn, Place};
-use plain_server::Serve;
 use plan_words::ActorRun;
+use serving::Serve;
 use whole_run::Run;
 
 /// How many runs of words the plan has.
