@@ -1,0 +1,4 @@
+//! What is promised of every run of every accepted plan: each function's contract is a law.
+#![tactic(auto)]
+
+pub mod laws;
