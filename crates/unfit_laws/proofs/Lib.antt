@@ -1,0 +1,3 @@
+mod Grounds
+mod Copies
+mod Unfit
