@@ -33,14 +33,14 @@ use Rattle.ghost_laws.proofs.Keys.{clustered}
 use Rattle.copy_laws.proofs.Journals.{answer_more}
 use Rattle.planning_laws.specs.Laws.{migration_of}
 use Rattle.run_laws.specs.Kept.{IsKept}
-use Rattle.runnable_laws.specs.Laws.{MigratablePlansAreRunnable}
+use Rattle.runnable_laws.specs.Laws.{AlterablePlansAreRunnable}
 use Rattle.machine_laws.proofs.Journals.{all_runs}
 use Rattle.unaltered_laws.specs.Laws.{IsUnaltered}
 use Rattle.unaltered_laws.proofs.Away.{all_asked, unaltered_front}
 use Rattle.follow_turns.specs.Goes.{Goes}
 use Rattle.follow_turns.specs.Laws.{GoesSomehow, IsMigrationOf}
 use Rattle.follow_turns.proofs.Follows.{kept_front}
-use Rattle.follow_laws.proofs.Follows.{migration, named_table}
+use Rattle.follow_laws.proofs.Follows.{migration, own_table}
 use Rattle.follow_laws.proofs.Starts.{followers_go}
 use Rattle.verdict_laws.proofs.Standing.{IsGround, ground}
 use Rattle.unfit_laws.specs.Laws.{UnfitCopiesStand}
@@ -166,21 +166,21 @@ module _ (again : StoresAgain) (plan : PlanData) (m : Migration) (at : Clustered
   copy_stands = subst (λ (k : List Value). IsUnfit plan journal turn k (column_at plan place) number) (sym key_now) unfit_stands
 
 -- *Unfit copies stand*
-pub copies_stand : StoresAgain → MigratablePlansAreRunnable → UnfitCopiesStand
+pub copies_stand : StoresAgain → AlterablePlansAreRunnable → UnfitCopiesStand
 unfolding Stands Follows
-copies_stand again runnable plan migratable worded serial journal kept turn key column number entry stands who verdict = by one.reason one.same (subst (GroundStands plan journal (step_in (moment plan journal).tool.course)) one.is grounded.ground) where
+copies_stand again runnable plan alterable worded serial journal kept turn key column number entry stands who verdict = by one.reason one.same (subst (GroundStands plan journal (step_in (moment plan journal).tool.course)) one.is grounded.ground) where
   one : IsGround plan journal (causes.Unfit turn key column number)
   one = ground plan journal (causes.Unfit turn key column number) verdict
 
   grounded : IsGrounded plan journal
   grounded = all_grounded plan journal (all_runs plan [] journal kept.faithful kept.follows)
 
-  of : IsMigrationOf plan (migration_of migratable.table.schema migratable.new) migratable.table.rows
-  of = migration plan migratable again (runnable plan migratable worded) serial
+  of : IsMigrationOf plan (migration_of alterable.table.schema alterable.new) alterable.table.rows
+  of = migration plan alterable again (runnable plan alterable worded) serial
 
   copied : (place : ℕ) → IsCopyTurn plan journal (step_in (moment plan journal).tool.course) turn place number → IsUnfit plan journal turn (copy_key journal (moment plan journal).tool.course) (column_at plan place) number
   copied place is =
-      copy_stands again plan (migration_of migratable.table.schema migratable.new) (clustered migratable.table.schema of.planned.old_key) migratable.table.rows of (named_table plan migratable migratable.table.schema.name refl) journal kept
+      copy_stands again plan (migration_of alterable.table.schema alterable.new) (clustered alterable.table.schema of.planned.old_key) alterable.table.rows of (own_table plan alterable) journal kept
       (unaltered_so plan journal (causes.Unfit turn key column number) verdict) turn place number is
 
   -- the turn isn't the applier's
