@@ -12,6 +12,6 @@ mod writes;
 
 pub use committing::commit;
 pub use keyed::KeyedEvent;
-pub use saying::{say, statement_needs};
+pub use saying::{missing, say, statement_needs, tell};
 pub use txn::Txn;
 pub use writes::Writes;

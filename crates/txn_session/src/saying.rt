@@ -57,8 +57,8 @@ fn writes_of(
     Ok(Some(Writes::new(alloc, schema, changes)?))
 }
 
-/// What work says of its table, as it is seen.
-fn tell(
+/// What work says of its table, as it is seen, and what it writes, made ready.
+pub fn tell(
     alloc: Global,
     seen: &SeenTable<'_>,
     work: &Work,
@@ -113,8 +113,8 @@ fn needs_of(
     needs(alloc, &SeenTable::new(table, written), &work)
 }
 
-/// The table doesn't stand.
-fn missing(alloc: Global) -> Told<Option<Writes>>
+/// What is said where the table doesn't stand.
+pub fn missing(alloc: Global) -> Told<Option<Writes>>
     ensures says { result.result ≡ record { answer = refuses 1146; events = [] } }
     ensures writes { result.writes ≡ None }
 {

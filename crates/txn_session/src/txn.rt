@@ -60,7 +60,7 @@ impl Txn {
     }
 
     /// What it wrote to the table of this name; nothing where it is none.
-    pub(crate) fn written_to(&self, name: &Name) -> Option<&WrittenRows>
+    pub fn written_to(&self, name: &Name) -> Option<&WrittenRows>
         ensures writes { option_copied result ≡ find_writes name.now self.now.tables }
         ensures shown { Shows (changes_in name.now self.now.events) (find_writes name.now self.now.tables) }
     {
