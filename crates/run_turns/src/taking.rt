@@ -6,9 +6,9 @@ ghost use Rattle.run_laws.specs.Counting.{IsBehind};
 ghost use Rattle.due_turns.specs.Due.{next_entry};
 ghost use Rattle.run_turns.specs.Running.{IsDue, IsRun};
 
+use crate::answering::serve_turn;
 use crate::keeping::keep;
 use crate::ranges::ahead_of;
-use crate::serving::serve_turn;
 use book_turns::reserve;
 use migration_run::Turn;
 use serving::Serve;

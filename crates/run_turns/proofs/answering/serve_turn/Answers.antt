@@ -9,7 +9,7 @@ use Rattle.turn_book.proofs.Results.{if_ok}
 use Rattle.due_turns.specs.Due.{session_at, next_entry}
 use Rattle.run_turns.proofs.Results.{ok_then}
 use Rattle.run_turns.proofs.Served.{session_is, command_session, command_still, command_side, book_counts, may_turn, entry_of_command, entry_of_session, session_of_entry}
-use Rattle.run_turns.proofs.serving.serve_turn.Goals as goal
+use Rattle.run_turns.proofs.answering.serve_turn.Goals as goal
 
 pub command_turn-requires-clause-side : goal.command_turn-requires-clause-side
 command_turn-requires-clause-side g c = command_side c.args.book.now.plan.now c.args.book.now.journal.items c.args.turn c.requires.due (sym c.is_command.ensures ∙ c.if-is_command.true)
