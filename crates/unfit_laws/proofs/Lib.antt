@@ -1,3 +1,0 @@
-mod Grounds
-mod Copies
-mod Unfit
