@@ -1,2 +1,2 @@
-mod Sentry
+pub mod Sentry
 mod Spent
