@@ -1,0 +1,150 @@
+//! What the copy of a row comes to: the insertion of its image, or a refusal.
+
+ghost use Rattle.std.specs.Prelude.{◌≡◌, Some, IfOk, option_copied, slice_get};
+ghost use Rattle.std.specs.Option.{option_map};
+ghost use Rattle.gho_values.specs.Spans.{point};
+ghost use Rattle.gho_schema.specs.Clustering.{clustered_place};
+ghost use Rattle.gho_schema.specs.Rows.{key_places};
+ghost use Rattle.alter_image.specs.Images.{image};
+ghost use Rattle.row_store.specs.Databases.{database, find_table, row_at_key};
+ghost use Rattle.plain_server.specs.declared.work.Work.TheVariants as works;
+ghost use Rattle.plain_server.specs.Checking.{new_row, or_refused};
+ghost use Rattle.plain_server.specs.Jobs.{after_events, copy_from, copy_work};
+ghost use Rattle.plain_server.specs.Rows.{rows_met};
+ghost use Rattle.statement_laws.specs.Covering.{IsOrderlyTable};
+ghost use Rattle.txn_session.specs.Premises.{IsOf};
+ghost use Rattle.written_rows.specs.Written.{seen};
+
+use alter_image::{ColumnMap, ImageFault, image};
+use gho_schema::{Schema, clustered_place};
+use gho_values::{Bound, Duplicate, Key, Name, Row, Rows, Span};
+use paged_tables::Tables;
+use plain_server::{Answer, Reach, Work};
+use row_pages::Table;
+use statement_checks::{new_row, refuses, refuses_value};
+use std::alloc::{AllocError, Global};
+use txn_session::Txn;
+use written_rows::{SeenTable, WrittenRows};
+
+/// The span of one key.
+fn point(key: &Key) -> Result<Span, AllocError>
+    ensures { IfOk result (λ span. span ≡ point key.now) }
+{
+    Ok(Span {
+        low: Bound::Closed(key.copy()?),
+        high: Bound::Closed(key.copy()?),
+    })
+}
+
+/// What is reached of the clustered key at this place, at one value.
+fn reach_at(place: usize, key: &Key) -> Result<Reach, AllocError>
+    ensures { IfOk result (λ reach. reach ≡ record { key = place; span = point key.now }) }
+{
+    // There is no memory for a table of so many keys.
+    match u32::try_from(place) {
+        Ok(place) => Ok(Reach {
+            key: place,
+            span: point(key)?,
+        }),
+        Err(_) => Err(AllocError),
+    }
+}
+
+/// The rows that one value of the clustered key at this place reaches, of a table as it is seen.
+fn rows_reached(
+    alloc: Global,
+    seen: &SeenTable<'_>,
+    place: usize,
+    key: &Key,
+) -> Result<Rows, AllocError>
+    ensures { IfOk result (λ rows. rows ≡ rows_met seen.now.schema (record { key = place; span = point key.now }) seen.now.rows) }
+{
+    seen.met(alloc, &reach_at(place, key)?)
+}
+
+/// The rows of a clustered key, of a table as it is seen: one, where a row has it.
+fn rows_at(alloc: Global, seen: &SeenTable<'_>, key: &Key) -> Result<Rows, AllocError>
+    requires { IsOrderlyTable seen.now }
+    ensures { IfOk result (λ rows. slice_get rows 0 ≡ row_at_key seen.now key.now) }
+{
+    match clustered_place(seen.schema()) {
+        Some(place) => rows_reached(alloc, seen, place, key),
+        None => unreachable!(),
+    }
+}
+
+/// The insertion of an image, or the refusal of a value that doesn't fit its column.
+fn work_of_image(alloc: Global, image: &Row, into: &Schema) -> Result<Work, AllocError>
+    ensures { IfOk result (λ work. work ≡ or_refused (new_row into.now None image.now) works.Copy) }
+{
+    match new_row(alloc, into, &None, image.as_slice())? {
+        Ok(row) => Ok(Work::Copy(row)),
+        Err(refusal) => Ok(Work::Refuse(refusal)),
+    }
+}
+
+/// What the copy of this row comes to; nothing, where there is none.
+fn work_of_row(
+    alloc: Global,
+    map: &ColumnMap,
+    row: Option<&Row>,
+    into: &Schema,
+) -> Result<Work, AllocError>
+    ensures { IfOk result (λ work. work ≡ copy_work (option_map (image map.now) (option_copied row.entry)) into.now) }
+{
+    let Some(row) = row else {
+        return Ok(Work::Refuse(Answer::Ok(0)));
+    };
+    // There is no memory for a table of so many columns.
+    if map.len() > u32::MAX as usize {
+        return Err(AllocError);
+    }
+    match image(alloc, map.as_slice(), row.as_slice()) {
+        Ok(values) => work_of_image(alloc, &values, into),
+        Err(ImageFault::Unfit(at)) => Ok(Work::Refuse(refuses_value(at))),
+        Err(ImageFault::Memory) => Err(AllocError),
+    }
+}
+
+/// What the copy comes to of the row of this key of a table, as it is seen through what was written to it.
+fn work_from(
+    alloc: Global,
+    table: &Table,
+    written: &WrittenRows,
+    map: &ColumnMap,
+    key: &Key,
+    into: &Schema,
+) -> Result<Work, AllocError>
+    requires schema { written.now.schema ≡ table.now.table.schema }
+    requires orderly { IsOrderlyTable (record { schema = table.now.table.schema; rows = seen (key_places table.now.table.schema) written.now.written table.now.table.rows }) }
+    ensures { IfOk result (λ work. work ≡ copy_from (Some (record { schema = table.now.table.schema; rows = seen (key_places table.now.table.schema) written.now.written table.now.table.rows })) map.now key.now into.now) }
+{
+    let rows = rows_at(alloc, &SeenTable::new(table, written), key)?;
+    work_of_row(alloc, map, rows.as_slice().first(), into)
+}
+
+/// What the copy comes to of the row of this key of the table of this name, as the session sees it.
+pub fn work_of_copy(
+    alloc: Global,
+    tables: &Tables,
+    txn: &Txn,
+    from: &Name,
+    map: &ColumnMap,
+    key: &Key,
+    into: &Schema,
+) -> Result<Work, AllocError>
+    requires { IsOf (database tables.now) txn.now }
+    ensures { IfOk result (λ work. work ≡ copy_from (find_table from.now (after_events (database tables.now) txn.now.events)) map.now key.now into.now) }
+{
+    let Some(table) = tables.find(from) else {
+        return Ok(Work::Refuse(refuses(1146)));
+    };
+    let _schema = table.schema();
+    match txn.written_to(from) {
+        Some(written) => work_from(alloc, table, written, map, key, into),
+        None => {
+            let written = WrittenRows::new(alloc, table.schema())?;
+            work_from(alloc, table, &written, map, key, into)
+        }
+    }
+}
