@@ -1,0 +1,5 @@
+pub mod Defined
+pub mod Each
+pub mod Ended
+pub mod Grown
+pub mod Rooms
