@@ -1,1 +1,6 @@
 mod Smooth
+mod Alone
+mod Untouched
+mod ReadingOn
+mod Fits
+mod Quiet

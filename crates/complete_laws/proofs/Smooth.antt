@@ -452,9 +452,9 @@ done_calm (Finishing clearing) after done = refl
 done_calm Finished after done = refl
 
 -- the RENAME is known, and there is no ground to revert
-record Rests (one : Tool) : Type 0 where
-  none : one.reason ≡ None
-  done : is_renamed one.course ≡ true
+pub record Rests (one : Tool) : Type 0 where
+  pub none : one.reason ≡ None
+  pub done : is_renamed one.course ≡ true
 
 reverts_still : (reason : Reason) (one : Tool) → Rests one → Rests (reverts reason one)
 reverts_still reason one is = subst Rests (sym (reverts_rests reason one is.done)) is
@@ -627,7 +627,7 @@ done_on (Migrating work) done = by work.cutover.phase done where
   by (Ending clearing) done = absurd (false≢true done)
 
 -- *Once the RENAME is known* no turn gives a ground to revert
-renamed_more : (plan : PlanData) (journal : List Entry) (entry : Entry) → is_renamed (moment plan journal).tool.course ≡ true → (moment plan journal).tool.reason ≡ None → Rests (moment plan (journal ++ entry ∷ [])).tool
+pub renamed_more : (plan : PlanData) (journal : List Entry) (entry : Entry) → is_renamed (moment plan journal).tool.course ≡ true → (moment plan journal).tool.reason ≡ None → Rests (moment plan (journal ++ entry ∷ [])).tool
 unfolding took
 renamed_more plan journal entry done none =
     subst (λ (m : Moment). Rests m.tool) (sym (moment_more plan journal entry))

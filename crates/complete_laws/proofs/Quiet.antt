@@ -1,0 +1,122 @@
+-- A run of a quiet plan, each of whose rows has an image, and that is within limits, is smooth.
+use Rattle.std.proofs.Common.{◌≡◌, Bool, true, false, List, [], ◌∷◌, ◌++◌, refl, sym, ap, ◌∙◌, subst, append_assoc, append-nil}
+use Rattle.std.proofs.lemmas.Bool.{true≢false}
+use Rattle.schema_rules.proofs.Lists.{All-append}
+use Rattle.gho_values.specs.Laws.{StoresAgain}
+use Rattle.script_text.specs.declared.operator.OperatorWord.TheVariants.{Panic}
+use Rattle.plain_server.specs.Along.{Along}
+use Rattle.plain_server.specs.declared.entry.Entry.{Entry}
+use Rattle.plain_server.specs.Entries.{is_client}
+use Rattle.plan_words.specs.PlanData.{PlanData}
+use Rattle.migration_program.specs.Tools.{is_renamed, is_reverting, moment}
+use Rattle.history_laws.specs.Plans.{limits_of, scene_of, IsSerialPlan}
+use Rattle.history_laws.specs.Turns.{history}
+use Rattle.run_laws.specs.Kept.{IsKept}
+use Rattle.machine_laws.specs.Laws.{VerdictsTellTheAlter}
+use Rattle.machine_laws.specs.Runnable.{IsRunnable}
+use Rattle.machine_laws.proofs.Journals.{IsRun, IsTogether}
+use Rattle.machine_laws.proofs.Keyed.{all_keyed}
+use Rattle.machine_laws.proofs.Staying.{tables_stay}
+use Rattle.unaltered_laws.specs.Laws.{IsUnaltered}
+use Rattle.unaltered_laws.proofs.Away.{all_asked}
+use Rattle.follow_turns.proofs.Follows.{kept_front, kept_run}
+use Rattle.complete_laws.specs.Laws.{IsSmooth}
+use Rattle.complete_laws.specs.Quiet.{IsQuiet, IsWithin, QuietRunsAreDone, RowsHaveImages}
+use Rattle.complete_laws.proofs.Alone.{Nobody, asks_so, heard_well, is_of_tool, never_cut, no_command, tool_kind, unlost}
+use Rattle.complete_laws.proofs.Fits.{fits_so}
+use Rattle.complete_laws.proofs.ReadingOn.{ReadsOn, reads_more}
+use Rattle.complete_laws.proofs.Smooth.{IsCalm, calm_begins, calm_more, renamed_more, unreverted}
+use Rattle.complete_laws.proofs.Untouched.{IsUntouched, nothing_begins, nothing_more, unaltered, untouched}
+
+-- what is so behind such a run's turns
+record IsQuietSo (plan : PlanData) (journal : List Entry) : Type 0 where
+  calm : IsCalm plan journal
+  nobody : Nobody journal
+  reads : is_renamed (moment plan journal).tool.course ≡ false → ReadsOn (moment plan journal).tool.course
+  nothing : is_renamed (moment plan journal).tool.course ≡ false → (whole : List Entry) → Nobody whole → history (limits_of plan) (scene_of plan whole) journal ≡ []
+
+-- ONE TURN
+
+module _ (again : StoresAgain) (plan : PlanData) (quiet : IsQuiet plan) (images : RowsHaveImages plan) (runs : IsRunnable plan) (serial : IsSerialPlan plan) (journal : List Entry) (entry : Entry) (kept : IsKept plan (journal ++ entry ∷ [])) (is : IsQuietSo plan journal) where
+  abbrev more : List Entry
+  more = journal ++ entry ∷ []
+
+  run : IsRun plan journal entry
+  run = kept_run plan journal entry kept
+
+  together : IsTogether plan journal
+  together = is.calm.stands.tabled.all.tool
+
+  before : IsKept plan journal
+  before = kept_front plan journal (entry ∷ []) kept
+
+  kind : is_client entry.actor ≡ false
+  kind = tool_kind entry.actor (is_of_tool plan quiet journal entry is.nobody kept together)
+
+  nobody_more : Nobody more
+  nobody_more = All-append (λ (one : Entry). is_client one.actor ≡ false) journal (entry ∷ []) is.nobody (kind, tt)
+
+  -- once the RENAME is known
+  renamed_so : is_renamed (moment plan journal).tool.course ≡ true → IsQuietSo plan more
+  renamed_so done = record {
+    calm = calm_more plan journal entry run (λ going. absurd (true≢false (sym done ∙ going))) is.calm;
+    nobody = nobody_more;
+    reads = λ going. absurd (true≢false (sym (renamed_more plan journal entry done is.calm.on.none).done ∙ going));
+    nothing = λ going. absurd (true≢false (sym (renamed_more plan journal entry done is.calm.on.none).done ∙ going));
+  }
+
+  module _ (going : is_renamed (moment plan journal).tool.course ≡ false) (within : IsWithin plan journal entry) where
+    off : IsUnaltered plan journal
+    off = unaltered plan journal runs serial before going is.calm.on.on
+
+    still : IsUntouched plan journal
+    still = untouched plan journal runs serial before off is.nobody (is.nothing going journal is.nobody)
+
+    smooth : IsSmooth plan journal entry
+    smooth = record {
+      heard = λ client. heard_well plan quiet journal entry is.nobody kept together within.timed;
+      uncut = λ client. never_cut plan quiet journal entry is.nobody kept together;
+      fits = fits_so again plan images runs journal entry (all_keyed plan journal runs.fitting runs.stands (tables_stay plan journal runs.fitting runs.tables before.faithful before.follows) before.faithful before.follows) together run is.calm.on.none (asks_so plan quiet journal entry is.nobody kept together) still (is.reads going);
+      drained = within.drained;
+      calm = λ panic. no_command plan quiet journal entry is.nobody kept together Panic panic;
+    }
+
+    calm_now : IsCalm plan more
+    calm_now = calm_more plan journal entry run (λ same. smooth) is.calm
+
+    going_so : IsQuietSo plan more
+    going_so = record {
+      calm = calm_now;
+      nobody = nobody_more;
+      reads = λ later. reads_more plan runs serial journal entry before off run together is.calm.on.none (never_cut plan quiet journal entry is.nobody kept together) (unlost plan quiet journal entry is.nobody kept together) (asks_so plan quiet journal entry is.nobody kept together) still (is.reads going) (ap is_reverting calm_now.on.none);
+      nothing = λ later whole none.
+          nothing_more plan runs serial journal entry (all_asked plan journal runs before.faithful before.follows) run (unaltered plan more runs serial kept later calm_now.on.on) kind (never_cut plan quiet journal entry is.nobody kept together) (unlost plan quiet journal entry is.nobody kept together) whole none (is.nothing going whole none);
+    }
+
+  quiet_more : (is_renamed (moment plan journal).tool.course ≡ false → IsWithin plan journal entry) → IsQuietSo plan more
+  quiet_more within = by (is_renamed (moment plan journal).tool.course) refl where
+    by : (b : Bool) → is_renamed (moment plan journal).tool.course ≡ b → IsQuietSo plan more
+    by true done = renamed_so done
+    by false going = going_so going (within going)
+
+-- WHOLE JOURNALS
+
+abbrev Within : PlanData → List Entry → Entry → Type 0
+Within plan before entry = is_renamed (moment plan before).tool.course ≡ false → IsWithin plan before entry
+
+all_quiet : StoresAgain → (plan : PlanData) → IsQuiet plan → RowsHaveImages plan → IsRunnable plan → IsSerialPlan plan → (journal rest : List Entry) → IsKept plan (journal ++ rest) → Along (Within plan) journal rest → IsQuietSo plan journal → IsQuietSo plan (journal ++ rest)
+all_quiet again plan quiet images runs serial journal [] kept within is = subst (IsQuietSo plan) (sym (append-nil journal)) is
+all_quiet again plan quiet images runs serial journal (entry ∷ rest) kept within is =
+    let same : (journal ++ entry ∷ []) ++ rest ≡ journal ++ entry ∷ rest = append_assoc journal (entry ∷ []) rest in
+    let kept_all : IsKept plan ((journal ++ entry ∷ []) ++ rest) = subst (IsKept plan) (sym same) kept in
+    subst (IsQuietSo plan) same
+    (all_quiet again plan quiet images runs serial (journal ++ entry ∷ []) rest kept_all within.1 (quiet_more again plan quiet images runs serial journal entry (kept_front plan (journal ++ entry ∷ []) rest kept_all) is within.0))
+
+quiet_begins : (plan : PlanData) → IsRunnable plan → IsQuietSo plan []
+unfolding moment
+quiet_begins plan runs = record { calm = calm_begins plan runs.fitting runs.stands; nobody = tt; reads = λ going. tt; nothing = λ going whole nobody. nothing_begins plan whole }
+
+-- *Quiet runs are done*
+pub quiet_are_done : StoresAgain → VerdictsTellTheAlter → QuietRunsAreDone
+quiet_are_done again tells plan journal quiet images runs serial kept within ended =
+    unreverted tells plan journal runs.fitting runs.stands kept.faithful kept.follows (all_quiet again plan quiet images runs serial [] journal kept within (quiet_begins plan runs)).calm.on.none ended
