@@ -56,12 +56,12 @@ all_held plan journal faithful follows = Along-keeps (IsRun plan) (IsHeld plan) 
 -- THE VERDICT'S CAUSE
 
 -- a verdict of revert has the tool's ground
-record IsGround (plan : PlanData) (journal : List Entry) (cause : Cause) : Type 0 where
-  reason : Reason
-  is : (moment plan journal).tool.reason ≡ Some reason
-  same : cause_of plan journal (moment plan journal).tool reason ≡ cause
+pub record IsGround (plan : PlanData) (journal : List Entry) (cause : Cause) : Type 0 where
+  pub reason : Reason
+  pub is : (moment plan journal).tool.reason ≡ Some reason
+  pub same : cause_of plan journal (moment plan journal).tool reason ≡ cause
 
-ground : (plan : PlanData) (journal : List Entry) (cause : Cause) → verdict_of plan journal ≡ verdicts.Reverted cause → IsGround plan journal cause
+pub ground : (plan : PlanData) (journal : List Entry) (cause : Cause) → verdict_of plan journal ≡ verdicts.Reverted cause → IsGround plan journal cause
 unfolding verdict_of
 ground plan journal cause is = ended (has_ended plan journal) is where
   by_reason : (reason : Option Reason) → (moment plan journal).tool.reason ≡ reason → reverted_by plan journal (moment plan journal).tool reason ≡ verdicts.Reverted cause → IsGround plan journal cause

@@ -1,0 +1,6 @@
+mod Grounds
+mod Known
+mod Refusals
+mod Copies
+mod Applies
+mod Unfit
