@@ -1,18 +1,22 @@
 -- The laws over journals, of accepted plans.
-use Rattle.std.proofs.Common.{◌≡◌, Some, sym, ◌∙◌, ap, subst}
+use Rattle.std.proofs.Common.{◌≡◌, ℕ, Some, sym, ◌∙◌, ap, subst}
 use Rattle.row_store.specs.Databases.{TableRows, Database, find_table}
 use Rattle.schema_rules.proofs.Steps.{some_is}
+use Rattle.plain_server.specs.declared.outcome.Cause.TheVariants as causes
+use Rattle.plain_server.specs.declared.outcome.Task.TheVariants as tasks
 use Rattle.plan_words.specs.PlanData.{PlanData, Altered, altered_by}
 use Rattle.journal_words.specs.Journals.{state_at}
 use Rattle.ghost_laws.specs.Copies.{IsAltered}
 use Rattle.planning_laws.specs.Laws.{migration_of}
+use Rattle.cause_laws.specs.Laws.{SpentCutOversStand}
 use Rattle.chunk_laws.specs.Laws.{JournalsAreOnline}
 use Rattle.going_laws.specs.Laws.{SomeoneGoes}
 use Rattle.revert_laws.specs.Laws.{KeptJournalsAreSerial, RenamesFindTheAltered}
 use Rattle.runnable_laws.specs.Laws.{IsAlterable}
-use Rattle.verdict_laws.specs.Laws.{SpentAttemptsStand}
+use Rattle.unfit_laws.specs.Laws.{UnfitRowsStand}
+use Rattle.verdict_laws.specs.Laws.{PanicsStand, SpentTasksStand}
 use Rattle.accepted_laws.specs.Laws.{ReadAttemptsDrain, ReadPlansAreAlterable, ReadPlansAreRunnable, ReadPlansAreSerial, ReadPlansAreWorded, ReadScriptsEnd}
-use Rattle.accepted_runs.specs.Laws.{AcceptedAttemptsStand, AcceptedRenamesFindTheAltered, AcceptedRunsAreOnline, AcceptedRunsAreSerial, AcceptedRunsGoOn}
+use Rattle.accepted_runs.specs.Laws.{AcceptedCausesStand, AcceptedRenamesFindTheAltered, AcceptedRunsAreOnline, AcceptedRunsAreSerial, AcceptedRunsGoOn}
 
 -- *Accepted runs are serial*
 pub runs_serial : KeptJournalsAreSerial → ReadPlansAreAlterable → ReadPlansAreWorded → ReadPlansAreSerial → AcceptedRunsAreSerial
@@ -39,6 +43,22 @@ runs_online law runnable plan journal was kept = law plan journal (runnable plan
 pub runs_go_on : SomeoneGoes → ReadPlansAreRunnable → ReadPlansAreSerial → ReadScriptsEnd → AcceptedRunsGoOn
 runs_go_on law runnable serial ends plan journal was kept going = law plan journal (runnable plan was) (serial was.bytes plan was.is) (ends was.bytes plan was.is) kept going
 
--- *Accepted attempts stand*
-pub attempts_stand : SpentAttemptsStand → ReadAttemptsDrain → AcceptedAttemptsStand
-attempts_stand law drains plan journal turns was kept verdict = law plan journal turns kept.faithful kept.follows (drains was.bytes plan was.is) verdict
+setup_differs : tasks.Setup ≡ tasks.CutOver → ⊥
+setup_differs same = cc
+
+chunk_differs : (number : ℕ) → tasks.Chunk number ≡ tasks.CutOver → ⊥
+chunk_differs number same = cc
+
+batch_differs : (position : ℕ) → tasks.Batch position ≡ tasks.CutOver → ⊥
+batch_differs position same = cc
+
+-- *Accepted causes stand*
+pub causes_stand : PanicsStand → SpentTasksStand → SpentCutOversStand → UnfitRowsStand → ReadPlansAreRunnable → ReadPlansAreAlterable → ReadPlansAreWorded → ReadPlansAreSerial → ReadAttemptsDrain → AcceptedCausesStand
+causes_stand panics spent cuts unfit runnable alterable worded serial drains plan journal (causes.Panic turn) was kept verdict = panics plan journal turn kept.faithful kept.follows verdict
+causes_stand panics spent cuts unfit runnable alterable worded serial drains plan journal (causes.Unfit turn key column number) was kept verdict =
+    unfit plan (alterable was.bytes plan was.is) (worded plan was) (serial was.bytes plan was.is) journal kept turn key column number verdict
+causes_stand panics spent cuts unfit runnable alterable worded serial drains plan journal (causes.Spent tasks.Setup turns) was kept verdict = spent plan journal tasks.Setup turns kept.faithful kept.follows setup_differs verdict
+causes_stand panics spent cuts unfit runnable alterable worded serial drains plan journal (causes.Spent (tasks.Chunk number) turns) was kept verdict = spent plan journal (tasks.Chunk number) turns kept.faithful kept.follows (chunk_differs number) verdict
+causes_stand panics spent cuts unfit runnable alterable worded serial drains plan journal (causes.Spent (tasks.Batch position) turns) was kept verdict = spent plan journal (tasks.Batch position) turns kept.faithful kept.follows (batch_differs position) verdict
+causes_stand panics spent cuts unfit runnable alterable worded serial drains plan journal (causes.Spent tasks.CutOver turns) was kept verdict =
+    cuts plan journal turns (runnable plan was).fitting (runnable plan was).stands kept.faithful kept.follows (drains was.bytes plan was.is) verdict

@@ -1,14 +1,14 @@
 -- What holds of every journal that a run of an accepted plan keeps, with nothing asked of the plan but that it was read.
-use Rattle.std.specs.Prelude.{◌≡◌, ℕ, true, false, List, Some}
+use Rattle.std.specs.Prelude.{◌≡◌, true, false, List, Some}
 use Rattle.std.specs.List.{list_any}
 use Rattle.row_store.specs.Databases.{TableRows, find_table}
 use Rattle.plain_server.specs.declared.entry.Entry.{Entry}
-use Rattle.plain_server.specs.declared.outcome.Cause.TheVariants as causes
-use Rattle.plain_server.specs.declared.outcome.Task.TheVariants as tasks
+use Rattle.plain_server.specs.declared.outcome.Cause.{Cause}
 use Rattle.plain_server.specs.declared.outcome.Verdict.TheVariants.{Reverted}
 use Rattle.plan_words.specs.PlanData.{PlanData, Altered, altered_by}
 use Rattle.journal_words.specs.Journals.{state_at}
 use Rattle.journal_words.specs.Serials.{IsSerial}
+use Rattle.migration_program.specs.Failures.{Stands}
 use Rattle.migration_program.specs.Online.{IsOnline}
 use Rattle.migration_program.specs.Orders.{actors, is_ready}
 use Rattle.migration_program.specs.Verdicts.{has_ended, verdict_of}
@@ -16,7 +16,6 @@ use Rattle.ghost_laws.specs.Copies.{IsAltered}
 use Rattle.planning_laws.specs.Laws.{migration_of}
 use Rattle.run_laws.specs.Kept.{IsKept}
 use Rattle.rename_laws.specs.Laws.{IsRename}
-use Rattle.verdict_laws.specs.Laws.{IsSpentOn}
 use Rattle.accepted_laws.specs.Laws.{WasRead}
 
 -- *Accepted runs are serial*: clients' replies and the tables that are left are those of the ended transactions run one at a
@@ -39,7 +38,6 @@ AcceptedRunsAreOnline = (plan : PlanData) (journal : List Entry) → WasRead pla
 abbrev pub AcceptedRunsGoOn : Type 0
 AcceptedRunsGoOn = (plan : PlanData) (journal : List Entry) → WasRead plan → IsKept plan journal → has_ended plan journal ≡ false → list_any (is_ready plan journal) (actors plan) ≡ true
 
--- *Accepted attempts stand*: where all was reverted since the cut-over failed as often as the plan allows, each try that the
--- verdict names stands in the journal.
-abbrev pub AcceptedAttemptsStand : Type 0
-AcceptedAttemptsStand = (plan : PlanData) (journal : List Entry) (turns : List ℕ) → WasRead plan → IsKept plan journal → verdict_of plan journal ≡ Reverted (causes.Spent tasks.CutOver turns) → IsSpentOn plan journal turns
+-- *Accepted causes stand*: where all was reverted, the cause that the verdict names stands in the journal, whichever it is.
+abbrev pub AcceptedCausesStand : Type 0
+AcceptedCausesStand = (plan : PlanData) (journal : List Entry) (cause : Cause) → WasRead plan → IsKept plan journal → verdict_of plan journal ≡ Reverted cause → Stands plan journal cause

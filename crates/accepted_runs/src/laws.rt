@@ -1,14 +1,16 @@
 //! The laws: each function's contract is one.
 
-ghost use Rattle.accepted_runs.specs.Laws.{AcceptedRunsAreSerial, AcceptedRenamesFindTheAltered, AcceptedRunsAreOnline, AcceptedRunsGoOn, AcceptedAttemptsStand};
+ghost use Rattle.accepted_runs.specs.Laws.{AcceptedRunsAreSerial, AcceptedRenamesFindTheAltered, AcceptedRunsAreOnline, AcceptedRunsGoOn, AcceptedCausesStand};
 
 use accepted_laws::laws::{
     read_plans_are_runnable, read_plans_are_serial, read_plans_are_worded, read_scripts_end,
 };
+use cause_laws::laws::spent_cut_overs_stand;
 use chunk_laws::laws::journals_are_online;
 use going_laws::laws::someone_goes;
 use revert_laws::laws::{kept_journals_are_serial, renames_find_the_altered};
-use verdict_laws::laws::spent_attempts_stand;
+use unfit_laws::laws::unfit_rows_stand;
+use verdict_laws::laws::{panics_stand, spent_tasks_stand};
 
 /// Every run of every accepted plan is serial: in any order of turns, whatever is answered, refused, lost or reverted,
 /// clients' replies and the tables left are those of the ended transactions run one at a time in the order they ended, with
@@ -23,15 +25,19 @@ pub fn accepted_runs_are_serial()
     read_plans_are_worded();
 }
 
-/// It is online, and goes on until it has ended; and where the cut-over failed too often each of its tries stands.
+/// It is online, and goes on until it has ended; and where all was reverted, the cause that the verdict names stands in the
+/// journal: a row that didn't fit, tries that failed, or panic.
 pub fn accepted_runs_go_on()
     ensures online { AcceptedRunsAreOnline }
     ensures going { AcceptedRunsGoOn }
-    ensures attempts { AcceptedAttemptsStand }
+    ensures causes { AcceptedCausesStand }
 {
     journals_are_online();
     someone_goes();
-    spent_attempts_stand();
+    panics_stand();
+    spent_tasks_stand();
+    spent_cut_overs_stand();
+    unfit_rows_stand();
     read_plans_are_runnable();
     read_plans_are_serial();
     read_plans_are_worded();
