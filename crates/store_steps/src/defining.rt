@@ -1,0 +1,52 @@
+//! Tables are created, dropped and renamed.
+
+ghost use Rattle.std.specs.Prelude.{◌≡◌, ℕ, false, [], ◌∷◌, ◌++◌, List, Ok, IfErr, OnOk, OnErr};
+ghost use Rattle.row_store.specs.Databases.{database, has_table, rename_tables, without_table, IsRenameFault};
+ghost use Rattle.plain_server.specs.States.{pair_names};
+ghost use Rattle.server_data.specs.Fitting.{NoneOf};
+ghost use Rattle.statement_laws.specs.Covering.{IsOrderlyTable};
+ghost use Rattle.open_txns.specs.declared.txns.OpenTxn.{OpenTxn};
+ghost use Rattle.open_txns.specs.Open.{written_of};
+ghost use Rattle.kept_txns.specs.Kept.{IsKept};
+
+use gho_schema::Schema;
+use gho_values::{Duplicate, Name};
+use paged_tables::Tables;
+use row_pages::Table;
+use row_store::{AddFault, Pairs, RenameFault};
+use std::alloc::{AllocError, Global};
+
+/// Makes a table without rows, behind the others (CREATE TABLE).
+pub fn create_table(alloc: Global, tables: &mut Tables, schema: &Schema) -> Result<(), AllocError>
+    requires absent { has_table schema.now.name (database tables.old) ≡ false }
+    requires orderly { IsOrderlyTable (record { schema = schema.now; rows = [] }) }
+    ensures ok { OnOk result (database tables.new ≡ database tables.old ++ record { schema = schema.now; rows = [] } ∷ []) }
+    ensures err { OnErr result (tables.new ≡ tables.old) }
+    ensures kept { (txns : List OpenTxn) → IsKept tables.old txns → IsKept tables.new txns }
+{
+    let table = Table::new(alloc, schema.copy()?);
+    match tables.add(table) {
+        Ok(()) => Ok(()),
+        Err(AddFault::Stands) => unreachable!(),
+        Err(AddFault::Memory) => Err(AllocError),
+    }
+}
+
+/// Drops the table of this name, to which no open transaction wrote (DROP TABLE). It takes no memory.
+pub fn drop_table(tables: &mut Tables, name: &Name)
+    ensures committed { database tables.new ≡ without_table name.now (database tables.old) }
+    ensures kept { (txns : List OpenTxn) → ((session : ℕ) → NoneOf (name.now ∷ []) (written_of session txns)) → IsKept tables.old txns → IsKept tables.new txns }
+{
+    let _ = tables.take(name);
+}
+
+/// Renames tables, to none of which an open transaction wrote, pair by pair from left to right; or none, where a pair is
+/// refused (RENAME TABLE).
+pub fn rename_tables(tables: &mut Tables, pairs: &Pairs) -> Result<(), RenameFault>
+    ensures ok { OnOk result (rename_tables pairs.now (database tables.old) ≡ Ok (database tables.new)) }
+    ensures fault { IfErr result (IsRenameFault (rename_tables pairs.now (database tables.old))) }
+    ensures err { OnErr result (tables.new ≡ tables.old) }
+    ensures kept { (txns : List OpenTxn) → ((session : ℕ) → NoneOf (pair_names pairs.now) (written_of session txns)) → IsKept tables.old txns → IsKept tables.new txns }
+{
+    tables.rename(pairs)
+}

@@ -1,0 +1,12 @@
+//! What the final server's data do, step by step: over the committed tables, and the open transactions over them.
+#![tactic(auto)]
+
+mod defining;
+mod ending;
+mod looking;
+mod making_room;
+
+pub use defining::{create_table, drop_table, rename_tables};
+pub use ending::{commit_txn, roll_back_txn};
+pub use looking::{say_seen, span_locks, statement_locks, txn_seen};
+pub use making_room::make_ready;
