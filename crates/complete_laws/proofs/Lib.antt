@@ -4,3 +4,4 @@ mod Untouched
 mod ReadingOn
 mod Fits
 mod Quiet
+mod Accepted

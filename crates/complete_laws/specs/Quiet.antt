@@ -1,6 +1,6 @@
 -- What holds of a run of a plan with nobody but the tool.
 use Rattle.std.specs.Prelude.{◌≡◌, Bool, true, false, List, [], ◌∷◌, ◌++◌, Option, Some, None, Ok}
-use Rattle.std.specs.List.{AllByRecursion}
+use Rattle.std.specs.List.{AllByRecursion, list_any}
 use Rattle.gho_values.specs.declared.value.Value.{Value}
 use Rattle.alter_image.specs.Images.{image}
 use Rattle.row_store.specs.Databases.{TableRows, find_table}
@@ -11,11 +11,13 @@ use Rattle.plain_server.specs.declared.answer.Answer.TheVariants as answers
 use Rattle.plain_server.specs.declared.entry.Entry.{Entry}
 use Rattle.plain_server.specs.declared.outcome.Verdict.TheVariants.{Done}
 use Rattle.plan_words.specs.PlanData.{PlanData, new_map}
+use Rattle.migration_program.specs.Orders.{actors, is_ready}
 use Rattle.migration_program.specs.Tools.{is_renamed, moment}
 use Rattle.migration_program.specs.Verdicts.{has_ended, verdict_of}
 use Rattle.history_laws.specs.Plans.{IsSerialPlan}
 use Rattle.run_laws.specs.Kept.{IsKept}
 use Rattle.machine_laws.specs.Runnable.{IsRunnable}
+use Rattle.accepted_laws.specs.Laws.{WasRead}
 use Rattle.complete_laws.specs.Laws.{may_yet, gives_up}
 
 -- *Quiet plan*: it has no client, no command of the operator's and no loss of a session.
@@ -54,3 +56,9 @@ IsWithinLimits plan journal = Along (λ before entry. is_renamed (moment plan be
 abbrev pub QuietRunsAreDone : Type 0
 QuietRunsAreDone =
     (plan : PlanData) (journal : List Entry) → IsQuiet plan → RowsHaveImages plan → IsRunnable plan → IsSerialPlan plan → IsKept plan journal → IsWithinLimits plan journal → has_ended plan journal ≡ true → verdict_of plan journal ≡ Done
+
+-- *Accepted quiet runs are done*: of a plan that was read and is quiet, each of whose rows has an image, the verdict of a run
+-- within limits, in which no actor is ready any more, is *done*.
+abbrev pub AcceptedQuietRunsAreDone : Type 0
+AcceptedQuietRunsAreDone =
+    (plan : PlanData) (journal : List Entry) → WasRead plan → IsQuiet plan → RowsHaveImages plan → IsKept plan journal → IsWithinLimits plan journal → list_any (is_ready plan journal) (actors plan) ≡ false → verdict_of plan journal ≡ Done

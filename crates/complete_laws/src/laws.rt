@@ -1,9 +1,11 @@
 //! The laws: each function's contract is one.
 
 ghost use Rattle.complete_laws.specs.Laws.{SmoothRunsAreDone};
-ghost use Rattle.complete_laws.specs.Quiet.{QuietRunsAreDone};
+ghost use Rattle.complete_laws.specs.Quiet.{AcceptedQuietRunsAreDone, QuietRunsAreDone};
 
+use accepted_laws::laws::{read_plans_are_runnable, read_plans_are_serial, read_scripts_end};
 use gho_values::laws::stored_values_store_again;
+use going_laws::laws::someone_goes;
 use machine_laws::laws::verdicts_tell_the_alter;
 
 /// Where no turn hinders the tool, a run that has ended is done.
@@ -19,4 +21,15 @@ pub fn quiet_runs_are_done()
 {
     stored_values_store_again();
     verdicts_tell_the_alter();
+}
+
+/// So is every run of an accepted plan of that kind in which no actor is ready any more.
+pub fn accepted_quiet_runs_are_done()
+    ensures { AcceptedQuietRunsAreDone }
+{
+    quiet_runs_are_done();
+    read_plans_are_runnable();
+    read_plans_are_serial();
+    read_scripts_end();
+    someone_goes();
 }
