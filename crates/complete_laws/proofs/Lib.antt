@@ -5,3 +5,7 @@ mod ReadingOn
 mod Fits
 mod Quiet
 mod Accepted
+mod Unblocked
+mod Prompt
+mod Unwaited
+mod WaitsOver

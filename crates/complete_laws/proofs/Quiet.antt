@@ -3,6 +3,7 @@ use Rattle.std.proofs.Common.{◌≡◌, Bool, true, false, List, [], ◌∷◌,
 use Rattle.std.proofs.lemmas.Bool.{true≢false}
 use Rattle.schema_rules.proofs.Lists.{All-append}
 use Rattle.gho_values.specs.Laws.{StoresAgain}
+use Rattle.script_text.specs.declared.actor.Actor.TheVariants.{Apply}
 use Rattle.script_text.specs.declared.operator.OperatorWord.TheVariants.{Panic}
 use Rattle.plain_server.specs.Along.{Along}
 use Rattle.plain_server.specs.declared.entry.Entry.{Entry}
@@ -20,20 +21,25 @@ use Rattle.machine_laws.proofs.Staying.{tables_stay}
 use Rattle.unaltered_laws.specs.Laws.{IsUnaltered}
 use Rattle.unaltered_laws.proofs.Away.{all_asked}
 use Rattle.follow_turns.proofs.Follows.{kept_front, kept_run}
-use Rattle.complete_laws.specs.Laws.{IsSmooth}
-use Rattle.complete_laws.specs.Quiet.{IsQuiet, IsWithin, QuietRunsAreDone, RowsHaveImages}
+use Rattle.complete_laws.specs.Laws.{IsSmooth, gives_up, may_yet}
+use Rattle.complete_laws.specs.Quiet.{IsQuiet, RowsHaveImages, is_timed_out}
 use Rattle.complete_laws.proofs.Alone.{Nobody, asks_so, heard_well, is_of_tool, never_cut, no_command, tool_kind, unlost}
 use Rattle.complete_laws.proofs.Fits.{fits_so}
 use Rattle.complete_laws.proofs.ReadingOn.{ReadsOn, reads_more}
 use Rattle.complete_laws.proofs.Smooth.{IsCalm, calm_begins, calm_more, renamed_more, unreverted}
 use Rattle.complete_laws.proofs.Untouched.{IsUntouched, nothing_begins, nothing_more, unaltered, untouched}
 
+-- in this turn no wait is over, and no attempt has spent its turns for the drain
+pub record IsBounded (plan : PlanData) (before : List Entry) (entry : Entry) : Type 0 where
+  pub timed : is_timed_out entry.answer ≡ false
+  pub drained : entry.actor ≡ Apply → may_yet (moment plan before).tool.course ≡ true → gives_up (moment plan (before ++ entry ∷ [])).tool.course ≡ false
+
 -- what is so behind such a run's turns
-record IsQuietSo (plan : PlanData) (journal : List Entry) : Type 0 where
-  calm : IsCalm plan journal
-  nobody : Nobody journal
-  reads : is_renamed (moment plan journal).tool.course ≡ false → ReadsOn (moment plan journal).tool.course
-  nothing : is_renamed (moment plan journal).tool.course ≡ false → (whole : List Entry) → Nobody whole → history (limits_of plan) (scene_of plan whole) journal ≡ []
+pub record IsQuietSo (plan : PlanData) (journal : List Entry) : Type 0 where
+  pub calm : IsCalm plan journal
+  pub nobody : Nobody journal
+  pub reads : is_renamed (moment plan journal).tool.course ≡ false → ReadsOn (moment plan journal).tool.course
+  pub nothing : is_renamed (moment plan journal).tool.course ≡ false → (whole : List Entry) → Nobody whole → history (limits_of plan) (scene_of plan whole) journal ≡ []
 
 -- ONE TURN
 
@@ -65,7 +71,7 @@ module _ (again : StoresAgain) (plan : PlanData) (quiet : IsQuiet plan) (images 
     nothing = λ going. absurd (true≢false (sym (renamed_more plan journal entry done is.calm.on.none).done ∙ going));
   }
 
-  module _ (going : is_renamed (moment plan journal).tool.course ≡ false) (within : IsWithin plan journal entry) where
+  module _ (going : is_renamed (moment plan journal).tool.course ≡ false) (within : IsBounded plan journal entry) where
     off : IsUnaltered plan journal
     off = unaltered plan journal runs serial before going is.calm.on.on
 
@@ -93,30 +99,12 @@ module _ (again : StoresAgain) (plan : PlanData) (quiet : IsQuiet plan) (images 
           nothing_more plan runs serial journal entry (all_asked plan journal runs before.faithful before.follows) run (unaltered plan more runs serial kept later calm_now.on.on) kind (never_cut plan quiet journal entry is.nobody kept together) (unlost plan quiet journal entry is.nobody kept together) whole none (is.nothing going whole none);
     }
 
-  quiet_more : (is_renamed (moment plan journal).tool.course ≡ false → IsWithin plan journal entry) → IsQuietSo plan more
+  pub quiet_more : (is_renamed (moment plan journal).tool.course ≡ false → IsBounded plan journal entry) → IsQuietSo plan more
   quiet_more within = by (is_renamed (moment plan journal).tool.course) refl where
     by : (b : Bool) → is_renamed (moment plan journal).tool.course ≡ b → IsQuietSo plan more
     by true done = renamed_so done
     by false going = going_so going (within going)
 
--- WHOLE JOURNALS
-
-abbrev Within : PlanData → List Entry → Entry → Type 0
-Within plan before entry = is_renamed (moment plan before).tool.course ≡ false → IsWithin plan before entry
-
-all_quiet : StoresAgain → (plan : PlanData) → IsQuiet plan → RowsHaveImages plan → IsRunnable plan → IsSerialPlan plan → (journal rest : List Entry) → IsKept plan (journal ++ rest) → Along (Within plan) journal rest → IsQuietSo plan journal → IsQuietSo plan (journal ++ rest)
-all_quiet again plan quiet images runs serial journal [] kept within is = subst (IsQuietSo plan) (sym (append-nil journal)) is
-all_quiet again plan quiet images runs serial journal (entry ∷ rest) kept within is =
-    let same : (journal ++ entry ∷ []) ++ rest ≡ journal ++ entry ∷ rest = append_assoc journal (entry ∷ []) rest in
-    let kept_all : IsKept plan ((journal ++ entry ∷ []) ++ rest) = subst (IsKept plan) (sym same) kept in
-    subst (IsQuietSo plan) same
-    (all_quiet again plan quiet images runs serial (journal ++ entry ∷ []) rest kept_all within.1 (quiet_more again plan quiet images runs serial journal entry (kept_front plan (journal ++ entry ∷ []) rest kept_all) is within.0))
-
-quiet_begins : (plan : PlanData) → IsRunnable plan → IsQuietSo plan []
+pub quiet_begins : (plan : PlanData) → IsRunnable plan → IsQuietSo plan []
 unfolding moment
 quiet_begins plan runs = record { calm = calm_begins plan runs.fitting runs.stands; nobody = tt; reads = λ going. tt; nothing = λ going whole nobody. nothing_begins plan whole }
-
--- *Quiet runs are done*
-pub quiet_are_done : StoresAgain → VerdictsTellTheAlter → QuietRunsAreDone
-quiet_are_done again tells plan journal quiet images runs serial kept within ended =
-    unreverted tells plan journal runs.fitting runs.stands kept.faithful kept.follows (all_quiet again plan quiet images runs serial [] journal kept within (quiet_begins plan runs)).calm.on.none ended

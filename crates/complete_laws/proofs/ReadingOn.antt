@@ -91,7 +91,7 @@ reads_names (applying.Beginning batch) is request kind need = false≢true is
 reads_names (applying.Applying batch done part) is request kind need = false≢true is
 reads_names (applying.Committing batch) is request kind need = false≢true is
 
-reading_call : (journal : List Entry) (applier : Applier) → appliers.starts applier ≡ true → appliers.next journal applier ≡ requests.ReadLog applier.position applier.batch (applier.table ∷ log_name applier.table ∷ [])
+pub reading_call : (journal : List Entry) (applier : Applier) → appliers.starts applier ≡ true → appliers.next journal applier ≡ requests.ReadLog applier.position applier.batch (applier.table ∷ log_name applier.table ∷ [])
 unfolding appliers.next
 reading_call journal applier is = by applier.step is where
   by : (step : ApplyStep) → appliers.is_reading step ≡ true → appliers.call_at journal applier step ≡ requests.ReadLog applier.position applier.batch (applier.table ∷ log_name applier.table ∷ [])

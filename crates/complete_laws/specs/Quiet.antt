@@ -4,7 +4,7 @@ use Rattle.std.specs.List.{AllByRecursion, list_any}
 use Rattle.gho_values.specs.declared.value.Value.{Value}
 use Rattle.alter_image.specs.Images.{image}
 use Rattle.row_store.specs.Databases.{TableRows, find_table}
-use Rattle.script_text.specs.declared.actor.Actor.TheVariants.{Apply}
+use Rattle.script_text.specs.declared.actor.Actor.TheVariants.{Apply, Ren}
 use Rattle.plain_server.specs.Along.{Along}
 use Rattle.plain_server.specs.declared.answer.Answer.{Answer}
 use Rattle.plain_server.specs.declared.answer.Answer.TheVariants as answers
@@ -42,9 +42,9 @@ abbrev pub is_timed_out : Answer → Bool
 is_timed_out (answers.TimedOut waited) = true
 is_timed_out answer = false
 
--- *Within limits*: in this turn no wait is over, and no attempt has spent its turns for the drain.
+-- *Within limits*: in this turn the renamer's wait isn't over, and no attempt has spent its turns for the drain.
 pub record IsWithin (plan : PlanData) (before : List Entry) (entry : Entry) : Type 0 where
-  pub timed : is_timed_out entry.answer ≡ false
+  pub timed : entry.actor ≡ Ren → is_timed_out entry.answer ≡ false
   pub drained : entry.actor ≡ Apply → may_yet (moment plan before).tool.course ≡ true → gives_up (moment plan (before ++ entry ∷ [])).tool.course ≡ false
 
 -- *A run within limits*: each turn is, until the tool knows that the RENAME was done.

@@ -1,4 +1,4 @@
-use Rattle.complete_laws.proofs.Quiet.{quiet_are_done}
+use Rattle.complete_laws.proofs.WaitsOver.{quiet_are_done}
 use Rattle.complete_laws.proofs.laws.quiet_runs_are_done.Goals as goal
 
 pub returns : goal.returns
