@@ -1,0 +1,6 @@
+//! The final server over committed tables in pages, and open transactions over them.
+#![tactic(auto)]
+
+mod opening;
+
+pub use opening::{FinalServer, open_server};

@@ -1,0 +1,25 @@
+//! The final server at its start.
+
+ghost use Rattle.std.specs.Prelude.{◌≡◌, ◌≤◌};
+ghost use Rattle.row_store.specs.Databases.{database};
+ghost use Rattle.plain_server.specs.States.{opened};
+ghost use Rattle.statement_laws.specs.Databases.{IsOrderly};
+
+use paged_tables::Tables;
+use plain_server::Limits;
+use server_desk::Server;
+use server_store::Store;
+use std::alloc::Global;
+
+/// The final server, whose answers to every session are the plain server's.
+pub type FinalServer = Server<Store>;
+
+/// The server at its start, over tables in pages. A wait may be polled once at least. It takes no memory.
+pub fn open_server(alloc: Global, tables: Tables, limits: Limits) -> FinalServer
+    requires clients { 1 ≤ limits.client_wait }
+    requires tools { 1 ≤ limits.tool_wait }
+    requires orderly { IsOrderly (database tables) }
+    ensures { result ≡ opened limits (database tables) }
+{
+    Server::open(alloc, Store::new(alloc, tables), limits)
+}
