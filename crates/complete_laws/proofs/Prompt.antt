@@ -1,16 +1,16 @@
 -- Where no other session stands in its way an actor's call isn't made to wait.
-use Rattle.std.proofs.Common.{◌≡◌, ◌≢◌, ◌⊎◌, ℕ, ◌==◌, Bool, true, false, cond, not, ◌&&◌, ◌||◌, List, [], ◌∷◌, ◌++◌, Option, Some, None, refl, sym, ap, ◌∙◌, subst, inl, inr}
+use Rattle.std.proofs.Common.{◌≡◌, ◌⊎◌, ℕ, ◌==◌, Bool, true, false, cond, not, ◌||◌, List, [], ◌∷◌, Option, Some, None, refl, sym, ap, ◌∙◌, subst, inl, inr}
 use Rattle.std.specs.Prelude.{is_some}
 use Rattle.std.specs.List.{AllByRecursion, list_any}
 use Rattle.std.specs.Option.{option_map}
 use Rattle.std.specs.Str.{bytes_eq}
-use Rattle.std.proofs.lemmas.Bool.{true≢false, false≢true}
+use Rattle.std.proofs.lemmas.Bool.{true≢false}
 use Rattle.schema_rules.proofs.Lists.{All-append, All-weaker}
 use Rattle.script_text.specs.declared.actor.Actor.{Actor}
 use Rattle.plain_server.specs.declared.answer.Answer.{Answer}
 use Rattle.plain_server.specs.declared.answer.Answer.TheVariants as answers
 use Rattle.plain_server.specs.declared.entry.Asked.{Asked}
-use Rattle.plain_server.specs.declared.entry.Asked.TheVariants.{Call, Poll, Command, Cut}
+use Rattle.plain_server.specs.declared.entry.Asked.TheVariants.{Call}
 use Rattle.plain_server.specs.declared.entry.Entry.{Entry}
 use Rattle.plain_server.specs.declared.request.Request.{Request}
 use Rattle.plain_server.specs.declared.session.HeldName.{HeldName}
@@ -31,7 +31,6 @@ use Rattle.history_laws.specs.Turns.{request_of}
 use Rattle.history_laws.proofs.Actors.{same_actor_is, Placed, Commands, GoesOn, Begins, placed}
 use Rattle.history_laws.proofs.Journals.{JournalHolds, opened_waits}
 use Rattle.history_laws.proofs.Waiting.{IsDone, done_answers}
-use Rattle.run_laws.specs.Counting.{kind_of}
 use Rattle.run_laws.specs.Laws.{Living, NoneWaits}
 use Rattle.statement_laws.proofs.Tests.{same_number}
 use Rattle.course_laws.specs.Laws.{IsOwned}

@@ -1,11 +1,10 @@
 -- A run of a quiet plan, each of whose rows has an image, and that is within limits, is smooth.
-use Rattle.std.proofs.Common.{◌≡◌, Bool, true, false, List, [], ◌∷◌, ◌++◌, refl, sym, ap, ◌∙◌, subst, append_assoc, append-nil}
+use Rattle.std.proofs.Common.{◌≡◌, Bool, true, false, List, [], ◌∷◌, ◌++◌, refl, sym, ap, ◌∙◌}
 use Rattle.std.proofs.lemmas.Bool.{true≢false}
 use Rattle.schema_rules.proofs.Lists.{All-append}
 use Rattle.gho_values.specs.Laws.{StoresAgain}
 use Rattle.script_text.specs.declared.actor.Actor.TheVariants.{Apply}
 use Rattle.script_text.specs.declared.operator.OperatorWord.TheVariants.{Panic}
-use Rattle.plain_server.specs.Along.{Along}
 use Rattle.plain_server.specs.declared.entry.Entry.{Entry}
 use Rattle.plain_server.specs.Entries.{is_client}
 use Rattle.plan_words.specs.PlanData.{PlanData}
@@ -13,7 +12,6 @@ use Rattle.migration_program.specs.Tools.{is_renamed, is_reverting, moment}
 use Rattle.history_laws.specs.Plans.{limits_of, scene_of, IsSerialPlan}
 use Rattle.history_laws.specs.Turns.{history}
 use Rattle.run_laws.specs.Kept.{IsKept}
-use Rattle.machine_laws.specs.Laws.{VerdictsTellTheAlter}
 use Rattle.machine_laws.specs.Runnable.{IsRunnable}
 use Rattle.machine_laws.proofs.Journals.{IsRun, IsTogether}
 use Rattle.machine_laws.proofs.Keyed.{all_keyed}
@@ -26,7 +24,7 @@ use Rattle.complete_laws.specs.Quiet.{IsQuiet, RowsHaveImages, is_timed_out}
 use Rattle.complete_laws.proofs.Alone.{Nobody, asks_so, heard_well, is_of_tool, never_cut, no_command, tool_kind, unlost}
 use Rattle.complete_laws.proofs.Fits.{fits_so}
 use Rattle.complete_laws.proofs.ReadingOn.{ReadsOn, reads_more}
-use Rattle.complete_laws.proofs.Smooth.{IsCalm, calm_begins, calm_more, renamed_more, unreverted}
+use Rattle.complete_laws.proofs.Smooth.{IsCalm, calm_begins, calm_more, renamed_more}
 use Rattle.complete_laws.proofs.Untouched.{IsUntouched, nothing_begins, nothing_more, unaltered, untouched}
 
 -- in this turn no wait is over, and no attempt has spent its turns for the drain

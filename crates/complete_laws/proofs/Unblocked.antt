@@ -1,11 +1,9 @@
 -- A request is done at once where nothing waits, and no other session holds a row or one of its names.
-use Rattle.std.proofs.Common.{◌≡◌, ◌≢◌, ◌⊎◌, ℕ, ◌==◌, Bool, true, false, cond, not, ◌&&◌, ◌||◌, List, [], ◌∷◌, ◌++◌, map, Option, Some, None, refl, sym, ap, ◌∙◌, subst, inl, inr}
-use Rattle.std.specs.Prelude.{is_some}
-use Rattle.std.specs.List.{AllByRecursion, list_any}
+use Rattle.std.proofs.Common.{◌≡◌, ◌⊎◌, ℕ, ◌==◌, Bool, true, false, cond, not, ◌&&◌, ◌||◌, List, [], ◌∷◌, map, Option, Some, None, refl, sym, ap, ◌∙◌, subst, inl, inr}
+use Rattle.std.specs.List.{AllByRecursion}
 use Rattle.std.specs.Str.{bytes_eq}
-use Rattle.std.proofs.lemmas.Bool.{true≢false, false≢true}
+use Rattle.std.proofs.lemmas.Bool.{true≢false}
 use Rattle.schema_rules.proofs.Lists.{All-append, All-weaker}
-use Rattle.script_text.specs.declared.actor.Actor.{Actor}
 use Rattle.row_locks.specs.Granting.{refuser_of_lock, refuser_of_set, refusal}
 use Rattle.row_locks.specs.Holding.{held_by}
 use Rattle.row_locks.specs.declared.lock.HeldLock.{HeldLock}

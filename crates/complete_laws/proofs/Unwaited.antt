@@ -1,5 +1,5 @@
 -- In a quiet run no session of the tool's waits but the renamer's.
-use Rattle.std.proofs.Common.{◌≡◌, ◌≢◌, ◌⊎◌, ℕ, ◌+◌, Bool, true, false, cond, not, ◌&&◌, ◌||◌, List, [], ◌∷◌, ◌++◌, Option, Some, None, refl, sym, ap, ◌∙◌, subst, inl, inr}
+use Rattle.std.proofs.Common.{◌≡◌, ◌≢◌, ◌⊎◌, ℕ, Bool, true, false, cond, List, [], ◌∷◌, ◌++◌, Option, Some, None, refl, sym, ap, ◌∙◌, subst, inl, inr}
 use Rattle.std.specs.Prelude.{codes, fold}
 use Rattle.std.specs.List.{AllByRecursion, list_any}
 use Rattle.std.specs.Str.{bytes_eq}
@@ -10,7 +10,7 @@ use Rattle.script_text.specs.declared.actor.Actor.TheVariants.{Op, Insp, Copy, A
 use Rattle.plain_server.specs.declared.answer.Answer.{Answer}
 use Rattle.plain_server.specs.declared.answer.Answer.TheVariants as answers
 use Rattle.plain_server.specs.declared.entry.Asked.{Asked}
-use Rattle.plain_server.specs.declared.entry.Asked.TheVariants.{Call, Poll, Cut}
+use Rattle.plain_server.specs.declared.entry.Asked.TheVariants.{Call, Cut}
 use Rattle.plain_server.specs.declared.entry.Entry.{Entry}
 use Rattle.plain_server.specs.declared.request.Request.{Request}
 use Rattle.plain_server.specs.declared.request.Request.TheVariants as requests
@@ -20,25 +20,21 @@ use Rattle.plain_server.specs.Serving.{called_unless, calls, serves}
 use Rattle.plain_server.specs.States.{State, names_in}
 use Rattle.plan_words.specs.PlanData.{PlanData}
 use Rattle.changelog_table.specs.ToolNames.{log_name, old_name}
-use Rattle.changelog_table.specs.ToolTables.{sentry_schema}
 use Rattle.journal_words.specs.Journals.{opens, state_at}
 use Rattle.journal_words.specs.Sessions.{live_session, session_in, session_left}
 use Rattle.chunk_copier.specs.Copiers as copiers
-use Rattle.chunk_copier.specs.declared.copier.Copier.{Copier}
 use Rattle.chunk_copier.specs.declared.copier.CopyStep.{CopyStep}
 use Rattle.chunk_copier.specs.declared.copier.CopyStep.TheVariants as copying
 use Rattle.event_applier.specs.Appliers as appliers
 use Rattle.event_applier.specs.declared.applier.ApplyStep.{ApplyStep}
 use Rattle.event_applier.specs.declared.applier.ApplyStep.TheVariants as applying
 use Rattle.cutover_core.specs.Attempts as attempts
-use Rattle.cutover_core.specs.CutOvers as cutovers
 use Rattle.cutover_core.specs.CutOvers.{is_done, is_ending, is_wait}
 use Rattle.cutover_core.specs.declared.cutover.Hold.{Hold}
 use Rattle.cutover_core.specs.declared.cutover.Hold.TheVariants.{Nothing, WaitsToGuard, WaitsToLock, Locks}
 use Rattle.cutover_core.specs.declared.cutover.Phase.{Phase}
 use Rattle.cutover_core.specs.declared.cutover.Phase.TheVariants.{Resting, Attempting, Ending, Finishing, Finished}
-use Rattle.cutover_core.specs.declared.cutover.Role.TheVariants.{Inspector}
-use Rattle.cutover_core.specs.declared.cutover.Stage.TheVariants.{Guarding, Locking, Hinting, Draining, Drained, Showing, Dropping, Unlocking, Exchanging}
+use Rattle.cutover_core.specs.declared.cutover.Stage.TheVariants.{Locking, Hinting, Showing, Dropping, Unlocking}
 use Rattle.migration_program.specs.Programs.{apply_call, rolls_back, tool_call}
 use Rattle.migration_program.specs.Tools.{Work, Course, SettingUp, Migrating, Moment, is_renamed, is_reverting, moment}
 use Rattle.history_laws.specs.Plans.{limits_of, scene_of}
@@ -50,7 +46,7 @@ use Rattle.statement_laws.proofs.Tests.{are_same, or_true, same_bytes}
 use Rattle.attempt_laws.proofs.Stages.{RenamerAt, StandsAt}
 use Rattle.attempt_laws.proofs.Standing.{CourseAt, IsStanding}
 use Rattle.course_laws.proofs.Owners.{AllOwned}
-use Rattle.machine_laws.specs.Machines.{ApplierStands, CourseStands, PhaseHolds, SetupStands, Stands, WorkStands, applier_asks, applier_busy, both_names, copier_asks, copier_busy, held, renaming}
+use Rattle.machine_laws.specs.Machines.{ApplierStands, CourseStands, PhaseHolds, SetupStands, Stands, WorkStands, applier_busy, both_names, copier_asks, copier_busy, held, renaming}
 use Rattle.machine_laws.specs.Standings.{Standing, answered, free, needs_names, serves_to, standing_in, standing_of, IsAbout, is_called}
 use Rattle.machine_laws.specs.Tabling.{CourseTables, Uncopied, WorkTables}
 use Rattle.machine_laws.proofs.CuttingOver.{LockerAsks}

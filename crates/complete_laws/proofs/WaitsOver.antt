@@ -1,6 +1,6 @@
 -- In a quiet run no wait but the renamer's is over: so one that is within limits is done.
 use Rattle.std.proofs.Common.{◌≡◌, ◌≢◌, ℕ, ◌+◌, Bool, true, false, List, [], ◌∷◌, ◌++◌, None, refl, sym, ap, ◌∙◌, subst, append_assoc, append-nil}
-use Rattle.std.proofs.lemmas.Bool.{true≢false, false≢true}
+use Rattle.std.proofs.lemmas.Bool.{true≢false}
 use Rattle.gho_values.specs.Laws.{StoresAgain}
 use Rattle.script_text.specs.declared.actor.Actor.{Actor}
 use Rattle.script_text.specs.declared.actor.Actor.TheVariants.{Op, Insp, Copy, Apply, Lock, Ren, Client}
@@ -18,7 +18,7 @@ use Rattle.chunk_copier.specs.declared.copier.Copier.{Copier}
 use Rattle.chunk_copier.specs.declared.copier.CopyStep.{CopyStep}
 use Rattle.chunk_copier.specs.declared.copier.CopyStep.TheVariants.{Choosing, Spanning, Copying, Committing}
 use Rattle.migration_program.specs.Setups.{Setup, Listing, Clearing, MakingLog, MakingGhost, Marking, Reaching, Ready, setup_after}
-use Rattle.migration_program.specs.Tools.{Work, Course, SettingUp, Migrating, Moment, Tool, course_of, is_renamed, is_reverting, moment, stopped}
+use Rattle.migration_program.specs.Tools.{Work, Course, SettingUp, Migrating, Moment, Tool, course_of, is_renamed, is_reverting, moment}
 use Rattle.history_laws.specs.Plans.{limits_of, scene_of, IsSerialPlan}
 use Rattle.history_laws.proofs.Actors.{same_actor_is}
 use Rattle.history_laws.proofs.Journals.{journal_holds}
