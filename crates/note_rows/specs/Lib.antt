@@ -1,0 +1,2 @@
+pub mod Heartbeats
+pub mod Checkpoints
