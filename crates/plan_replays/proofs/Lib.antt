@@ -1,0 +1,2 @@
+mod AtOpening
+mod WholeRuns

@@ -1,0 +1,93 @@
+//! The replay of a plan.
+
+ghost use Rattle.std.specs.Prelude.{◌≡◌, ◌≢◌, Some, IfSome, IfOk};
+ghost use Rattle.journal_words.specs.Journals.{opening};
+ghost use Rattle.migration_program.specs.Verdicts.{verdict_of};
+ghost use Rattle.accepted_laws.specs.Laws.{WasRead};
+ghost use Rattle.whole_replay.specs.declared.replaying.Replayed.TheVariants as answers;
+ghost use Rattle.plan_replays.specs.Replays.{IsWholeReplay, IsEnd};
+
+use crate::opening::{OpenData, open_server};
+use accepted_laws::laws::read_plans_are_runnable;
+use accepted_runs::laws::{accepted_runs_are_serial, accepted_runs_go_on};
+use plain_server::{Journal, Verdict};
+use plan_words::Plan;
+use replay_laws::laws::replays_agree;
+use server_desk::Server;
+use serving::Serve;
+use std::alloc::{AllocError, Global};
+use whole_replay::{Replayed, replay};
+use whole_run::Run;
+
+/// How a replay ended.
+#[derive(Drop)]
+pub struct End<V: Serve> {
+    /// The verdict.
+    pub verdict: Verdict,
+    /// The server at the end.
+    pub server: V,
+}
+
+/// What a replay leaves.
+#[derive(Drop)]
+pub struct Left<V: Serve> {
+    /// The turns that were taken.
+    pub journal: Journal,
+    /// How it ended; none where memory ran out before.
+    pub end: Option<End<V>>,
+}
+
+/// The verdict of a replay, unless memory ran out.
+fn verdict_after<V: Serve>(run: &Run<'_, V>, replayed: Replayed) -> Option<Verdict>
+    ensures verdict { IfSome result (λ verdict. verdict ≡ verdict_of run.now.plan run.now.journal) }
+    ensures memory { IfSome result (λ verdict. replayed ≢ answers.NoMemory) }
+{
+    match replayed {
+        Replayed::NoMemory => None,
+        Replayed::Over | Replayed::Stalled => run.verdict().ok(),
+    }
+}
+
+/// How a replay ended, where there is a verdict.
+fn end_with<V: Serve>(verdict: Option<Verdict>, server: V) -> Option<End<V>>
+    ensures { IfSome result (λ end. (verdict ≡ Some end.verdict) × (V.state end.server ≡ V.state server)) }
+{
+    match verdict {
+        Some(verdict) => Some(End { verdict, server }),
+        None => None,
+    }
+}
+
+/// Replays a plan that was read, on a server at its opening.
+#[tactic(auto, using(crate::proofs::WholeRuns::whole_of))]
+fn replay_on<V: Serve>(alloc: Global, plan: &Plan, server: V) -> Result<Left<V>, AllocError>
+    requires read { WasRead plan.now }
+    requires server { V.state server ≡ opening plan.now }
+    ensures replay { IfOk result (λ left. IsWholeReplay plan.now left.journal) }
+    ensures end { IfOk result (λ left. IfSome left.end (λ end. IsEnd plan.now left.journal end.verdict (V.state end.server))) }
+{
+    accepted_runs_are_serial();
+    accepted_runs_go_on();
+    read_plans_are_runnable();
+    replays_agree();
+    let mut run = Run::open(alloc, plan, server)?;
+    let replayed = replay(&mut run);
+    let verdict = verdict_after(&run, replayed);
+    let _in_sessions = run.journal();
+    let (server, journal) = run.stop();
+    Ok(Left {
+        journal,
+        end: end_with(verdict, server),
+    })
+}
+
+/// Replays a plan that was read, on a server over its opening tables: its turns are taken in their order until the run is
+/// over. Where there is no memory for a turn, those before it are left.
+pub fn replay_plan<D: OpenData>(alloc: Global, plan: &Plan) -> Result<Left<Server<D>>, AllocError>
+    requires { WasRead plan.now }
+    ensures replay { IfOk result (λ left. IsWholeReplay plan.now left.journal) }
+    ensures end { IfOk result (λ left. IfSome left.end (λ end. IsEnd plan.now left.journal end.verdict end.server)) }
+{
+    let server = open_server::<D>(alloc, plan)?;
+    replay_on(alloc, plan, server)
+}
