@@ -1,1 +1,4 @@
+pub mod Literals
+pub mod Lexing
+pub mod Rows
 pub mod Worked

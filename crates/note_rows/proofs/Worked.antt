@@ -1,13 +1,16 @@
 -- Worked rows.
-use Rattle.std.proofs.Common.{◌≡◌, List, [], ◌∷◌, Option, Some, None, refl, codes}
+use Rattle.std.proofs.Common.{◌≡◌, [], ◌∷◌, Some, None, refl, codes}
 use Rattle.std.specs.Prelude.{pos}
 use Rattle.std.specs.Fmt.{digits}
 use Rattle.gho_values.specs.declared.value.Value.TheVariants.{Num, Text}
 use Rattle.gho_values.specs.Printing.{printed, listed, printed_row}
 use Rattle.gho_values.specs.Storing.{character_count}
 use Rattle.changelog_table.specs.Hints.{hint_row}
-use Rattle.note_rows.specs.declared.checkpoint.Reach.TheVariants.{Nothing, To, All}
+use Rattle.note_rows.specs.declared.checkpoint.Reach.TheVariants.{Nothing, To}
 use Rattle.note_rows.specs.Checkpoints.{checkpoint_row}
+use Rattle.sql_words.specs.Front.{front_at}
+use Rattle.sql_words.specs.Reading.{words_behind}
+use Rattle.note_rows.specs.Readings.{checkpoint_of}
 use Rattle.note_rows.specs.Heartbeats.{heartbeat_row, heartbeat_of}
 
 -- the checkpoint behind the key (2), with no event applied
@@ -33,3 +36,18 @@ seventh_read = refl
 hint_is_none : heartbeat_of (hint_row 7) ≡ None
 unfolding hint_row digits
 hint_is_none = refl
+
+-- the checkpoint behind the key (2) is read again
+row_behind_two_read : checkpoint_of (Num (pos 0) ∷ Text (codes "checkpoint") ∷ Text (codes "0 (2)") ∷ []) ≡ Some (record { position = 0; reach = To (Num (pos 2) ∷ []) })
+unfolding printed_row listed printed character_count front_at words_behind digits
+row_behind_two_read = refl
+
+-- a position with a nought in front is no checkpoint's
+nought_in_front : checkpoint_of (Num (pos 0) ∷ Text (codes "checkpoint") ∷ Text (codes "07 *") ∷ []) ≡ None
+unfolding printed_row listed printed character_count front_at words_behind digits
+nought_in_front = refl
+
+-- a hint row is no checkpoint
+hint_is_no_checkpoint : checkpoint_of (hint_row 7) ≡ None
+unfolding hint_row digits
+hint_is_no_checkpoint = refl

@@ -1,2 +1,4 @@
 pub mod Heartbeats
 pub mod Checkpoints
+pub mod Readings
+pub mod Laws

@@ -6,7 +6,8 @@ ghost use Rattle.note_rows.specs.Checkpoints.{short_text, reach_text, checkpoint
 use gho_values::{Chars, Key, Kind, Row, Sequence, StoreFault, Text, Value, print_row, store};
 use std::alloc::{AllocError, Global};
 
-const HINT: &str = "checkpoint";
+/// The hint of a checkpoint row.
+pub(crate) const HINT: &str = "checkpoint";
 
 /// How many characters the value of a row of the changelog has at most.
 const MOST_CHARACTERS: u16 = 255;
@@ -55,7 +56,7 @@ fn short_text(alloc: Global, text: &str) -> Result<Option<Value>, AllocError>
 }
 
 /// The value of a checkpoint row; none where it has too many characters.
-fn checkpoint_value(
+pub(crate) fn checkpoint_value(
     alloc: Global,
     position: u64,
     reach: &Reach,
