@@ -1,5 +1,5 @@
 -- *Checkpoint rows*: the rows of the changelog that say how far the migration has come.
--- (gh-ost, "Resuming interrupted migrations"; their columns are this project's rule.)
+-- (gh-ost keeps checkpoints in its changelog, so as to resume: its document `resume.md`; their columns are this project's rule.)
 use Rattle.std.specs.Prelude.{codes, ℕ, pos, nat_le, if◌then◌else◌, List, [], ◌∷◌, ◌++◌, Option, Some, None}
 use Rattle.std.specs.Fmt.{signed_decimal}
 use Rattle.std.specs.Option.{option_map}

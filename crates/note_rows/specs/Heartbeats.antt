@@ -1,5 +1,5 @@
 -- *Heartbeat rows*: the rows of the changelog by which the tool tells how far its reading of the log lags.
--- (gh-ost, "Subsecond replication lag throttling"; their columns are this project's rule.)
+-- (gh-ost, `subsecond-lag.md`: heartbeats in the changelog; their columns are this project's rule.)
 use Rattle.std.specs.Prelude.{codes, ℕ, ◌+◌, ◌-◌, pos, nat_lt, nat_le, ◌&&◌, if◌then◌else◌, List, [], ◌∷◌, Option, Some, None}
 use Rattle.std.specs.Fmt.{signed_decimal}
 use Rattle.std.specs.Str.{bytes_eq}
