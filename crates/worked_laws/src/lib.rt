@@ -1,0 +1,4 @@
+//! What worker threads ask of a plan, every plan that is read has: each function's contract is a law.
+#![tactic(auto)]
+
+pub mod laws;
