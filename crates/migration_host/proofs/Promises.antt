@@ -23,14 +23,17 @@ use Rattle.command_words.specs.Commands.{command}
 use Rattle.command_words.specs.declared.command.Command.{Command}
 use Rattle.command_words.specs.declared.command.Command.TheVariants.{Check, Replay, Run, Generate}
 use Rattle.workload_gen.specs.Workloads.{workload}
-use Rattle.migration_host.specs.declared.command.PlanCommand.{PlanCommand}
-use Rattle.migration_host.specs.declared.command.PlanCommand.TheVariants as plans
-use Rattle.migration_host.specs.declared.outcome.Printed.{Printed}
-use Rattle.migration_host.specs.declared.status.Status.{Status}
-use Rattle.migration_host.specs.declared.turns.Turn.{Turn}
-use Rattle.migration_host.specs.Outcomes.{IsUntaken, IsRun, IsReport, IsSchema, IsRefusal, Refuses, PlanChecks, Comes, PlanComes, status_of}
-use Rattle.migration_host.specs.Endings.{Taking, Giving, said_under, ReadsAndComes, TellsUsage, TellsReadFault, TellsFaulty, TellsWorkload, TellsNumber, TellsCommand, ComesTo, GivesAll, GivesFront, GivesNone, Gives, status_number}
-use Rattle.migration_host.specs.Promises.{EndsBy, IsSerial, PrintsReport, PrintsSchema, PrintsRevert, PrintsUnfinished, PrintsRefusal, PrintsUsage, PrintsReadFault, PrintsPrefix, PrintsNone, PrintsWorkload, IsUsageOrLost, asked, is_built, reads_plan, Ends, done, checked, generated, usage, refused, reverted, read_fault, write_fault, no_memory, turns_spent}
+use Rattle.call_endings.specs.declared.command.PlanCommand.{PlanCommand}
+use Rattle.call_endings.specs.declared.command.PlanCommand.TheVariants as plans
+use Rattle.call_endings.specs.declared.printed.Printed.{Printed}
+use Rattle.call_endings.specs.declared.status.Status.{Status}
+use Rattle.call_endings.specs.declared.turn.Turn.{Turn}
+use Rattle.migration_host.specs.Outcomes.{IsUntaken, IsRun, IsReport, Comes, PlanComes, status_of}
+use Rattle.call_endings.specs.Checks.{IsSchema}
+use Rattle.call_endings.specs.Texts.{IsRefusal}
+use Rattle.migration_host.specs.Endings.{said_under, ReadsAndComes, TellsUsage, TellsReadFault, TellsFaulty, TellsWorkload, TellsNumber, TellsCommand, ComesTo}
+use Rattle.call_endings.specs.Endings.{Taking, Giving, GivesAll, GivesFront, GivesNone, Gives, status_number, IsUsageOrLost, asked, is_built, reads_plan}
+use Rattle.migration_host.specs.Promises.{EndsBy, IsSerial, PrintsReport, PrintsSchema, PrintsRevert, PrintsUnfinished, PrintsRefusal, PrintsUsage, PrintsReadFault, PrintsPrefix, PrintsNone, PrintsWorkload, Ends, done, checked, generated, usage, refused, reverted, read_fault, write_fault, no_memory, turns_spent}
 
 -- ---- journals of runs that are over
 
@@ -163,19 +166,19 @@ plan_given : VerdictsTellTheAlter → RevertsNameTurns → (words : List (List �
 plan_given tell name words source sink printed turns journal number told is number_is given (inl read) =
     of_bytes tell name words told source sink printed turns journal number read (said_under told read.bytes) is number_is given refl read.comes
 plan_given tell name words source sink printed turns journal number told is number_is given (inr fault) =
-    read_fault (number_is ∙ ap status_number fault.status_is) (reads_by words told is) (record {
-      rose = fault.rose;
-      given = subst (λ (text : List ℕ). Appends sink.before sink.after text) fault.text_is given;
-      untaken = fault.untaken;
+    read_fault (number_is ∙ ap status_number fault.1.status_is) (reads_by words told is) (record {
+      rose = fault.1.rose;
+      given = subst (λ (text : List ℕ). Appends sink.before sink.after text) fault.1.text_is given;
+      untaken = fault.0;
     })
 
 usage_given : (words : List (List ℕ)) (source : Taking) (sink : Giving) (printed : Printed) (turns : List Turn) (journal : List Entry) (number : ℕ)
     → is_built (command words) ≡ false → number ≡ status_number printed.status → Appends sink.before sink.after printed.text → TellsUsage source printed turns journal → Ends words source sink turns journal number
 usage_given words source sink printed turns journal number is number_is given comes =
-    usage (number_is ∙ ap status_number comes.status_is) is (record {
-      takes_none = comes.takes_none;
-      given = subst (λ (text : List ℕ). Appends sink.before sink.after text) comes.text_is given;
-      untaken = comes.untaken;
+    usage (number_is ∙ ap status_number comes.1.status_is) is (record {
+      takes_none = comes.1.takes_none;
+      given = subst (λ (text : List ℕ). Appends sink.before sink.after text) comes.1.text_is given;
+      untaken = comes.0;
     })
 
 given_whole : VerdictsTellTheAlter → RevertsNameTurns → (words : List (List ℕ)) (source : Taking) (sink : Giving) (printed : Printed) (turns : List Turn) (journal : List Entry) (number : ℕ) (told : Option Command)
@@ -183,10 +186,10 @@ given_whole : VerdictsTellTheAlter → RevertsNameTurns → (words : List (List 
 given_whole tell name words source sink printed turns journal number None is number_is given comes = usage_given words source sink printed turns journal number (rw is refl) number_is given comes
 given_whole tell name words source sink printed turns journal number (Some (Run workers)) is number_is given comes = usage_given words source sink printed turns journal number (rw is refl) number_is given comes
 given_whole tell name words source sink printed turns journal number (Some (Generate told)) is number_is given comes =
-    generated (number_is ∙ ap status_number comes.status_is) told is (record {
-      takes_none = comes.takes_none;
-      given = subst (λ (text : List ℕ). Appends sink.before sink.after text) comes.text_is given;
-      untaken = comes.untaken;
+    generated (number_is ∙ ap status_number comes.1.status_is) told is (record {
+      takes_none = comes.1.takes_none;
+      given = subst (λ (text : List ℕ). Appends sink.before sink.after text) comes.1.text_is given;
+      untaken = comes.0;
     })
 given_whole tell name words source sink printed turns journal number (Some Check) is number_is given comes = plan_given tell name words source sink printed turns journal number plans.Check is number_is given comes
 given_whole tell name words source sink printed turns journal number (Some Replay) is number_is given comes = plan_given tell name words source sink printed turns journal number plans.Replay is number_is given comes

@@ -8,8 +8,8 @@ use Rattle.tool_program.specs.Programs.{Follows}
 use Rattle.tool_program.specs.Orders.{ReplayOrder}
 use Rattle.serial_laws.specs.SerialLaws.{JournalsAreSerial}
 use Rattle.plan_document.specs.declared.fault.PlanRefusal.{PlanRefusal}
-use Rattle.migration_host.specs.declared.command.PlanCommand.{PlanCommand}
-use Rattle.migration_host.specs.declared.command.PlanCommand.TheVariants.{Check, Replay}
+use Rattle.call_endings.specs.declared.command.PlanCommand.{PlanCommand}
+use Rattle.call_endings.specs.declared.command.PlanCommand.TheVariants.{Check, Replay}
 use Rattle.plan_document.specs.Plans.{read, reads}
 use Rattle.plan_laws.specs.PlanLaws.{AcceptedPlansAreMigratable}
 use Rattle.migration_host.specs.Endings.{said_under}

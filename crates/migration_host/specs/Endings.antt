@@ -1,8 +1,6 @@
--- How a call of the program ends: its status, what it took from the source and what it gave to the sink.
-use Rattle.std.specs.Prelude.{◌≡◌, ℕ, List, [], Option, Some, None, Result, ◌⊎◌}
-use Rattle.std.specs.Io.KnownBytes.{Appends, Consumes}
-use Rattle.gho_edges.specs.Edges.{Rose}
-use Rattle.gho_edges.specs.Whole.{ReadsWhole, GivesPart}
+-- What the words and the source come to.
+use Rattle.std.specs.Prelude.{ℕ, List, Option, Some, None, Result, ◌⊎◌}
+use Rattle.gho_edges.specs.Whole.{ReadsWhole}
 use Rattle.server_words.specs.declared.entry.Entry.{Entry}
 use Rattle.plan_words.specs.PlanData.{PlanData}
 use Rattle.plan_document.specs.declared.limits.TheConstants.{PLAN_LIMIT}
@@ -10,48 +8,12 @@ use Rattle.plan_document.specs.declared.fault.PlanRefusal.{PlanRefusal}
 use Rattle.plan_document.specs.Plans.{read, reads}
 use Rattle.command_words.specs.declared.command.Command.{Command}
 use Rattle.command_words.specs.declared.command.Command.TheVariants.{Check, Replay, Run, Generate}
-use Rattle.migration_host.specs.declared.command.PlanCommand.{PlanCommand}
-use Rattle.migration_host.specs.declared.command.PlanCommand.TheVariants as plans
-use Rattle.migration_host.specs.declared.outcome.Printed.{Printed}
-use Rattle.migration_host.specs.declared.status.Status.{Status}
-use Rattle.migration_host.specs.declared.status.Status.TheVariants.{Done, Usage, Refused, Reverted, ReadFault, WriteFault, NoMemory, TurnsSpent}
-use Rattle.migration_host.specs.declared.turns.Turn.{Turn}
+use Rattle.call_endings.specs.declared.command.PlanCommand.{PlanCommand}
+use Rattle.call_endings.specs.declared.command.PlanCommand.TheVariants as plans
+use Rattle.call_endings.specs.declared.printed.Printed.{Printed}
+use Rattle.call_endings.specs.declared.turn.Turn.{Turn}
+use Rattle.call_endings.specs.Endings.{Taking, IsWorkload, IsUsage, IsReadFault}
 use Rattle.migration_host.specs.Outcomes.{IsUntaken, Comes}
-use Rattle.migration_host.specs.Texts.{usage_text, read_fault_text}
-use Rattle.workload_gen.specs.Workloads.{workload}
-
--- the number of each status. This project's rule.
-abbrev pub status_number : Status → ℕ
-status_number Done = 0
-status_number Usage = 1
-status_number Refused = 2
-status_number Reverted = 3
-status_number ReadFault = 4
-status_number WriteFault = 5
-status_number NoMemory = 6
-status_number TurnsSpent = 7
-
--- what a call did to the source: the bytes that it had left, where it tells them, and its count of faults
-pub record Taking : Type 0 where
-  pub before : Option (List ℕ)
-  pub after : Option (List ℕ)
-  pub faults_before : ℕ
-  pub faults_after : ℕ
-
--- what a call did to the sink: the bytes that it held, where it tells them, and its count of faults
-pub record Giving : Type 0 where
-  pub before : Option (List ℕ)
-  pub after : Option (List ℕ)
-  pub faults_before : ℕ
-  pub faults_after : ℕ
-
--- *Took*: what a call did to its source, by the bytes that are left and the count of faults
-abbrev pub took : {S : Type 0} → (S → Option (List ℕ)) → (S → ℕ) → S → S → Taking
-took left faults old new = record { before = left old; after = left new; faults_before = faults old; faults_after = faults new }
-
--- *Gave*: what a call did to its sink, by the bytes that it holds and the count of faults
-abbrev pub gave : {K : Type 0} → (K → Option (List ℕ)) → (K → ℕ) → K → K → Giving
-gave held faults old new = record { before = held old; after = held new; faults_before = faults old; faults_after = faults new }
 
 -- What a plan's bytes say under a command: `check` takes every plan, and `replay` those that are run today.
 abbrev pub said_under : PlanCommand → List ℕ → Result PlanData PlanRefusal
@@ -64,26 +26,17 @@ pub record ReadsAndComes (told : PlanCommand) (source : Taking) (printed : Optio
   pub whole : ReadsWhole PLAN_LIMIT source.before source.after bytes
   pub comes : Comes told (said_under told bytes) printed turns journal
 
--- the plan of a number is printed, and nothing is taken
-pub record TellsWorkload (number : ℕ) (source : Taking) (printed : Printed) (turns : List Turn) (journal : List Entry) : Type 0 where
-  pub untaken : IsUntaken turns journal
-  pub status_is : printed.status ≡ Done
-  pub text_is : printed.text ≡ workload number
-  pub takes_none : Consumes source.before source.after []
+-- the plan of a number is printed; no turn was taken
+abbrev pub TellsWorkload : ℕ → Taking → Printed → List Turn → List Entry → Type 0
+TellsWorkload number source printed turns journal = IsUntaken turns journal × IsWorkload number source printed
 
--- faulty words, or those of a command that isn't built: nothing is taken, and the usage is printed
-pub record TellsUsage (source : Taking) (printed : Printed) (turns : List Turn) (journal : List Entry) : Type 0 where
-  pub untaken : IsUntaken turns journal
-  pub status_is : printed.status ≡ Usage
-  pub text_is : printed.text ≡ usage_text
-  pub takes_none : Consumes source.before source.after []
+-- the usage is printed, for faulty words, or those of a command that isn't built
+abbrev pub TellsUsage : Taking → Printed → List Turn → List Entry → Type 0
+TellsUsage source printed turns journal = IsUntaken turns journal × IsUsage source printed
 
 -- the source failed
-pub record TellsReadFault (source : Taking) (printed : Printed) (turns : List Turn) (journal : List Entry) : Type 0 where
-  pub untaken : IsUntaken turns journal
-  pub status_is : printed.status ≡ ReadFault
-  pub text_is : printed.text ≡ read_fault_text
-  pub rose : Rose source.faults_before source.faults_after
+abbrev pub TellsReadFault : Taking → Printed → List Turn → List Entry → Type 0
+TellsReadFault source printed turns journal = IsUntaken turns journal × IsReadFault source printed
 
 -- what faulty words come to, out of memory and not
 abbrev pub TellsFaulty : Taking → Option Printed → List Turn → List Entry → Type 0
@@ -108,22 +61,3 @@ ComesTo (Some Check) source printed turns journal = TellsCommand plans.Check sou
 ComesTo (Some Replay) source printed turns journal = TellsCommand plans.Replay source printed turns journal
 ComesTo (Some (Run workers)) source printed turns journal = TellsFaulty source printed turns journal
 ComesTo (Some (Generate number)) source printed turns journal = TellsNumber number source printed turns journal
-
--- What was given of what is printed, and how the call ended: the whole text, or a prefix of it where the sink failed; nothing
--- where memory ran out.
-pub record GivesAll (printed : Printed) (sink : Giving) (status : Status) : Type 0 where
-  pub status_is : status ≡ printed.status
-  pub given : Appends sink.before sink.after printed.text
-
-pub record GivesFront (printed : Printed) (sink : Giving) (status : Status) : Type 0 where
-  pub status_is : status ≡ WriteFault
-  pub given : GivesPart sink.before sink.after printed.text
-  pub rose : Rose sink.faults_before sink.faults_after
-
-pub record GivesNone (sink : Giving) (status : Status) : Type 0 where
-  pub status_is : status ≡ NoMemory
-  pub given : Appends sink.before sink.after []
-
-abbrev pub Gives : Option Printed → Giving → Status → Type 0
-Gives None sink status = GivesNone sink status
-Gives (Some printed) sink status = GivesAll printed sink status ⊎ GivesFront printed sink status

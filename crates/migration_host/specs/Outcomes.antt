@@ -1,8 +1,6 @@
 -- What comes of a plan's bytes: the turns that are taken, what is printed, and the status that it has where it is printed
 -- whole. This project's rule.
-use Rattle.std.specs.Prelude.{◌≡◌, ℕ, true, List, [], map, Option, Some, None, Result, Ok, Err}
-use Rattle.gho_schema.specs.declared.schema.Schema.{Schema}
-use Rattle.schema_print.specs.Printing.{printed_schema}
+use Rattle.std.specs.Prelude.{◌≡◌, true, List, [], map, Option, Some, None, Result, Ok, Err, IfSome}
 use Rattle.server_words.specs.declared.cause.Verdict.{Verdict}
 use Rattle.server_words.specs.declared.cause.Verdict.TheVariants as verdicts
 use Rattle.server_words.specs.declared.entry.Entry.{Entry}
@@ -11,16 +9,16 @@ use Rattle.plan_document.specs.declared.fault.PlanRefusal.{PlanRefusal}
 use Rattle.plan_words.specs.Journals.{state_at}
 use Rattle.tool_program.specs.Programs.{verdict_of}
 use Rattle.migration_core.specs.Runs.{is_over}
-use Rattle.migration_host.specs.Checks.{Alters}
+use Rattle.call_endings.specs.Checks.{IsSchema}
 use Rattle.migration_host.specs.Replays.{IsReplay}
 use Rattle.report_text.specs.Reports.{report}
-use Rattle.migration_host.specs.declared.command.PlanCommand.{PlanCommand}
-use Rattle.migration_host.specs.declared.command.PlanCommand.TheVariants.{Check, Replay}
-use Rattle.migration_host.specs.declared.outcome.Printed.{Printed}
-use Rattle.migration_host.specs.declared.status.Status.{Status}
-use Rattle.migration_host.specs.declared.status.Status.TheVariants as statuses
-use Rattle.migration_host.specs.declared.turns.Turn.{Turn}
-use Rattle.migration_host.specs.Texts.{refused_text}
+use Rattle.call_endings.specs.declared.command.PlanCommand.{PlanCommand}
+use Rattle.call_endings.specs.declared.command.PlanCommand.TheVariants.{Check, Replay}
+use Rattle.call_endings.specs.declared.printed.Printed.{Printed}
+use Rattle.call_endings.specs.declared.status.Status.{Status}
+use Rattle.call_endings.specs.declared.status.Status.TheVariants as statuses
+use Rattle.call_endings.specs.declared.turn.Turn.{Turn}
+use Rattle.call_endings.specs.Texts.{IsRefusal}
 
 -- the status of a report
 abbrev pub status_of : Verdict → Status
@@ -59,35 +57,9 @@ abbrev pub PlanComes : PlanData → Option Printed → List Turn → List Entry 
 PlanComes plan None turns journal = IsRun plan turns journal
 PlanComes plan (Some printed) turns journal = IsRun plan turns journal × IsReport plan journal printed
 
--- the text of the schema that the plan's ALTER leaves
-pub record IsSchemaText (plan : PlanData) (text : List ℕ) : Type 0 where
-  pub schema : Schema
-  pub alters : Alters plan schema
-  pub text_is : text ≡ printed_schema schema
-
--- the altered schema of a plan, printed
-pub record IsSchema (plan : PlanData) (printed : Printed) : Type 0 where
-  pub status_is : printed.status ≡ statuses.Done
-  pub shows : IsSchemaText plan printed.text
-
--- what comes of the check of a plan: its altered schema, or nothing where memory ran out; no turn is taken
-abbrev pub PlanChecks : PlanData → Option Printed → Type 0
-PlanChecks plan None = Unit {0}
-PlanChecks plan (Some printed) = IsSchema plan printed
-
--- the refusal of bytes
-pub record IsRefusal (refusal : PlanRefusal) (printed : Printed) : Type 0 where
-  pub status_is : printed.status ≡ statuses.Refused
-  pub text_is : printed.text ≡ refused_text refusal
-
--- what is printed of a refusal, or nothing where memory ran out
-abbrev pub Refuses : PlanRefusal → Option Printed → Type 0
-Refuses refusal None = Unit {0}
-Refuses refusal (Some printed) = IsRefusal refusal printed
-
 -- What comes of bytes that say this under a command: what comes of the plan, or the refusal without a turn; or nothing is
 -- printed, being out of memory.
 abbrev pub Comes : PlanCommand → Result PlanData PlanRefusal → Option Printed → List Turn → List Entry → Type 0
-Comes Check (Ok plan) printed turns journal = IsUntaken turns journal × PlanChecks plan printed
+Comes Check (Ok plan) printed turns journal = IsUntaken turns journal × IfSome printed (IsSchema plan)
 Comes Replay (Ok plan) printed turns journal = PlanComes plan printed turns journal
-Comes command (Err refusal) printed turns journal = IsUntaken turns journal × Refuses refusal printed
+Comes command (Err refusal) printed turns journal = IsUntaken turns journal × IfSome printed (IsRefusal refusal)

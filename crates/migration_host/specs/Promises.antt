@@ -17,19 +17,20 @@ use Rattle.plan_document.specs.Plans.{read, reads}
 use Rattle.tool_program.specs.Programs.{has_ended, verdict_of}
 use Rattle.serial_laws.specs.VerdictLaws.{TellsAlter, NamesTurn}
 use Rattle.migration_core.specs.Runs.{turn_limit}
-use Rattle.migration_host.specs.Checks.{Alters}
+use Rattle.call_endings.specs.Checks.{Alters}
 use Rattle.migration_host.specs.Replays.{IsReplay}
 use Rattle.report_text.specs.Reports.{report}
 use Rattle.command_words.specs.Commands.{command}
 use Rattle.command_words.specs.declared.command.Command.{Command}
 use Rattle.command_words.specs.declared.command.Command.TheVariants.{Check, Replay, Run, Generate}
-use Rattle.migration_host.specs.declared.command.PlanCommand.{PlanCommand}
-use Rattle.migration_host.specs.declared.command.PlanCommand.TheVariants as plans
-use Rattle.migration_host.specs.declared.outcome.Printed.{Printed}
-use Rattle.migration_host.specs.declared.turns.Turn.{Turn}
-use Rattle.migration_host.specs.Endings.{Taking, Giving, said_under, ComesTo}
+use Rattle.call_endings.specs.declared.command.PlanCommand.{PlanCommand}
+use Rattle.call_endings.specs.declared.command.PlanCommand.TheVariants as plans
+use Rattle.call_endings.specs.declared.printed.Printed.{Printed}
+use Rattle.call_endings.specs.declared.turn.Turn.{Turn}
+use Rattle.migration_host.specs.Endings.{said_under, ComesTo}
+use Rattle.call_endings.specs.Endings.{Taking, Giving}
 use Rattle.migration_host.specs.Outcomes.{IsUntaken, turns_of}
-use Rattle.migration_host.specs.Texts.{refused_text, usage_text, read_fault_text}
+use Rattle.call_endings.specs.Texts.{refused_text, usage_text, read_fault_text}
 use Rattle.workload_gen.specs.Workloads.{workload}
 
 -- *The headline*, of the journal that a call leaves: the source was read whole, its bytes are an accepted plan, and the
@@ -89,11 +90,6 @@ pub record PrintsWorkload (number : ℕ) (source : Taking) (sink : Giving) (turn
   pub given : Appends sink.before sink.after (workload number)
   pub untaken : IsUntaken turns journal
 
--- the command of a line that does this with a plan
-abbrev pub asked : PlanCommand → Command
-asked plans.Check = Check
-asked plans.Replay = Replay
-
 -- Status 2: the source was read whole, and what is given is the first refusal of its bytes under the command; no turn was
 -- taken.
 pub record PrintsRefusal (words : List (List ℕ)) (source : Taking) (sink : Giving) (turns : List Turn) (journal : List Entry) : Type 0 where
@@ -131,18 +127,6 @@ pub record PrintsNone (words : List (List ℕ)) (source : Taking) (sink : Giving
   pub comes : ComesTo (command words) source None turns journal
   pub given : Appends sink.before sink.after []
 
--- the words are a command whose program is built: any but `run`
-abbrev pub is_built : Option Command → Bool
-is_built None = false
-is_built (Some (Run workers)) = false
-is_built (Some told) = true
-
--- the words are a command that reads a plan
-abbrev pub reads_plan : Option Command → Bool
-reads_plan (Some Check) = true
-reads_plan (Some Replay) = true
-reads_plan told = false
-
 -- *Ends*: a call ends under one of these numbers, and then this stands.
 pub data Ends (words : List (List ℕ)) (source : Taking) (sink : Giving) (turns : List Turn) (journal : List Entry) (number : ℕ) : Type 0 where
   done : number ≡ 0 → command words ≡ Some Replay → PrintsReport source sink turns journal Done → Ends words source sink turns journal number
@@ -155,7 +139,3 @@ pub data Ends (words : List (List ℕ)) (source : Taking) (sink : Giving) (turns
   write_fault : number ≡ 5 → PrintsPrefix words source sink turns journal → Ends words source sink turns journal number
   no_memory : number ≡ 6 → PrintsNone words source sink turns journal → Ends words source sink turns journal number
   turns_spent : number ≡ 7 → command words ≡ Some Replay → PrintsUnfinished source sink turns journal → Ends words source sink turns journal number
-
--- the number is 1, 5 or 6
-abbrev pub IsUsageOrLost : ℕ → Type 0
-IsUsageOrLost number = (number ≡ 1) ⊎ ((number ≡ 5) ⊎ (number ≡ 6))

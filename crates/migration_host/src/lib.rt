@@ -2,7 +2,6 @@
 #![tactic(auto)]
 
 mod accepting;
-mod command;
 mod outcome;
 mod replay;
 mod status;
@@ -10,11 +9,9 @@ mod top;
 mod turns;
 
 pub use accepting::{read_any_plan, read_plan};
-pub use command::PlanCommand;
+pub use call_endings::{PlanCommand, Status, Turn, Turns};
 pub use command_words::{Command, Line};
-pub use status::Status;
 pub use top::{Ended, ghost_};
-pub use turns::{Turn, Turns};
 
 #[cfg(test)]
 mod tests;

@@ -3,26 +3,22 @@
 ghost use Rattle.std.specs.Prelude.{◌≡◌, ◌≤◌, ◌==◌, ℕ, false, length, Some};
 ghost use Rattle.command_words.specs.Commands.{command};
 ghost use Rattle.command_words.specs.declared.command.Command.TheVariants.{Check, Generate, Replay};
-ghost use Rattle.migration_host.specs.declared.command.PlanCommand.{PlanCommand};
+ghost use Rattle.call_endings.specs.declared.command.PlanCommand.{PlanCommand};
 ghost use Rattle.server_words.specs.declared.cause.Verdict.TheVariants as verdicts;
-ghost use Rattle.migration_host.specs.Endings.{ComesTo, Gives, TellsCommand, gave, took};
-ghost use Rattle.migration_host.specs.Promises.{Ends, IsSerial, is_built, PrintsReport, PrintsSchema, PrintsWorkload, PrintsRevert, PrintsUnfinished, PrintsRefusal, PrintsUsage, PrintsReadFault, PrintsPrefix, PrintsNone, IsUsageOrLost};
+ghost use Rattle.call_endings.specs.Endings.{gave, is_built, IsUsageOrLost, took};
+ghost use Rattle.migration_host.specs.Endings.{ComesTo, TellsCommand};
+ghost use Rattle.migration_host.specs.Promises.{Ends, IsSerial, PrintsReport, PrintsSchema, PrintsWorkload, PrintsRevert, PrintsUnfinished, PrintsRefusal, PrintsUsage, PrintsReadFault, PrintsPrefix, PrintsNone};
 
-use crate::command::PlanCommand;
-use crate::outcome::{Outcome, outcome_of, shown, untaken, workload_shown};
-use crate::status::Status;
-use crate::turns::Turns;
+use crate::outcome::{Outcome, outcome_of, untaken};
+use call_endings::{PlanCommand, Turns, give, read_fault_shown, usage_shown, workload_shown};
 use command_words::{Command, Line};
-use gho_edges::{Gate, ReadFault, Sink, Source, give_whole, read_whole};
+use gho_edges::{Gate, ReadFault, Sink, Source, read_whole};
 use plan_document::PLAN_LIMIT;
 use serial_laws::laws::{reverts_name_turns, verdicts_tell_the_alter};
 use server_words::Journal;
 use std::alloc::Global;
 use std::sync::Wait;
 use std::thread::Threads;
-
-/// What faulty words get.
-const USAGE: &str = "usage: check | replay | run [--workers N] | generate N\n";
 
 /// How a call of `ghost_` ended.
 #[derive(Debug, Drop)]
@@ -42,9 +38,7 @@ fn come_to_plan<S: Source>(alloc: Global, told: PlanCommand, source: &mut S) -> 
 {
     match read_whole(alloc, source, PLAN_LIMIT) {
         Ok(bytes) => outcome_of(alloc, told, bytes.as_slice()),
-        Err(ReadFault::Source) => {
-            untaken(alloc, shown(alloc, Status::ReadFault, "read fault\n"))
-        }
+        Err(ReadFault::Source) => untaken(alloc, read_fault_shown(alloc)),
         Err(ReadFault::Memory) => untaken(alloc, None),
     }
 }
@@ -58,22 +52,8 @@ fn come_to<S: Source>(alloc: Global, line: &Line, source: &mut S) -> Outcome
         Ok(Some(Command::Check)) => come_to_plan(alloc, PlanCommand::Check, source),
         Ok(Some(Command::Replay)) => come_to_plan(alloc, PlanCommand::Replay, source),
         Ok(Some(Command::Generate(number))) => untaken(alloc, workload_shown(alloc, number)),
-        Ok(Some(Command::Run(_)) | None) => untaken(alloc, shown(alloc, Status::Usage, USAGE)),
+        Ok(Some(Command::Run(_)) | None) => untaken(alloc, usage_shown(alloc)),
         Err(_) => untaken(alloc, None),
-    }
-}
-
-/// Gives what is printed, and says how it ended.
-fn give<K: Sink>(outcome: &Outcome, sink: &mut K) -> Status
-    ensures gives { Gives outcome.now.printed (gave K.held K.faults sink.old sink.new) result }
-    ensures never_falls { K.faults sink.old ≤ K.faults sink.new }
-{
-    match &outcome.printed {
-        Some(printed) => match give_whole(sink, printed.text.as_str().as_bytes()) {
-            Ok(()) => printed.status,
-            Err(_) => Status::WriteFault,
-        },
-        None => Status::NoMemory,
     }
 }
 
@@ -86,7 +66,7 @@ fn ending<S: Source, K: Sink>(alloc: Global, line: &Line, source: &mut S, sink: 
     verdicts_tell_the_alter();
     reverts_name_turns();
     let outcome = come_to(alloc, line, source);
-    let status = give(&outcome, sink);
+    let status = give(&outcome.printed, sink);
     Ended {
         status: status.number(),
         turns: outcome.turns,

@@ -5,21 +5,9 @@ ghost use Rattle.std.specs.Vec.{vec_len, vec_capacity};
 ghost use Rattle.migration_core.specs.Runs.{turn_limit};
 ghost use Rattle.migration_host.specs.Outcomes.{turns_of};
 
+use call_endings::{Turn, Turns};
 use gho_values::Sequence;
-use script_text::Actor;
 use server_words::Entry;
-
-/// Whose turn it was.
-#[derive(Debug, Drop)]
-pub struct Turn {
-    /// The number of the worker that took it: 0 in a replay.
-    pub worker: u32,
-    /// The actor.
-    pub actor: Actor,
-}
-
-/// Turns in order.
-pub type Turns = Sequence<Turn>;
 
 /// Whose turns a replay's journal has, in the room that was made for them. It takes no memory.
 pub(crate) fn turns_in(room: Vec<Turn>, journal: &[Entry]) -> Turns

@@ -1,5 +1,5 @@
-use Rattle.migration_host.specs.Texts.{place_text}
-use Rattle.migration_host.proofs.outcome.push_place.Goals as goal
+use Rattle.call_endings.specs.Texts.{place_text}
+use Rattle.call_endings.proofs.refusing.push_place.Goals as goal
 
 pub returns-in-Operator : goal.returns-in-Operator
 unfolding place_text
