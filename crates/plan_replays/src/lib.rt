@@ -1,9 +1,8 @@
-//! The replay of a plan that was read, on the final server over any data: its journal, with all that is promised of it, and
+//! The replay of a plan that was read, on the final server: its journal, with all that is promised of it, and
 //! how it ended.
 #![tactic(auto)]
 
 mod opening;
 mod replaying;
 
-pub use opening::OpenData;
 pub use replaying::{End, Left, replay_plan};

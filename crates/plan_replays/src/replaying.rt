@@ -7,13 +7,13 @@ ghost use Rattle.accepted_laws.specs.Laws.{WasRead};
 ghost use Rattle.whole_replay.specs.declared.replaying.Replayed.TheVariants as answers;
 ghost use Rattle.plan_replays.specs.Replays.{IsWholeReplay, IsEnd};
 
-use crate::opening::{OpenData, open_server};
+use crate::opening::open_plan;
 use accepted_laws::laws::read_plans_are_runnable;
 use accepted_runs::laws::{accepted_runs_are_serial, accepted_runs_go_on};
+use final_server::FinalServer;
 use plain_server::{Journal, Verdict};
 use plan_words::Plan;
 use replay_laws::laws::replays_agree;
-use server_desk::Server;
 use serving::Serve;
 use std::alloc::{AllocError, Global};
 use whole_replay::{Replayed, replay};
@@ -81,13 +81,13 @@ fn replay_on<V: Serve>(alloc: Global, plan: &Plan, server: V) -> Result<Left<V>,
     })
 }
 
-/// Replays a plan that was read, on a server over its opening tables: its turns are taken in their order until the run is
+/// Replays a plan that was read, on the final server over its opening tables: its turns are taken in their order until the run is
 /// over. Where there is no memory for a turn, those before it are left.
-pub fn replay_plan<D: OpenData>(alloc: Global, plan: &Plan) -> Result<Left<Server<D>>, AllocError>
+pub fn replay_plan(alloc: Global, plan: &Plan) -> Result<Left<FinalServer>, AllocError>
     requires { WasRead plan.now }
     ensures replay { IfOk result (λ left. IsWholeReplay plan.now left.journal) }
     ensures end { IfOk result (λ left. IfSome left.end (λ end. IsEnd plan.now left.journal end.verdict end.server)) }
 {
-    let server = open_server::<D>(alloc, plan)?;
+    let server = open_plan(alloc, plan)?;
     replay_on(alloc, plan, server)
 }
