@@ -1,0 +1,206 @@
+-- How a call ends, from what its words and its source come to and what was given of it.
+use Rattle.std.proofs.Common.{◌≡◌, ℕ, ◌==◌, ◌≤◌, true, false, List, [], ◌∷◌, length, Option, Some, None, Result, Ok, Err, ◌⊎◌, inl, inr, refl, sym, ap, ◌∙◌, subst, arith}
+use Rattle.std.specs.Io.KnownBytes.{Appends}
+use Rattle.std.proofs.lemmas.Bool.Decides.{nat_tests}
+use Rattle.plain_server.specs.declared.entry.Entry.{Entry}
+use Rattle.plain_server.specs.declared.outcome.Verdict.{Verdict}
+use Rattle.plain_server.specs.declared.outcome.Verdict.TheVariants as verdicts
+use Rattle.plan_words.specs.PlanData.{PlanData}
+use Rattle.plan_document.specs.declared.fault.PlanRefusal.{PlanRefusal}
+use Rattle.plan_document.specs.Plans.{read}
+use Rattle.journal_words.specs.Journals.{state_at}
+use Rattle.migration_program.specs.Verdicts.{verdict_of}
+use Rattle.report_print.specs.Reports.{report}
+use Rattle.command_words.specs.Commands.{command}
+use Rattle.command_words.specs.declared.command.Command.{Command}
+use Rattle.command_words.specs.declared.command.Command.TheVariants.{Check, Replay, Run, Generate}
+use Rattle.call_endings.specs.declared.command.PlanCommand.{PlanCommand}
+use Rattle.call_endings.specs.declared.command.PlanCommand.TheVariants as plans
+use Rattle.call_endings.specs.declared.printed.Printed.{Printed}
+use Rattle.call_endings.specs.declared.status.Status.{Status}
+use Rattle.call_endings.specs.declared.status.Status.TheVariants as statuses
+use Rattle.call_endings.specs.declared.turn.Turn.{Turn}
+use Rattle.call_endings.specs.Endings.{Taking, Giving, IsReadFault, IsUsage, IsWorkload, Gives, asked, is_built, reads_plan, status_number, IsUsageOrLost}
+use Rattle.call_endings.specs.Checks.{IsSchema}
+use Rattle.call_endings.specs.Texts.{IsRefusal}
+use Rattle.whole_host.specs.Comings.{IsRead, TellsPlan, ComesTo}
+use Rattle.whole_host.specs.Outcomes.{IsTaken, TakesNone, Comes, status_of}
+use Rattle.whole_host.specs.Promises.{Ends, EndsUnder, PrintsDone, PrintsReport, Replays}
+use Rattle.whole_host.proofs.Taken.{Laws, ends_as, is_taken, tells_alter}
+
+-- THE HEADLINE
+
+none_taken : (Shows : Printed → Type 0) (printed : Option Printed) (turns : List Turn) (journal : List Entry) → TakesNone Shows printed turns journal → (length journal == 0) ≡ false → ⊥
+none_taken Shows printed turns journal none some = let empty : length journal ≡ 0 = ap length none.untaken.no_journal in grind (arith, nat_tests, empty, some)
+
+abbrev replays_of : (source : Taking) (printed : Option Printed) (turns : List Turn) (journal : List Entry) (was : IsRead plans.Replay source printed turns journal) (plan : PlanData) → read was.bytes ≡ Ok plan → IsTaken plan printed turns journal → Replays source turns journal
+replays_of source printed turns journal was plan said taken = record {
+  bytes = was.bytes;
+  whole = was.whole;
+  plan = plan;
+  accepted = said;
+  replay = taken.replay;
+  turns_are = taken.turns_are;
+}
+
+replays_said : (told : PlanCommand) (source : Taking) (printed : Option Printed) (turns : List Turn) (journal : List Entry) (was : IsRead told source printed turns journal) (said : Result PlanData PlanRefusal) → read was.bytes ≡ said → Comes told said printed turns journal → (length journal == 0) ≡ false → Replays source turns journal
+replays_said plans.Replay source printed turns journal was (Ok plan) is comes some = replays_of source printed turns journal was plan is comes
+replays_said plans.Replay source printed turns journal was (Err refusal) is comes some = absurd (none_taken _ printed turns journal comes some)
+replays_said plans.Check source printed turns journal was (Ok plan) is comes some = absurd (none_taken _ printed turns journal comes some)
+replays_said plans.Check source printed turns journal was (Err refusal) is comes some = absurd (none_taken _ printed turns journal comes some)
+
+replays_told : (told : PlanCommand) (source : Taking) (printed : Option Printed) (turns : List Turn) (journal : List Entry) → TellsPlan told source printed turns journal → (length journal == 0) ≡ false → Replays source turns journal
+replays_told told source printed turns journal (inl was) some = replays_said told source printed turns journal was (read was.bytes) refl was.comes some
+replays_told told source printed turns journal (inr fault) some = absurd (none_taken _ printed turns journal fault some)
+
+-- *Where turns were taken, they are a plan's whole replay*
+pub replays_where_taken : (told : Option Command) (source : Taking) (printed : Option Printed) (turns : List Turn) (journal : List Entry) → ComesTo told source printed turns journal → (length journal == 0) ≡ false → Replays source turns journal
+replays_where_taken None source printed turns journal comes some = absurd (none_taken _ printed turns journal comes some)
+replays_where_taken (Some Check) source printed turns journal comes some = replays_told plans.Check source printed turns journal comes some
+replays_where_taken (Some Replay) source printed turns journal comes some = replays_told plans.Replay source printed turns journal comes some
+replays_where_taken (Some (Run workers)) source printed turns journal comes some = absurd (none_taken _ printed turns journal comes some)
+replays_where_taken (Some (Generate number)) source printed turns journal comes some = absurd (none_taken _ printed turns journal comes some)
+
+-- WHAT IS PRINTED WHOLE
+
+module _ (words : List (List ℕ)) (source : Taking) (sink : Giving) (turns : List Turn) (journal : List Entry) where
+  abbrev Under : Status → Type 0
+  Under status = EndsUnder status words source sink turns journal
+
+  abbrev Gave : Printed → Type 0
+  Gave printed = Appends sink.before sink.after printed.text
+
+  text_given : (printed : Printed) (text : List ℕ) → printed.text ≡ text → Gave printed → Appends sink.before sink.after text
+  text_given printed text is given = subst (λ (bytes : List ℕ). Appends sink.before sink.after bytes) is given
+
+  reads_by : (told : PlanCommand) → command words ≡ Some (asked told) → reads_plan (command words) ≡ true
+  reads_by plans.Check is = rw is refl
+  reads_by plans.Replay is = rw is refl
+
+  usage_under : (printed : Printed) → is_built (command words) ≡ false → Gave printed → TakesNone (IsUsage source) (Some printed) turns journal → Under printed.status
+  usage_under printed faulty given comes =
+      subst Under (sym comes.shows.status_is) (record { faulty = faulty; untaken = comes.untaken; takes_none = comes.shows.takes_none; given = text_given printed _ comes.shows.text_is given })
+
+  -- what stands under status 0 of this command
+  done_under : (told : Option Command) (printed : Printed) → command words ≡ told → printed.status ≡ statuses.Done → PrintsDone told source sink turns journal → Under printed.status
+  done_under told printed is status prints = subst Under (sym status) (subst (λ (one : Option Command). PrintsDone one source sink turns journal) (sym is) prints)
+
+  workload_under : (number : ℕ) (printed : Printed) → command words ≡ Some (Generate number) → Gave printed → TakesNone (IsWorkload number source) (Some printed) turns journal → Under printed.status
+  workload_under number printed is given comes =
+      done_under (Some (Generate number)) printed is comes.shows.status_is (record { untaken = comes.untaken; takes_none = comes.shows.takes_none; given = text_given printed _ comes.shows.text_is given })
+
+  fault_under : (told : PlanCommand) (printed : Printed) → command words ≡ Some (asked told) → Gave printed → TakesNone (IsReadFault source) (Some printed) turns journal → Under printed.status
+  fault_under told printed is given comes =
+      subst Under (sym comes.shows.status_is) (record { reads = reads_by told is; untaken = comes.untaken; rose = comes.shows.rose; given = text_given printed _ comes.shows.text_is given })
+
+  refusal_under : (told : PlanCommand) (printed : Printed) (was : IsRead told source (Some printed) turns journal) (refusal : PlanRefusal) → command words ≡ Some (asked told) → read was.bytes ≡ Err refusal → Gave printed → TakesNone (IsRefusal refusal) (Some printed) turns journal → Under printed.status
+  refusal_under told printed was refusal is said given comes =
+      subst Under (sym comes.shows.status_is) (record {
+        reads = reads_by told is;
+        bytes = was.bytes;
+        whole = was.whole;
+        refusal = refusal;
+        refused = said;
+        given = text_given printed _ comes.shows.text_is given;
+        untaken = comes.untaken;
+      })
+
+  schema_under : (printed : Printed) (was : IsRead plans.Check source (Some printed) turns journal) (plan : PlanData) → command words ≡ Some Check → read was.bytes ≡ Ok plan → Gave printed → TakesNone (IsSchema plan) (Some printed) turns journal → Under printed.status
+  schema_under printed was plan is said given comes =
+      done_under (Some Check) printed is comes.shows.status_is (record {
+        bytes = was.bytes;
+        whole = was.whole;
+        plan = plan;
+        accepted = said;
+        text = printed.text;
+        schema = comes.shows.shows;
+        given = given;
+        untaken = comes.untaken;
+      })
+
+  module _ (laws : Laws) (printed : Printed) (was : IsRead plans.Replay source (Some printed) turns journal) (plan : PlanData) (is : command words ≡ Some Replay) (said : read was.bytes ≡ Ok plan) (given : Gave printed) (taken : IsTaken plan (Some printed) turns journal) where
+    report_given : (verdict : Verdict) → verdict_of plan journal ≡ verdict → PrintsReport verdict source sink turns journal
+    report_given verdict same =
+        let tells = tells_alter laws plan journal taken.was_read taken.replay.replay.faithful taken.replay.replay.follows in
+        record {
+          replays = replays_of source (Some printed) turns journal was plan said taken;
+          taken = is_taken plan journal (laws.allow was.bytes plan said).turns taken.reports.over;
+          over = ends_as plan journal verdict tells taken.reports.over taken.replay.bound same;
+          verdict_is = same;
+          tells = tells;
+          given = text_given printed _ (taken.reports.text_is ∙ ap (λ (v : Verdict). report plan journal v (state_at plan journal).tables) same) given;
+        }
+
+    verdict_under : (verdict : Verdict) → verdict_of plan journal ≡ verdict → printed.status ≡ status_of verdict → Under printed.status
+    unfolding report_given
+    verdict_under verdicts.Done same status = done_under (Some Replay) printed is status (report_given verdicts.Done same)
+    verdict_under verdicts.Unfinished same status = subst Under (sym status) (record { command_is = is; prints = report_given verdicts.Unfinished same })
+    verdict_under (verdicts.Reverted cause) same status =
+        subst Under (sym status) (record {
+          command_is = is;
+          cause = cause;
+          prints = report_given (verdicts.Reverted cause) same;
+          stands = taken.replay.causes cause same;
+        })
+
+    report_under : Under printed.status
+    report_under = verdict_under (verdict_of plan journal) refl taken.reports.status_is
+
+  said_under : Laws → (told : PlanCommand) (printed : Printed) (was : IsRead told source (Some printed) turns journal) (said : Result PlanData PlanRefusal) → command words ≡ Some (asked told) → read was.bytes ≡ said → Gave printed → Comes told said (Some printed) turns journal → Under printed.status
+  said_under laws plans.Replay printed was (Ok plan) is said given comes = report_under laws printed was plan is said given comes
+  said_under laws plans.Check printed was (Ok plan) is said given comes = schema_under printed was plan is said given comes
+  said_under laws plans.Replay printed was (Err refusal) is said given comes = refusal_under plans.Replay printed was refusal is said given comes
+  said_under laws plans.Check printed was (Err refusal) is said given comes = refusal_under plans.Check printed was refusal is said given comes
+
+  plan_under : Laws → (told : PlanCommand) (printed : Printed) → command words ≡ Some (asked told) → Gave printed → TellsPlan told source (Some printed) turns journal → Under printed.status
+  plan_under laws told printed is given (inl was) = said_under laws told printed was (read was.bytes) is refl given was.comes
+  plan_under laws told printed is given (inr fault) = fault_under told printed is given fault
+
+  whole_under : Laws → (told : Option Command) (printed : Printed) → command words ≡ told → Gave printed → ComesTo told source (Some printed) turns journal → Under printed.status
+  whole_under laws None printed is given comes = usage_under printed (rw is refl) given comes
+  whole_under laws (Some (Run workers)) printed is given comes = usage_under printed (rw is refl) given comes
+  whole_under laws (Some (Generate number)) printed is given comes = workload_under number printed is given comes
+  whole_under laws (Some Check) printed is given comes = plan_under laws plans.Check printed is given comes
+  whole_under laws (Some Replay) printed is given comes = plan_under laws plans.Replay printed is given comes
+
+  given_under : Laws → (printed : Option Printed) (status : Status) → ComesTo (command words) source printed turns journal → Gives printed sink status → Under status
+  given_under laws None status comes gives = subst Under (sym gives.status_is) (record { comes = comes; given = gives.given })
+  given_under laws (Some printed) status comes (inl all) = subst Under (sym all.status_is) (whole_under laws (command words) printed refl all.given comes)
+  given_under laws (Some printed) status comes (inr front) = subst Under (sym front.status_is) (record { printed = printed; comes = comes; given = front.given; rose = front.rose })
+
+  -- *Ends*
+  pub ends_by : Laws → (printed : Option Printed) (status : Status) → ComesTo (command words) source printed turns journal → Gives printed sink status → Ends words source sink turns journal (status_number status)
+  ends_by laws printed status comes gives = record { status = status; number_is = refl; under = given_under laws printed status comes gives }
+
+  -- FAULTY WORDS
+
+  not_done : (told : Option Command) → is_built told ≡ false → PrintsDone told source sink turns journal → ⊥
+  not_done None faulty prints = prints
+  not_done (Some Check) faulty prints = cc
+  not_done (Some Replay) faulty prints = cc
+  not_done (Some (Run workers)) faulty prints = prints
+  not_done (Some (Generate number)) faulty prints = cc
+
+  not_read : (told : Option Command) → is_built told ≡ false → reads_plan told ≡ true → ⊥
+  not_read None faulty reads = cc
+  not_read (Some Check) faulty reads = cc
+  not_read (Some Replay) faulty reads = cc
+  not_read (Some (Run workers)) faulty reads = cc
+  not_read (Some (Generate number)) faulty reads = cc
+
+  not_replay : (told : Option Command) → is_built told ≡ false → told ≡ Some Replay → ⊥
+  not_replay told faulty is = cc
+
+  faulty_status : (status : Status) → is_built (command words) ≡ false → Under status → IsUsageOrLost (status_number status)
+  faulty_status statuses.Done faulty under = absurd (not_done (command words) faulty under)
+  faulty_status statuses.Usage faulty under = inl refl
+  faulty_status statuses.Refused faulty under = absurd (not_read (command words) faulty under.reads)
+  faulty_status statuses.Reverted faulty under = absurd (not_replay (command words) faulty under.command_is)
+  faulty_status statuses.ReadFault faulty under = absurd (not_read (command words) faulty under.reads)
+  faulty_status statuses.WriteFault faulty under = inr (inl refl)
+  faulty_status statuses.NoMemory faulty under = inr (inr refl)
+  faulty_status statuses.TurnsSpent faulty under = absurd (not_replay (command words) faulty under.command_is)
+
+  -- *Faulty words get the usage*, unless the sink fails or memory runs out
+  pub faulty_words : (number : ℕ) → Ends words source sink turns journal number → is_built (command words) ≡ false → IsUsageOrLost number
+  faulty_words number ends faulty = subst IsUsageOrLost (sym ends.number_is) (faulty_status ends.status faulty ends.under)

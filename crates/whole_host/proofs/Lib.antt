@@ -1,0 +1,3 @@
+mod Endings
+mod Numbers
+mod Taken
