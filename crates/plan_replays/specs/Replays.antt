@@ -28,9 +28,9 @@ FindsAltered plan journal =
 
 -- *Whole replay*. Each answer is the plain server's; clients take the lines of their scripts in order, and sessions are lost
 -- where the plan says; each turn asks what was given; the turns go in a replay's order, and each actor's are in its session.
--- There are no more than the plan allows, none is taken of a run that is over, and no other replay has as many. What clients got and the tables that are left are
--- those of their ended transactions, one at a time, with the ALTER at one instant or not at all. Where its verdict is a
--- revert, the cause stands in the journal.
+-- There are no more than the plan allows, none is taken of a run that is over, and no other replay has as many. What clients
+-- got and the tables that are left are those of their ended transactions, one at a time, with the ALTER at one instant or not
+-- at all. Where its verdict is a revert, the cause stands in the journal.
 pub record IsWholeReplay (plan : PlanData) (journal : List Entry) : Type 0 where
   pub replay : IsReplay plan journal
   pub sessions : KeepsSessions journal
