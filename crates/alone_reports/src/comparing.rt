@@ -1,5 +1,10 @@
 //! The comparison.
 
+ghost use Rattle.std.specs.Prelude.{◌≡◌, map, IfOk};
+ghost use Rattle.accepted_laws.specs.Laws.{WasRead};
+ghost use Rattle.alone_model.specs.Histories.{alone_in_order, happening_of};
+ghost use Rattle.journal_pasts.specs.Walks.{item_as};
+
 use crate::clients::push_clients;
 use crate::replies::are_the_same;
 use crate::tables::push_tables;
@@ -8,7 +13,7 @@ use accepted_laws::read_accepted_plan;
 use alone_model::{InOrder, PlainTables, alone, plain_tables, run_in_order, tables_left};
 use gho_values::{Sequence, Text};
 use journal_pasts::{PastItem, Reached, Walked, happenings_of, walk};
-use plain_server::{Journal, Replies, Reply};
+use plain_server::{Journal, Replies};
 use plan_document::PlanFault;
 use plan_laws::laws::read_plans_are_accepted;
 use plan_words::Plan;
@@ -47,10 +52,10 @@ fn got_these(items: &[PastItem], replies: &[Replies]) -> bool {
 /// Whether the clients got these replies in their open transactions, a list a client.
 fn go_on_with_these(clients: &[Reached<'_>], replies: &[Replies]) -> bool {
     clients.len() == replies.len()
-        && clients
-            .iter()
-            .zip(replies)
-            .all(|(client, own)| are_the_same(client.replies(), own.as_slice()))
+        && clients.iter().zip(replies).all(|(client, own)| are_the_same(
+            client.replies(),
+            own.as_slice(),
+        ))
 }
 
 /// What the report says of clients and tables, where the history gave this.
@@ -98,17 +103,25 @@ fn is_given(
     )
 }
 
-/// The same for a plan that was read, with its journal.
-fn is_so(
-    alloc: Global,
-    plan: &Plan,
-    journal: &Journal,
-    report: &str,
-) -> Result<bool, AllocError> {
-    let walked = walk(alloc, plan, journal.as_slice())?;
-    let happenings = happenings_of(alloc, walked.items.as_slice())?;
+/// What happened gives alone, from the plan's opening tables on; none where the ALTER can't be done.
+#[tactic(auto, using(crate::proofs::Read::read_lawful, crate::proofs::Read::read_clauses))]
+fn run_alone(alloc: Global, plan: &Plan, items: &[PastItem]) -> Result<Option<InOrder>, AllocError>
+    requires { WasRead plan.now }
+    ensures { IfOk result (λ ran. ran ≡ alone_in_order plan.now plan.now.tables (map happening_of (map item_as items.now))) }
+{
+    read_plans_are_accepted();
+    read_plans_are_worded();
+    let happenings = happenings_of(alloc, items)?;
     let opening = plain_tables(alloc, plan.tables())?;
-    match run_in_order(alloc, plan, opening, happenings.as_slice())? {
+    run_in_order(alloc, plan, opening, happenings.as_slice())
+}
+
+/// The same for a plan that was read, with its journal.
+fn is_so(alloc: Global, plan: &Plan, journal: &Journal, report: &str) -> Result<bool, AllocError>
+    requires { WasRead plan.now }
+{
+    let walked = walk(alloc, plan, journal.as_slice())?;
+    match run_alone(alloc, plan, walked.items.as_slice())? {
         Some(ran) => is_given(alloc, plan, &walked, &ran, report),
         None => Ok(false),
     }

@@ -6,11 +6,7 @@ use gho_values::{Row, Text, print_row};
 use std::alloc::AllocError;
 
 /// Adds a line of a word and a number.
-pub(crate) fn push_number_line(
-    text: &mut Text,
-    word: &str,
-    number: u64,
-) -> Result<(), AllocError> {
+pub(crate) fn push_number_line(text: &mut Text, word: &str, number: u64) -> Result<(), AllocError> {
     text.push_str(word)?;
     text.push_number(i128::from(number))?;
     text.push_str("\n")

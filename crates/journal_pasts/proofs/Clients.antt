@@ -1,6 +1,7 @@
 -- All clients behind a turn of one of them, or of none.
-use Rattle.std.proofs.Common.{◌≡◌, ℕ, zero, suc, ◌-◌, ◌<◌, ◌==◌, Bool, true, false, List, [], ◌∷◌, ◌++◌, map, length, Option, Some, None, option_map, refl, sym, ap, ◌∙◌, subst, arith}
+use Rattle.std.proofs.Common.{◌≡◌, ℕ, zero, suc, ◌-◌, ◌<◌, ◌==◌, Bool, true, false, List, [], ◌∷◌, ◌++◌, map, length, get_or, Option, Some, None, option_map, refl, sym, ap, ◌∙◌, subst, arith}
 use Rattle.std.proofs.lemmas.Bool.Decides.{nat_tests}
+use Rattle.std.proofs.lemmas.Option.{slice_get_past, slice_get_read}
 use Rattle.std.specs.List.{slice_get, slice_set}
 use Rattle.script_text.specs.declared.actor.Actor.TheVariants.{Client}
 use Rattle.script_text.specs.declared.script.ScriptLine.{ScriptLine}
@@ -147,3 +148,16 @@ found_turn plan before entry clients client old new is some within found made ar
         set_beside clients client number new (number == 0) refl some differ
         ∙ are number
         ∙ other_stays plan before entry number (apart entry client number is differ)
+
+-- ---- the client of a number
+
+-- there is none of the number 0, and none behind the last
+pub none_at_zero : (clients : List Reached) (client : ℕ) → client ≡ 0 → client_in client clients ≡ None
+none_at_zero clients client is = rw is refl
+
+pub none_behind : (clients : List Reached) (client : ℕ) (b : Bool) → (client == 0) ≡ b → length clients < client → client_in client clients ≡ None
+none_behind clients client true none behind = rw none refl
+none_behind clients client false some behind = rw some (slice_get_past clients (client - 1) (omega (arith, behind)))
+
+pub one_within : (clients : List Reached) (client : ℕ) (old : Reached) → (client == 0) ≡ false → client - 1 < length clients → old ≡ get_or clients (client - 1) old → client_in client clients ≡ Some old
+one_within clients client old some within at = rw some (slice_get_read clients (length clients) (client - 1) old refl within at)

@@ -1,5 +1,5 @@
 -- The history behind one turn more.
-use Rattle.std.proofs.Common.{◌≡◌, List, [], ◌∷◌, ◌++◌, map, sym, ap₂, ◌∙◌}
+use Rattle.std.proofs.Common.{◌≡◌, List, [], ◌∷◌, ◌++◌, map, refl, sym, ap₂, ◌∙◌}
 use Rattle.std.proofs.lemmas.List.{map-append}
 use Rattle.plain_server.specs.declared.entry.Entry.{Entry}
 use Rattle.plain_server.specs.Along.{gathered-more}
@@ -19,3 +19,8 @@ items_more plan before entry items added so_far more =
     map-append item_as items added
     ∙ ap₂ (λ (front back : List HistoryItem). front ++ back) so_far more
     ∙ sym (history_more plan before entry)
+
+-- no turn, no history
+pub history_begins : (plan : PlanData) → [] ≡ history plan []
+unfolding history
+history_begins plan = refl

@@ -1,6 +1,6 @@
 //! How far a client is in its script, with the lines of its open transaction and the replies to them.
 
-ghost use Rattle.std.specs.Prelude.{◌≡◌, [], ◌∷◌, IfOk, OnOk};
+ghost use Rattle.std.specs.Prelude.{◌≡◌, [], ◌∷◌, false, IfOk, OnOk};
 ghost use Rattle.script_text.specs.declared.script.ScriptLine.{ScriptLine};
 ghost use Rattle.journal_words.specs.Clients.{Broken, behind_transaction, client_after, closes, is_inside, left_behind, marked, new_client, number_of, with_line, with_reply};
 ghost use Rattle.journal_words.specs.Clients as clients;

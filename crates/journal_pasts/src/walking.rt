@@ -123,8 +123,10 @@ fn client_turn(
     if place == 0 || place > clients.len() {
         return Ok(None);
     }
-    let past = clients[place - 1].turn(alloc, client, entry)?;
-    Ok(past.map(PastItem::Txn))
+    match clients[place - 1].turn(alloc, client, entry)? {
+        Some(past) => Ok(Some(PastItem::Txn(past))),
+        None => Ok(None),
+    }
 }
 
 /// What a turn adds.
