@@ -16,7 +16,7 @@ use crate::orders::run_orders;
 use std::io;
 
 /// How many orders each plan is run in.
-const ORDERS: u64 = 20;
+const ORDERS: u64 = 200;
 
 /// The plan whose sessions are lost.
 const LOSSES: &str = "single_losses.toml";

@@ -3,10 +3,10 @@
 use crate::cases::Case;
 use crate::model::is_modelled;
 use gho_edges::{BytesSink, BytesSource, OpenGate};
-use whole_host::{Ended, Line, ghost_};
 use std::alloc::{AllocError, Global};
 use std::sync::Wait;
 use std::thread::Threads;
+use whole_host::{Ended, Line, ghost_};
 
 /// How a call of the program ended, and what it printed.
 #[derive(Drop)]
