@@ -1,5 +1,6 @@
 -- All clients behind a turn of one of them, or of none.
-use Rattle.std.proofs.Common.{◌≡◌, ℕ, zero, suc, ◌-◌, ◌<◌, ◌==◌, Bool, true, false, List, [], ◌∷◌, ◌++◌, map, length, get_or, Option, Some, None, option_map, refl, sym, ap, ◌∙◌, subst, arith}
+use Rattle.std.proofs.Common.{◌≡◌, ℕ, zero, suc, ◌-◌, ◌<◌, ◌==◌, Bool, true, false, List, [], ◌∷◌, ◌++◌, map, length, get_or, Option, Some, None, option_map, refl, sym, ap, ◌∙◌, subst, arith, ◌⊎◌, inl, inr}
+use Rattle.std.proofs.lemmas.Bool.{ne_eqb}
 use Rattle.std.proofs.lemmas.Bool.Decides.{nat_tests}
 use Rattle.std.proofs.lemmas.Option.{slice_get_past, slice_get_read}
 use Rattle.std.specs.List.{slice_get, slice_set}
@@ -151,13 +152,30 @@ found_turn plan before entry clients client old new is some within found made ar
 
 -- ---- the client of a number
 
+not_zero : (client : ℕ) → 0 < client → (client == 0) ≡ false
+not_zero client some = ne_eqb client 0 (λ e. omega (arith, e, some))
+
+none_behind : (clients : List Reached) (client : ℕ) → length clients < client → client_in client clients ≡ None
+none_behind clients client behind = rw (not_zero client (omega (arith, behind))) (slice_get_past clients (client - 1) (omega (arith, behind)))
+
 -- there is none of the number 0, and none behind the last
-pub none_at_zero : (clients : List Reached) (client : ℕ) → client ≡ 0 → client_in client clients ≡ None
-none_at_zero clients client is = rw is refl
+pub none_there : (clients : List Reached) (client : ℕ) → (client ≡ 0) ⊎ (length clients < client) → client_in client clients ≡ None
+none_there clients client (inl zero_is) = rw zero_is refl
+none_there clients client (inr behind) = none_behind clients client behind
 
-pub none_behind : (clients : List Reached) (client : ℕ) (b : Bool) → (client == 0) ≡ b → length clients < client → client_in client clients ≡ None
-none_behind clients client true none behind = rw none refl
-none_behind clients client false some behind = rw some (slice_get_past clients (client - 1) (omega (arith, behind)))
+one_there : (clients : List Reached) (client : ℕ) (old : Reached) → 0 < client → client - 1 < length clients → old ≡ get_or clients (client - 1) old → client_in client clients ≡ Some old
+one_there clients client old some within at = rw (not_zero client some) (slice_get_read clients (length clients) (client - 1) old refl within at)
 
-pub one_within : (clients : List Reached) (client : ℕ) (old : Reached) → (client == 0) ≡ false → client - 1 < length clients → old ≡ get_or clients (client - 1) old → client_in client clients ≡ Some old
-one_within clients client old some within at = rw some (slice_get_read clients (length clients) (client - 1) old refl within at)
+-- what a turn of the client at this place adds
+pub place_adds : (plan : PlanData) (before : List Entry) (entry : Entry) (clients : List Reached) (client : ℕ) (old : Reached) → entry.actor ≡ Client client → 0 < client → client - 1 < length clients → old ≡ get_or clients (client - 1) old
+    → AreReached plan before clients → client_ends client old (became old entry) ≡ entry_adds plan before entry
+place_adds plan before entry clients client old is some within at are = adds_so plan before entry clients client old is are (one_there clients client old some within at)
+
+-- it moves that client alone
+pub place_turn : (plan : PlanData) (before : List Entry) (entry : Entry) (clients : List Reached) (client : ℕ) (old new : Reached) → entry.actor ≡ Client client → 0 < client → client - 1 < length clients → old ≡ get_or clients (client - 1) old
+    → new ≡ kept (client_after (became old entry) old) → AreReached plan before clients → AreReached plan (before ++ entry ∷ []) (slice_set clients (client - 1) new)
+place_turn plan before entry clients client old new is some within at made are = found_turn plan before entry clients client old new is (not_zero client some) within (one_there clients client old some within at) made are
+
+-- the clients before the first turn
+pub begin_so : (plan : PlanData) (scripts : List (List ScriptLine)) (clients : List Reached) → clients ≡ map new_client scripts → scripts ≡ plan.clients → AreReached plan [] clients
+begin_so plan scripts clients are these = subst (AreReached plan []) (sym (are ∙ ap (map new_client) these)) (all_begin plan)

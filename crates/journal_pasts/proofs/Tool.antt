@@ -8,7 +8,7 @@ use Rattle.plain_server.specs.declared.request.Request.{Request}
 use Rattle.plain_server.specs.declared.answer.Answer.{Answer}
 use Rattle.plain_server.specs.declared.answer.Answer.TheVariants as answers
 use Rattle.plain_server.specs.declared.entry.Entry.{Entry}
-use Rattle.plain_server.specs.Entries.{is_client}
+use Rattle.plain_server.specs.Entries.{is_client, same_actor}
 use Rattle.plan_words.specs.PlanData.{PlanData}
 use Rattle.journal_words.specs.Histories.{HistoryItem, about, adds, alters, entry_adds, is_alter, renames_away, request_waiting, told_in}
 use Rattle.journal_words.specs.Histories as histories
@@ -34,6 +34,25 @@ seat_found table before Apply tool = refl
 seat_found table before Lock tool = refl
 seat_found table before Ren tool = refl
 seat_found table before (Client number) tool = absurd (true≢false tool)
+
+some_is : {A : Type 0} (a b : A) → Some a ≡ Some b → a ≡ b
+some_is a b is = cc
+
+-- whether the actor waits with the RENAME, by its seat
+pub waits_with : (table : List ℕ) (before : List Entry) (actor : Actor) (seats : List ActorSeat) (seat : ActorSeat) → seats ≡ tool_seats table before → is_client actor ≡ false → slice_get seats (place_of actor) ≡ Some seat
+    → seat.renames ≡ renames_away table (request_waiting before actor)
+waits_with table before actor seats seat are tool found =
+    ap (λ (s : ActorSeat). s.renames) (some_is seat (seat_at table before actor) (sym found ∙ ap (λ (all : List ActorSeat). slice_get all (place_of actor)) are ∙ seat_found table before actor tool))
+
+-- a turn of the tool's is none of a client's
+pub no_client : (actor : Actor) → ((number : ℕ) → actor ≡ Client number → ⊥) → (number : ℕ) → same_actor actor (Client number) ≡ false
+no_client Op not number = refl
+no_client Insp not number = refl
+no_client Copy not number = refl
+no_client Apply not number = refl
+no_client Lock not number = refl
+no_client Ren not number = refl
+no_client (Client client) not number = absurd (not client refl)
 
 -- ---- the ALTER
 

@@ -129,7 +129,7 @@ impl<'a> Reached<'a> {
     /// Its open transaction, which ended so, with the client's number. It takes no memory.
     fn end(&mut self, alloc: Global, client: u32, ended: TxnEnd) -> Past
         ensures past { result ≡ record { client = client; number = self.old.begun; txn = record { lines = self.old.lines; ended = ended }; replies = self.old.replies } }
-        ensures rest { self.new ≡ record self.old { lines = []; replies = [] } }
+        ensures rest { self.new ≡ kept (record self.old { lines = []; replies = [] }) }
     {
         let lines = mem::replace(&mut self.lines, Sequence::new(alloc));
         let replies = mem::replace(&mut self.replies, Sequence::new(alloc));

@@ -85,7 +85,7 @@ fn place_of(actor: Actor) -> usize
 }
 
 /// Whether the tool's actor waits with a RENAME of the migrated table.
-#[tactic(auto, using(crate::proofs::Tool::seat_found))]
+#[tactic(auto, using(crate::proofs::Tool::waits_with))]
 fn renames(seats: &[ActorSeat], actor: Actor) -> bool
     ensures { (table : List ℕ) (before : List Entry) → seats.now ≡ walks.tool_seats table before → is_client actor ≡ false → result ≡ renames_away table (request_waiting before actor) }
 {
