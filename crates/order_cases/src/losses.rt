@@ -71,8 +71,18 @@ fn run_turn_losses<R: Print + Threads + Wait + Sync + AllocGlobal>(
             None => 0,
         };
         let alloc = rt.alloc();
-        run_loss(rt, plan, format!(in alloc; "{word} {number} before")?.as_str(), count)?;
-        run_loss(rt, plan, format!(in alloc; "{word} {number} after")?.as_str(), count)?;
+        run_loss(
+            rt,
+            plan,
+            format!(in alloc; "{word} {number} before")?.as_str(),
+            count,
+        )?;
+        run_loss(
+            rt,
+            plan,
+            format!(in alloc; "{word} {number} after")?.as_str(),
+            count,
+        )?;
     }
     Ok(())
 }

@@ -1,5 +1,7 @@
 //! Orders of turns, drawn by a rule.
 
+ghost use Rattle.std.specs.Prelude.{◌<◌};
+
 use crate::run::run;
 use std::alloc::{AllocError, Global};
 use std::io;
@@ -25,7 +27,10 @@ impl Draws {
     }
 
     /// The next number, below this bound.
-    fn next(&mut self, bound: u64) -> u64 {
+    fn next(&mut self, bound: u64) -> u64
+        requires { 0 < bound }
+        ensures { result < bound }
+    {
         self.state = self
             .state
             .wrapping_mul(6_364_136_223_846_793_005)
@@ -67,9 +72,10 @@ pub fn run_orders<R: Print + Threads + Wait + Sync + AllocGlobal>(
     let mut count = 0u64;
     for number in 1..=orders {
         let ran = run(rt, order_line(rt.alloc(), number)?.as_str(), plan)?;
-        let is_new = !earlier
-            .iter()
-            .any(|turns| are_the_same(turns.as_slice(), ran.turns.as_slice()));
+        let is_new = !earlier.iter().any(|turns| are_the_same(
+            turns.as_slice(),
+            ran.turns.as_slice(),
+        ));
         if is_new && ran.is_as_alone {
             count = count.saturating_add(1);
         } else {
