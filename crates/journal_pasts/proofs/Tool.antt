@@ -15,7 +15,7 @@ use Rattle.journal_words.specs.Histories as histories
 use Rattle.journal_words.specs.Sessions.{live_session}
 use Rattle.actor_seats.specs.declared.seat.ActorSeat.{ActorSeat}
 use Rattle.actor_seats.specs.Seats.{seat_at}
-use Rattle.journal_pasts.specs.Walks.{free_seat, place_of, tool_seats}
+use Rattle.journal_pasts.specs.Walks.{free_seat, place_of, renames_of, tool_seats}
 
 -- ---- seats
 
@@ -35,14 +35,9 @@ seat_found table before Lock tool = refl
 seat_found table before Ren tool = refl
 seat_found table before (Client number) tool = absurd (true≢false tool)
 
-some_is : {A : Type 0} (a b : A) → Some a ≡ Some b → a ≡ b
-some_is a b is = cc
-
 -- whether the actor waits with the RENAME, by its seat
-pub waits_with : (table : List ℕ) (before : List Entry) (actor : Actor) (seats : List ActorSeat) (seat : ActorSeat) → seats ≡ tool_seats table before → is_client actor ≡ false → slice_get seats (place_of actor) ≡ Some seat
-    → seat.renames ≡ renames_away table (request_waiting before actor)
-waits_with table before actor seats seat are tool found =
-    ap (λ (s : ActorSeat). s.renames) (some_is seat (seat_at table before actor) (sym found ∙ ap (λ (all : List ActorSeat). slice_get all (place_of actor)) are ∙ seat_found table before actor tool))
+pub renames_is : (table : List ℕ) (before : List Entry) (actor : Actor) (seats : List ActorSeat) → seats ≡ tool_seats table before → is_client actor ≡ false → renames_of (slice_get seats (place_of actor)) ≡ renames_away table (request_waiting before actor)
+renames_is table before actor seats are tool = ap (λ (all : List ActorSeat). renames_of (slice_get all (place_of actor))) are ∙ ap renames_of (seat_found table before actor tool)
 
 -- a turn of the tool's is none of a client's
 pub no_client : (actor : Actor) → ((number : ℕ) → actor ≡ Client number → ⊥) → (number : ℕ) → same_actor actor (Client number) ≡ false

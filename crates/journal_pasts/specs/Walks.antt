@@ -65,6 +65,10 @@ free_seat actor = record { actor = actor; session = None; turns = 0; renames = f
 abbrev pub tool_seats : List ℕ → List Entry → List ActorSeat
 tool_seats table journal = map (seat_at table journal) (Op ∷ Insp ∷ Copy ∷ Apply ∷ Lock ∷ Ren ∷ [])
 
+abbrev pub renames_of : Option ActorSeat → Bool
+renames_of None = false
+renames_of (Some seat) = seat.renames
+
 -- *Was walked*: what was found behind the turns of a journal is their history, and how far they left each client.
 pub record WasWalked (plan : PlanData) (journal : List Entry) (walked : Walked) : Type 0 where
   pub items : map item_as walked.items ≡ history plan journal

@@ -1,13 +1,14 @@
 //! The walk through a journal.
 
-ghost use Rattle.std.specs.Prelude.{◌≡◌, [], ◌∷◌, ◌++◌, ℕ, List, map, false, option_to_list, IfOk, OnOk};
+ghost use Rattle.std.specs.Prelude.{◌≡◌, [], ◌∷◌, ◌++◌, ℕ, List, map, false, option_map, option_to_list, IfOk, OnOk};
+ghost use Rattle.std.specs.List.{slice_get};
 ghost use Rattle.script_text.specs.declared.actor.Actor.TheVariants.{Client, Op, Insp, Copy, Apply, Lock, Ren};
 ghost use Rattle.plain_server.specs.declared.entry.Entry.{Entry};
 ghost use Rattle.plain_server.specs.Entries.{is_client};
 ghost use Rattle.plan_words.specs.PlanData.{PlanData};
 ghost use Rattle.journal_words.specs.Clients.{new_client};
 ghost use Rattle.journal_words.specs.Histories.{entry_adds, renames_away, request_waiting};
-ghost use Rattle.journal_pasts.specs.Walks.{AreReached, WasWalked, free_seat, item_as};
+ghost use Rattle.journal_pasts.specs.Walks.{AreReached, WasWalked, free_seat, item_as, renames_of};
 ghost use Rattle.journal_pasts.specs.Walks as walks;
 
 use crate::pasts::{PastItem, PastItems};
@@ -84,15 +85,28 @@ fn place_of(actor: Actor) -> usize
     }
 }
 
-/// Whether the tool's actor waits with a RENAME of the migrated table.
-#[tactic(auto, using(crate::proofs::Tool::waits_with))]
-fn renames(seats: &[ActorSeat], actor: Actor) -> bool
-    ensures { (table : List ℕ) (before : List Entry) → seats.now ≡ walks.tool_seats table before → is_client actor ≡ false → result ≡ renames_away table (request_waiting before actor) }
+/// The seat at the actor's place.
+fn seat_of(seats: &[ActorSeat], actor: Actor) -> Option<&ActorSeat>
+    ensures { option_map (λ seat. seat.now) result ≡ slice_get seats.now (walks.place_of actor) }
 {
-    match seats.get(place_of(actor)) {
+    seats.get(place_of(actor))
+}
+
+/// Whether that seat has a RENAME of the migrated table that waits.
+fn has_rename(seats: &[ActorSeat], actor: Actor) -> bool
+    ensures { result ≡ renames_of (slice_get seats.now (walks.place_of actor)) }
+{
+    match seat_of(seats, actor) {
         Some(seat) => seat.renames,
         None => false,
     }
+}
+
+/// Whether the tool's actor waits with a RENAME of the migrated table.
+fn renames(seats: &[ActorSeat], actor: Actor) -> bool
+    ensures { (table : List ℕ) (before : List Entry) → seats.now ≡ walks.tool_seats table before → is_client actor ≡ false → result ≡ renames_away table (request_waiting before actor) }
+{
+    has_rename(seats, actor)
 }
 
 /// What a turn of the tool's adds.

@@ -16,4 +16,4 @@ loop-entry-init c = record {
 pub loop-entry-preserved : goal.loop-entry-preserved
 loop-entry-preserved c =
     next c.args.plan.now c.args.journal.now c.loop-entry.entry-index c.entry-item.result c.loop-entry.items c.push_item.new.items c.in_ok-item.item c.loop-entry.clients.items c.turn.new.clients.items c.loop-entry.seats.items c.take_turn.new.seats.items
-    c.loop-entry-test.true c.entry-item.is c.in_ok-push_item.ensures c.in_ok-item.ensures.item c.in_ok-item.ensures.clients c.take_turn.ensures c.loop-entry.invariant
+    c.loop-entry-test.true c.entry-item.is c.in_ok-push_item.ensures (λ before are seats. c.in_ok-item.ensures.item before are (c.as_slice-in-loop-entry.ensures.value ∙ seats)) c.in_ok-item.ensures.clients c.take_turn.ensures c.loop-entry.invariant
