@@ -1,8 +1,9 @@
 //! Runs the top call over the cases of the folder `data`, and says of which the status or the text is another than the one
-//! that stands in it. The file `files` names the files of cases.
+//! that stands in it, or than the plain model's. The file `files` names the files of cases.
 #![tactic(auto)]
 
 mod cases;
+mod model;
 mod run;
 
 use crate::cases::Case;

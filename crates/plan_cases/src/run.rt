@@ -1,6 +1,7 @@
 //! The top call over a case.
 
 use crate::cases::Case;
+use crate::model::is_modelled;
 use gho_edges::{BytesSink, BytesSource, OpenGate};
 use std::alloc::{AllocError, Global};
 use std::sync::Wait;
@@ -38,7 +39,7 @@ fn printed_of<R: Threads + Wait + Sync + AllocGlobal>(
     Ok(Printed { ended, sink })
 }
 
-/// Whether a case prints what stands in it, with the status that stands there.
+/// Whether a case prints what stands in it, with the status that stands there, and what the model says.
 pub fn is_as_expected<R: Threads + Wait + Sync + AllocGlobal>(
     rt: &R,
     case: &Case<'_>,
@@ -48,6 +49,12 @@ pub fn is_as_expected<R: Threads + Wait + Sync + AllocGlobal>(
     Ok(
         case.is_whole
             && status.as_str() == case.status
-            && case.prints.as_slice() == printed.sink.held(),
+            && case.prints.as_slice() == printed.sink.held()
+            && is_modelled(
+                rt.alloc(),
+                case.plan.as_slice(),
+                &printed.ended,
+                printed.sink.held(),
+            )?,
     )
 }
