@@ -1,0 +1,38 @@
+//! What events cost, and how many rows they put. Nothing here takes memory.
+
+ghost use Rattle.std.specs.Prelude.{◌≡◌};
+ghost use Rattle.std.specs.List.{AllByRecursion};
+ghost use Rattle.event_codec.specs.Encoding.{IsEncodable};
+ghost use Rattle.txn_costs.specs.Costs.{cost_of, is_put, rows_put};
+
+use event_codec::{Change, RowEvent, cost as event_cost};
+
+/// In how many bytes the events are encoded; the greatest number where no number says how many.
+#[tactic(auto, using(crate::proofs::Sums::of_costs))]
+pub fn cost(events: &[RowEvent]) -> u64
+    requires { AllByRecursion IsEncodable events.now }
+    ensures { result ≡ cost_of events.now }
+{
+    let mut sum: u64 = 0;
+    for event in events {
+        sum = sum.saturating_add(event_cost(event));
+    }
+    sum
+}
+
+/// Whether the event puts a row.
+fn is_put(event: &RowEvent) -> bool
+    ensures { result ≡ is_put event.now }
+{
+    match event.change {
+        Change::Write(_) | Change::Update(_, _) => true,
+        Change::Delete(_) => false,
+    }
+}
+
+/// How many rows the events put, over all tables.
+pub fn puts(events: &[RowEvent]) -> usize
+    ensures { result ≡ rows_put events.now }
+{
+    events.iter().filter(|event| is_put(event)).count()
+}
