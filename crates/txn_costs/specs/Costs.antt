@@ -1,5 +1,5 @@
 -- What the events of a transaction cost in the log, and how many rows they put.
-use Rattle.std.specs.Prelude.{ℕ, ◌-◌, ◌^◌, min, Bool, true, false, List, length, count_by}
+use Rattle.std.specs.Prelude.{ℕ, ◌-◌, ◌^◌, min, Bool, true, false, List, length}
 use Rattle.std.specs.List.{sum_by}
 use Rattle.event_codec.specs.declared.event.Change.{Change}
 use Rattle.event_codec.specs.declared.event.Change.TheVariants.{Write, Update, Delete}
@@ -20,9 +20,6 @@ puts_row (Write row) = true
 puts_row (Update before after) = true
 puts_row (Delete row) = false
 
-abbrev pub is_put : RowEvent → Bool
+-- the event puts a row
+unfoldable pub is_put : RowEvent → Bool
 is_put event = puts_row event.change
-
--- how many rows the events put, over all tables
-abbrev pub rows_put : List RowEvent → ℕ
-rows_put events = count_by is_put events

@@ -1,9 +1,9 @@
 //! What events cost, and how many rows they put. Nothing here takes memory.
 
-ghost use Rattle.std.specs.Prelude.{◌≡◌};
+ghost use Rattle.std.specs.Prelude.{◌≡◌, count_by};
 ghost use Rattle.std.specs.List.{AllByRecursion};
 ghost use Rattle.event_codec.specs.Encoding.{IsEncodable};
-ghost use Rattle.txn_costs.specs.Costs.{cost_of, is_put, rows_put};
+ghost use Rattle.txn_costs.specs.Costs.{cost_of, is_put};
 
 use event_codec::{Change, RowEvent, cost as event_cost};
 
@@ -21,6 +21,7 @@ pub fn cost(events: &[RowEvent]) -> u64
 }
 
 /// Whether the event puts a row.
+#[tactic(auto, unfolding(crate::specs::Costs::is_put))]
 fn is_put(event: &RowEvent) -> bool
     ensures { result ≡ is_put event.now }
 {
@@ -32,7 +33,7 @@ fn is_put(event: &RowEvent) -> bool
 
 /// How many rows the events put, over all tables.
 pub fn puts(events: &[RowEvent]) -> usize
-    ensures { result ≡ rows_put events.now }
+    ensures { result ≡ count_by is_put events.now }
 {
     events.iter().filter(|event| is_put(event)).count()
 }

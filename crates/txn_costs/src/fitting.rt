@@ -1,6 +1,6 @@
 //! Whether an event is encoded. Nothing here takes memory.
 
-ghost use Rattle.std.specs.Prelude.{◌≡◌, ◌<◌, ◌≤◌, ◌^◌, ◌&&◌, length, true, nat_lt, IfSome, IfNone};
+ghost use Rattle.std.specs.Prelude.{◌≡◌, ◌<◌, ◌≤◌, ◌+◌, ◌^◌, ◌&&◌, length, true, nat_lt, IfSome, IfNone};
 ghost use Rattle.std.specs.List.{list_all};
 ghost use Rattle.gho_values.specs.Storing.{character_count};
 ghost use Rattle.event_codec.specs.Encoding.{body_of, columns_of, value_bytes, values_bytes, values_of, IsEncodable};
@@ -56,9 +56,7 @@ fn is_column_value(value: &Value) -> bool
     ensures { result ≡ is_column_value value.now }
 {
     match value {
-        Value::Num(number) => {
-            i128::from(i64::MIN) <= *number && *number <= i128::from(u64::MAX)
-        }
+        Value::Num(number) => { i128::from(i64::MIN) <= *number && *number <= i128::from(u64::MAX) }
         Value::Null | Value::Text(_) | Value::Blob(_) => true,
     }
 }
@@ -133,13 +131,21 @@ fn is_short(event: &RowEvent) -> bool
     }
 }
 
-/// Whether the event is encoded: the condition of its cost.
-pub fn is_encodable(event: &RowEvent) -> bool
-    ensures test { result ≡ is_encodable event.now }
-    ensures holds { result ≡ true → IsEncodable event.now }
+/// Whether the event passes each test.
+fn passes(event: &RowEvent) -> bool
+    ensures { result ≡ is_encodable event.now }
 {
     is_event_name(&event.table)
         && has_columns(&event.change)
         && holds_column_values(&event.change)
         && is_short(event)
+}
+
+/// Whether the event is encoded: the condition of its cost.
+#[tactic(auto, using(crate::proofs::Fits::test_holds))]
+pub fn is_encodable(event: &RowEvent) -> bool
+    ensures test { result ≡ is_encodable event.now }
+    ensures holds { result ≡ true → IsEncodable event.now }
+{
+    passes(event)
 }

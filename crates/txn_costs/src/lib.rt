@@ -3,8 +3,6 @@
 
 mod costs;
 mod fitting;
-mod logged;
 
 pub use costs::{cost, puts};
 pub use fitting::is_encodable;
-pub use logged::LoggedTxn;
