@@ -1,8 +1,7 @@
-//! Runs the top call over plans whose reports are known: twice each, and, but under the word `memory`, between sources that
-//! fail at each byte of the plan and sinks that fail behind each byte of the report. The file `files` names the plans with
-//! their statuses.
+//! Runs the top call over plans whose reports are known: twice each, and between sources that fail at each byte of the plan
+//! and sinks that fail behind each byte of the report. The file `files` names the plans with their statuses.
 //!
-//! Under the word `memory` it is tried with each allocation failing in turn: it prints the same then.
+//! Under a word, the name of a plan, that plan is run twice and no more: it prints the same where an allocation fails.
 #![tactic(auto)]
 
 mod edges;
@@ -47,15 +46,18 @@ fn run_edges<R: Print + Threads + Wait + Sync + AllocGlobal>(
     )
 }
 
-/// Runs the plan of a line: its name and its status.
+/// The plan of a line, which names it and its status, in the files of its name.
 fn run_line<R: Print + Threads + Wait + Sync + AllocGlobal + Files>(
     rt: &R,
     line: &str,
-    only_memory: bool,
+    only_twice: Option<&str>,
 ) -> io::Result<()> {
     let Some((name, status)) = line.split_once(' ') else {
         return println!(rt; "{line} names no status");
     };
+    if only_twice.is_some_and(|only| only != name) {
+        return Ok(());
+    }
     let plan = fs::read_to_string(rt, format!(in rt.alloc(); "{name}.toml")?.as_str())?;
     let report = fs::read_to_string(rt, format!(in rt.alloc(); "{name}.stdout")?.as_str())?;
     let known = Known {
@@ -64,19 +66,18 @@ fn run_line<R: Print + Threads + Wait + Sync + AllocGlobal + Files>(
         status,
     };
     run_twice(rt, name, &known)?;
-    if only_memory {
+    if only_twice.is_some() {
         return Ok(());
     }
     run_edges(rt, name, &known)
 }
 
 fn main(rt: HostRuntime) -> io::Result<()> {
-    let only_memory = env::args(&rt)?
-        .skip(1)
-        .any(|word| word.as_str() == "memory");
+    let mut words = env::args(&rt)?.skip(1);
+    let only_twice = words.next();
     let names = fs::read_to_string(&rt, "files")?;
     for line in names.lines() {
-        run_line(&rt, line, only_memory)?;
+        run_line(&rt, line, only_twice.as_ref().map(|name| name.as_str()))?;
     }
     Ok(())
 }

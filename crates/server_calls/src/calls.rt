@@ -1,7 +1,7 @@
 //! Calls on the final server, with semicolons between them: first the text of CREATE TABLE, which the first session asks;
 //! then `1 BEGIN`, `2 INSERT INTO t VALUES (1)` and the like, of the sessions 1 to 3; `log 0 2 t`, the first two events of
-//! the table at the position 0 or behind it, with the position behind them; `unread 0 t`, how many there are; and `rows t`,
-//! the table's committed rows. A call that may not come now is told so.
+//! the table at the position 0 or behind it, with the position behind them; `unread 0 t`, how many there are; `cost 0 t`, what they
+//! cost and how many rows they put; and `rows t`, the table's committed rows. A call that may not come now is told so.
 
 use crate::asking::{Asked, ask, create, read_log};
 use crate::opening::open;
@@ -9,8 +9,10 @@ use crate::telling::{say_asked, say_rows};
 use case_lines::{CallFault, place_of, say};
 use final_server::FinalServer;
 use gho_values::{Duplicate, Name, Names, Row, Sequence, Text};
+use plain_server::Answer;
 use serving::Serve;
 use std::alloc::{AllocError, Global};
+use txn_costs::{are_encodable, cost, puts};
 
 /// The names of a list with blanks between them.
 fn names_of(alloc: Global, text: &str) -> Result<Names, AllocError> {
@@ -68,6 +70,34 @@ fn say_unread(
     Ok(())
 }
 
+/// Says what the events at a position or behind it cost together, and how many rows they put, as `0 t` asks.
+fn say_cost(
+    alloc: Global,
+    server: &mut FinalServer,
+    input: &str,
+    told: &mut Text,
+) -> Result<(), CallFault> {
+    let (position, tables) = input.split_once(' ').ok_or(CallFault::Unread)?;
+    let tables = names_of(alloc, tables)?;
+    let Asked::Answered(Answer::Events { events, .. }) = read_log(
+        server,
+        place_of(position)?,
+        u32::MAX,
+        tables,
+    )?
+    else {
+        return Err(CallFault::Unread);
+    };
+    if !are_encodable(events.as_slice()) {
+        return Err(CallFault::Unread);
+    }
+    say(told, "")?;
+    told.push_number(i128::from(cost(events.as_slice())))?;
+    told.push_str(" bytes, puts ")?;
+    told.push_number(puts(events.as_slice()) as i128)?;
+    Ok(())
+}
+
 /// Takes one call.
 fn take(
     alloc: Global,
@@ -79,6 +109,7 @@ fn take(
     match word {
         "rows" => say_table(alloc, server, input, told)?,
         "log" => say_log(alloc, server, input, told)?,
+        "cost" => say_cost(alloc, server, input, told)?,
         "unread" => say_unread(alloc, server, input, told)?,
         _ => {
             let asked = ask(alloc, server, place_of(word)?, input)?;

@@ -48,3 +48,10 @@ test_holds event is =
       numbers = values_fit (values_of event.change) last.0;
       size = ltb-true (length (body_of event)) (2 ^ 32) last.1;
     }
+
+-- *The tests tell it of all.*
+pub tests_hold : (events : List RowEvent) → list_all is_encodable events ≡ true → AllByRecursion IsEncodable events
+tests_hold [] is = tt
+tests_hold (event ∷ events) is =
+    let parts = and_parts (is_encodable event) (list_all is_encodable events) is in
+    (test_holds event parts.0, tests_hold events parts.1)

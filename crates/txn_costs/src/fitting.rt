@@ -1,7 +1,7 @@
 //! Whether an event is encoded. Nothing here takes memory.
 
 ghost use Rattle.std.specs.Prelude.{◌≡◌, ◌<◌, ◌≤◌, ◌+◌, ◌^◌, ◌&&◌, length, true, nat_lt, IfSome, IfNone};
-ghost use Rattle.std.specs.List.{list_all};
+ghost use Rattle.std.specs.List.{list_all, AllByRecursion};
 ghost use Rattle.gho_values.specs.Storing.{character_count};
 ghost use Rattle.event_codec.specs.Encoding.{body_of, columns_of, value_bytes, values_bytes, values_of, IsEncodable};
 ghost use Rattle.txn_costs.specs.Fitting.{are_alike, has_columns, is_column_value, is_encodable, is_event_name};
@@ -148,4 +148,19 @@ pub fn is_encodable(event: &RowEvent) -> bool
     ensures holds { result ≡ true → IsEncodable event.now }
 {
     passes(event)
+}
+
+fn pass(events: &[RowEvent]) -> bool
+    ensures { result ≡ list_all is_encodable events.now }
+{
+    events.iter().all(passes)
+}
+
+/// Whether all of the events are encoded: the condition of their cost.
+#[tactic(auto, using(crate::proofs::Fits::tests_hold))]
+pub fn are_encodable(events: &[RowEvent]) -> bool
+    ensures test { result ≡ list_all is_encodable events.now }
+    ensures holds { result ≡ true → AllByRecursion IsEncodable events.now }
+{
+    pass(events)
 }

@@ -5,4 +5,4 @@ mod costs;
 mod fitting;
 
 pub use costs::{cost, puts};
-pub use fitting::is_encodable;
+pub use fitting::{are_encodable, is_encodable};
