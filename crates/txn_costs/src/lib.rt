@@ -3,6 +3,8 @@
 
 mod costs;
 mod fitting;
+mod logged;
 
 pub use costs::{cost, puts};
 pub use fitting::{are_encodable, is_encodable};
+pub use logged::LoggedTxn;
