@@ -10,7 +10,7 @@ use final_server::FinalServer;
 use gho_schema::Schema;
 use gho_values::{Name, Names};
 use plain_server::{Answer, Request};
-use schema_laws::laws::read_schemas_are_lawful;
+use schema_laws::read_schemas_are_lawful;
 use schema_text::read_schema;
 use script_reader::{ScriptFault, read_script};
 use script_text::{ScriptWord, Statement};

@@ -35,5 +35,11 @@ fn is_put(event: &RowEvent) -> bool
 pub fn puts(events: &[RowEvent]) -> usize
     ensures { result ≡ count_by is_put events.now }
 {
-    events.iter().filter(|event| is_put(event)).count()
+    let mut count = 0;
+    for event in events {
+        if is_put(event) {
+            count += 1;
+        }
+    }
+    count
 }
