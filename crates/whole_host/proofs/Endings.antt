@@ -126,6 +126,7 @@ module _ (words : List (List ℕ)) (source : Taking) (sink : Giving) (turns : Li
   plan_under laws told printed is given (inr fault) = fault_under told printed is given fault
 
   whole_under : Laws → (told : Option Command) (printed : Printed) → command words ≡ told → Gave printed → ComesTo told source (Some printed) turns journal → Under printed.status
+  unfolding ComesTo
   whole_under laws None printed is given comes = usage_under printed (ap is_built is) given comes
   whole_under laws (Some (Run workers)) printed is given comes = usage_under printed (ap is_built is) given comes
   whole_under laws (Some (Generate number)) printed is given comes = workload_under number printed is given comes

@@ -57,6 +57,7 @@ replays_told laws told source printed turns journal (inr fault) some = absurd (n
 
 -- *Where turns were taken, they are a plan's whole replay*
 replays_where_taken : Laws → (told : Option Command) (source : Taking) (printed : Option Printed) (turns : List Turn) (journal : List Entry) → ComesTo told source printed turns journal → (length journal == 0) ≡ false → Replays source turns journal
+unfolding ComesTo
 replays_where_taken laws None source printed turns journal comes some = absurd (none_taken _ printed turns journal comes some)
 replays_where_taken laws (Some Check) source printed turns journal comes some = replays_told laws plans.Check source printed turns journal comes some
 replays_where_taken laws (Some Replay) source printed turns journal comes some = replays_told laws plans.Replay source printed turns journal comes some

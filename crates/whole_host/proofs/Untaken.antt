@@ -31,11 +31,21 @@ nothing_told told source = inr (nothing_shown (IsReadFault source))
 
 -- nothing is printed, whatever the command is
 pub nothing_comes : (told : Option Command) (source : Taking) → ComesTo told source None [] []
+unfolding ComesTo
 nothing_comes None source = nothing_shown (IsUsage source)
 nothing_comes (Some Check) source = nothing_told plans.Check source
 nothing_comes (Some Replay) source = nothing_told plans.Replay source
 nothing_comes (Some (Run workers)) source = nothing_shown (IsUsage source)
 nothing_comes (Some (Generate number)) source = nothing_shown (IsWorkload number source)
+
+-- what comes under the commands that read a plan
+pub check_comes : (source : Taking) (printed : Option Printed) (turns : List Turn) (journal : List Entry) → TellsPlan plans.Check source printed turns journal → ComesTo (Some Check) source printed turns journal
+unfolding ComesTo
+check_comes source printed turns journal tells = tells
+
+pub replay_comes : (source : Taking) (printed : Option Printed) (turns : List Turn) (journal : List Entry) → TellsPlan plans.Replay source printed turns journal → ComesTo (Some Replay) source printed turns journal
+unfolding ComesTo
+replay_comes source printed turns journal tells = tells
 
 -- the source failed
 pub fault_told : (told : PlanCommand) (source : Taking) (printed : Option Printed) → IfSome printed (λ one. one ≡ record { status = statuses.ReadFault; text = read_fault_text }) → Rose source.faults_before source.faults_after → TellsPlan told source printed [] []
@@ -50,12 +60,25 @@ takes_nothing : (left : Option (List ℕ)) → Consumes left left []
 takes_nothing None = tt
 takes_nothing (Some bytes) = refl
 
--- the usage
-pub usage_comes : (left : Option (List ℕ)) (faults : ℕ) (printed : Option Printed) → IfSome printed (λ one. one ≡ record { status = statuses.Usage; text = usage_text }) → TakesNone (IsUsage (record { before = left; after = left; faults_before = faults; faults_after = faults })) printed [] []
-usage_comes left faults None is = nothing_shown _
-usage_comes left faults (Some printed) is = record { untaken = no_turn; shows = record { status_is = ap (λ (one : Printed). one.status) is; text_is = ap (λ (one : Printed). one.text) is; takes_none = takes_nothing left } }
+abbrev Unmoved : Option (List ℕ) → ℕ → Taking
+Unmoved left faults = record { before = left; after = left; faults_before = faults; faults_after = faults }
+
+usage_shown : (left : Option (List ℕ)) (faults : ℕ) (printed : Option Printed) → IfSome printed (λ one. one ≡ record { status = statuses.Usage; text = usage_text }) → TakesNone (IsUsage (Unmoved left faults)) printed [] []
+usage_shown left faults None is = nothing_shown _
+usage_shown left faults (Some printed) is = record { untaken = no_turn; shows = record { status_is = ap (λ (one : Printed). one.status) is; text_is = ap (λ (one : Printed). one.text) is; takes_none = takes_nothing left } }
+
+-- the usage, where the words are no command
+pub faulty_comes : (left : Option (List ℕ)) (faults : ℕ) (printed : Option Printed) → IfSome printed (λ one. one ≡ record { status = statuses.Usage; text = usage_text }) → ComesTo None (Unmoved left faults) printed [] []
+unfolding ComesTo
+faulty_comes left faults printed is = usage_shown left faults printed is
+
+-- and where they are the command that isn't built
+pub run_comes : (workers : ℕ) (left : Option (List ℕ)) (faults : ℕ) (printed : Option Printed) → IfSome printed (λ one. one ≡ record { status = statuses.Usage; text = usage_text }) → ComesTo (Some (Run workers)) (Unmoved left faults) printed [] []
+unfolding ComesTo
+run_comes workers left faults printed is = usage_shown left faults printed is
 
 -- the plan of a number
-pub workload_comes : (number : ℕ) (left : Option (List ℕ)) (faults : ℕ) (printed : Option Printed) → IfSome printed (λ one. one ≡ record { status = statuses.Done; text = workload number }) → TakesNone (IsWorkload number (record { before = left; after = left; faults_before = faults; faults_after = faults })) printed [] []
+pub workload_comes : (number : ℕ) (left : Option (List ℕ)) (faults : ℕ) (printed : Option Printed) → IfSome printed (λ one. one ≡ record { status = statuses.Done; text = workload number }) → ComesTo (Some (Generate number)) (Unmoved left faults) printed [] []
+unfolding ComesTo
 workload_comes number left faults None is = nothing_shown _
 workload_comes number left faults (Some printed) is = record { untaken = no_turn; shows = record { status_is = ap (λ (one : Printed). one.status) is; text_is = ap (λ (one : Printed). one.text) is; takes_none = takes_nothing left } }

@@ -27,7 +27,7 @@ abbrev pub TellsPlan : PlanCommand → Taking → Option Printed → List Turn �
 TellsPlan told source printed turns journal = IsRead told source printed turns journal ⊎ TakesNone (IsReadFault source) printed turns journal
 
 -- *Comes to*: what the words and the source come to. (`run` isn't built yet.)
-abbrev pub ComesTo : Option Command → Taking → Option Printed → List Turn → List Entry → Type 0
+unfoldable pub ComesTo : Option Command → Taking → Option Printed → List Turn → List Entry → Type 0
 ComesTo None source = TakesNone (IsUsage source)
 ComesTo (Some Check) source = TellsPlan plans.Check source
 ComesTo (Some Replay) source = TellsPlan plans.Replay source

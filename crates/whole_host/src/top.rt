@@ -51,7 +51,7 @@ fn come_to_plan<S: Source>(alloc: Global, told: PlanCommand, source: &mut S) -> 
 }
 
 /// What the words and the source come to, where the words are this command or none.
-#[tactic(auto, using(crate::proofs::Untaken::usage_comes, crate::proofs::Untaken::workload_comes))]
+#[tactic(auto, using(crate::proofs::Untaken::check_comes, crate::proofs::Untaken::replay_comes, crate::proofs::Untaken::faulty_comes, crate::proofs::Untaken::run_comes, crate::proofs::Untaken::workload_comes))]
 fn come_under<S: Source>(alloc: Global, told: Option<Command>, source: &mut S) -> Outcome
     ensures comes { ComesTo told (took S.left S.faults source.old source.new) result.printed result.turns result.journal }
     ensures never_falls { S.faults source.old ≤ S.faults source.new }
@@ -60,7 +60,8 @@ fn come_under<S: Source>(alloc: Global, told: Option<Command>, source: &mut S) -
         Some(Command::Check) => come_to_plan(alloc, PlanCommand::Check, source),
         Some(Command::Replay) => come_to_plan(alloc, PlanCommand::Replay, source),
         Some(Command::Generate(number)) => untaken(alloc, workload_shown(alloc, number)),
-        Some(Command::Run(_)) | None => untaken(alloc, usage_shown(alloc)),
+        Some(Command::Run(_)) => untaken(alloc, usage_shown(alloc)),
+        None => untaken(alloc, usage_shown(alloc)),
     }
 }
 
