@@ -1,7 +1,7 @@
 -- How a call ends, from what its words and its source come to and what was given of it.
 use Rattle.std.proofs.Common.{◌≡◌, ℕ, ◌==◌, ◌≤◌, true, false, List, [], ◌∷◌, length, Option, Some, None, Result, Ok, Err, ◌⊎◌, inl, inr, refl, sym, ap, ◌∙◌, subst, arith}
 use Rattle.std.specs.Io.KnownBytes.{Appends}
-use Rattle.std.proofs.lemmas.Bool.Decides.{nat_tests}
+use Rattle.std.proofs.lemmas.Bool.{true≢false, false≢true}
 use Rattle.plain_server.specs.declared.entry.Entry.{Entry}
 use Rattle.plain_server.specs.declared.outcome.Verdict.{Verdict}
 use Rattle.plain_server.specs.declared.outcome.Verdict.TheVariants as verdicts
@@ -23,44 +23,12 @@ use Rattle.call_endings.specs.declared.turn.Turn.{Turn}
 use Rattle.call_endings.specs.Endings.{Taking, Giving, IsReadFault, IsUsage, IsWorkload, Gives, asked, is_built, reads_plan, status_number, IsUsageOrLost}
 use Rattle.call_endings.specs.Checks.{IsSchema}
 use Rattle.call_endings.specs.Texts.{IsRefusal}
-use Rattle.whole_host.specs.Comings.{IsRead, TellsPlan, ComesTo}
+use Rattle.whole_host.specs.Comings.{IsRead, TellsPlan, ComesTo, Does}
 use Rattle.whole_host.specs.Outcomes.{IsTaken, TakesNone, Comes, status_of}
 use Rattle.whole_host.specs.Promises.{Ends, EndsUnder, PrintsDone, PrintsReport, Replays}
-use Rattle.whole_host.proofs.Taken.{Laws, completes, ends_as, is_taken, tells_alter}
-
--- THE HEADLINE
-
-none_taken : (Shows : Printed → Type 0) (printed : Option Printed) (turns : List Turn) (journal : List Entry) → TakesNone Shows printed turns journal → (length journal == 0) ≡ false → ⊥
-none_taken Shows printed turns journal none some = let empty : length journal ≡ 0 = ap length none.untaken.no_journal in grind (arith, nat_tests, empty, some)
-
-abbrev replays_of : Laws → (source : Taking) (printed : Option Printed) (turns : List Turn) (journal : List Entry) (was : IsRead plans.Replay source printed turns journal) (plan : PlanData) → read was.bytes ≡ Ok plan → IsTaken plan printed turns journal → Replays source turns journal
-replays_of laws source printed turns journal was plan said taken = record {
-  bytes = was.bytes;
-  whole = was.whole;
-  plan = plan;
-  accepted = said;
-  replay = taken.replay;
-  completes = completes laws plan journal taken.was_read taken.replay;
-  turns_are = taken.turns_are;
-}
-
-replays_said : Laws → (told : PlanCommand) (source : Taking) (printed : Option Printed) (turns : List Turn) (journal : List Entry) (was : IsRead told source printed turns journal) (said : Result PlanData PlanRefusal) → read was.bytes ≡ said → Comes told said printed turns journal → (length journal == 0) ≡ false → Replays source turns journal
-replays_said laws plans.Replay source printed turns journal was (Ok plan) is comes some = replays_of laws source printed turns journal was plan is comes
-replays_said laws plans.Replay source printed turns journal was (Err refusal) is comes some = absurd (none_taken _ printed turns journal comes some)
-replays_said laws plans.Check source printed turns journal was (Ok plan) is comes some = absurd (none_taken _ printed turns journal comes some)
-replays_said laws plans.Check source printed turns journal was (Err refusal) is comes some = absurd (none_taken _ printed turns journal comes some)
-
-replays_told : Laws → (told : PlanCommand) (source : Taking) (printed : Option Printed) (turns : List Turn) (journal : List Entry) → TellsPlan told source printed turns journal → (length journal == 0) ≡ false → Replays source turns journal
-replays_told laws told source printed turns journal (inl was) some = replays_said laws told source printed turns journal was (read was.bytes) refl was.comes some
-replays_told laws told source printed turns journal (inr fault) some = absurd (none_taken _ printed turns journal fault some)
-
--- *Where turns were taken, they are a plan's whole replay*
-pub replays_where_taken : Laws → (told : Option Command) (source : Taking) (printed : Option Printed) (turns : List Turn) (journal : List Entry) → ComesTo told source printed turns journal → (length journal == 0) ≡ false → Replays source turns journal
-replays_where_taken laws None source printed turns journal comes some = absurd (none_taken _ printed turns journal comes some)
-replays_where_taken laws (Some Check) source printed turns journal comes some = replays_told laws plans.Check source printed turns journal comes some
-replays_where_taken laws (Some Replay) source printed turns journal comes some = replays_told laws plans.Replay source printed turns journal comes some
-replays_where_taken laws (Some (Run workers)) source printed turns journal comes some = absurd (none_taken _ printed turns journal comes some)
-replays_where_taken laws (Some (Generate number)) source printed turns journal comes some = absurd (none_taken _ printed turns journal comes some)
+use Rattle.whole_host.proofs.Headline.{replays_of}
+use Rattle.whole_host.specs.Standing.{Laws}
+use Rattle.whole_host.proofs.Taken.{ends_as, is_taken, tells_alter}
 
 -- WHAT IS PRINTED WHOLE
 
@@ -75,8 +43,8 @@ module _ (words : List (List ℕ)) (source : Taking) (sink : Giving) (turns : Li
   text_given printed text is given = subst (λ (bytes : List ℕ). Appends sink.before sink.after bytes) is given
 
   reads_by : (told : PlanCommand) → command words ≡ Some (asked told) → reads_plan (command words) ≡ true
-  reads_by plans.Check is = rw is refl
-  reads_by plans.Replay is = rw is refl
+  reads_by plans.Check is = ap reads_plan is
+  reads_by plans.Replay is = ap reads_plan is
 
   usage_under : (printed : Printed) → is_built (command words) ≡ false → Gave printed → TakesNone (IsUsage source) (Some printed) turns journal → Under printed.status
   usage_under printed faulty given comes =
@@ -158,8 +126,9 @@ module _ (words : List (List ℕ)) (source : Taking) (sink : Giving) (turns : Li
   plan_under laws told printed is given (inr fault) = fault_under told printed is given fault
 
   whole_under : Laws → (told : Option Command) (printed : Printed) → command words ≡ told → Gave printed → ComesTo told source (Some printed) turns journal → Under printed.status
-  whole_under laws None printed is given comes = usage_under printed (rw is refl) given comes
-  whole_under laws (Some (Run workers)) printed is given comes = usage_under printed (rw is refl) given comes
+  unfolding ComesTo
+  whole_under laws None printed is given comes = usage_under printed (ap is_built is) given comes
+  whole_under laws (Some (Run workers)) printed is given comes = usage_under printed (ap is_built is) given comes
   whole_under laws (Some (Generate number)) printed is given comes = workload_under number printed is given comes
   whole_under laws (Some Check) printed is given comes = plan_under laws plans.Check printed is given comes
   whole_under laws (Some Replay) printed is given comes = plan_under laws plans.Replay printed is given comes
@@ -170,38 +139,5 @@ module _ (words : List (List ℕ)) (source : Taking) (sink : Giving) (turns : Li
   given_under laws (Some printed) status comes (inr front) = subst Under (sym front.status_is) (record { printed = printed; comes = comes; given = front.given; rose = front.rose })
 
   -- *Ends*
-  pub ends_by : Laws → (printed : Option Printed) (status : Status) → ComesTo (command words) source printed turns journal → Gives printed sink status → Ends words source sink turns journal (status_number status)
-  ends_by laws printed status comes gives = record { status = status; number_is = refl; under = given_under laws printed status comes gives }
-
-  -- FAULTY WORDS
-
-  not_done : (told : Option Command) → is_built told ≡ false → PrintsDone told source sink turns journal → ⊥
-  not_done None faulty prints = prints
-  not_done (Some Check) faulty prints = cc
-  not_done (Some Replay) faulty prints = cc
-  not_done (Some (Run workers)) faulty prints = prints
-  not_done (Some (Generate number)) faulty prints = cc
-
-  not_read : (told : Option Command) → is_built told ≡ false → reads_plan told ≡ true → ⊥
-  not_read None faulty reads = cc
-  not_read (Some Check) faulty reads = cc
-  not_read (Some Replay) faulty reads = cc
-  not_read (Some (Run workers)) faulty reads = cc
-  not_read (Some (Generate number)) faulty reads = cc
-
-  not_replay : (told : Option Command) → is_built told ≡ false → told ≡ Some Replay → ⊥
-  not_replay told faulty is = cc
-
-  faulty_status : (status : Status) → is_built (command words) ≡ false → Under status → IsUsageOrLost (status_number status)
-  faulty_status statuses.Done faulty under = absurd (not_done (command words) faulty under)
-  faulty_status statuses.Usage faulty under = inl refl
-  faulty_status statuses.Refused faulty under = absurd (not_read (command words) faulty under.reads)
-  faulty_status statuses.Reverted faulty under = absurd (not_replay (command words) faulty under.command_is)
-  faulty_status statuses.ReadFault faulty under = absurd (not_read (command words) faulty under.reads)
-  faulty_status statuses.WriteFault faulty under = inr (inl refl)
-  faulty_status statuses.NoMemory faulty under = inr (inr refl)
-  faulty_status statuses.TurnsSpent faulty under = absurd (not_replay (command words) faulty under.command_is)
-
-  -- *Faulty words get the usage*, unless the sink fails or memory runs out
-  pub faulty_words : (number : ℕ) → Ends words source sink turns journal number → is_built (command words) ≡ false → IsUsageOrLost number
-  faulty_words number ends faulty = subst IsUsageOrLost (sym ends.number_is) (faulty_status ends.status faulty ends.under)
+  pub ends_by : Laws → (number : ℕ) → Does words source sink turns journal number → Ends words source sink turns journal number
+  ends_by laws number does = record { status = does.status; number_is = does.number_is; under = given_under laws does.printed does.status does.comes does.gives }

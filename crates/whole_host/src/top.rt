@@ -5,8 +5,9 @@ ghost use Rattle.command_words.specs.Commands.{command};
 ghost use Rattle.command_words.specs.declared.command.Command.TheVariants.{Check, Generate, Replay};
 ghost use Rattle.plain_server.specs.declared.outcome.Verdict.TheVariants as verdicts;
 ghost use Rattle.call_endings.specs.Endings.{gave, is_built, IsUsageOrLost, took};
-ghost use Rattle.whole_host.specs.Comings.{ComesTo, TellsPlan};
+ghost use Rattle.whole_host.specs.Comings.{ComesTo, Does, TellsPlan};
 ghost use Rattle.whole_host.specs.Promises.{Ends, Replays, PrintsReport, PrintsSchema, PrintsWorkload, PrintsRevert, PrintsUnfinished, PrintsRefusal, PrintsUsage, PrintsReadFault, PrintsPrefix, PrintsNone};
+ghost use Rattle.whole_host.specs.Standing.{Laws};
 
 use crate::outcome::{Outcome, outcome_of, untaken};
 use accepted_laws::laws::{read_plans_are_runnable, read_plans_are_serial};
@@ -34,6 +35,7 @@ pub struct Ended {
 }
 
 /// What a source comes to under a command that reads a plan.
+#[tactic(auto, using(crate::proofs::Untaken::nothing_told, crate::proofs::Untaken::fault_told, crate::proofs::Untaken::read_told))]
 fn come_to_plan<S: Source>(alloc: Global, told: PlanCommand, source: &mut S) -> Outcome
     ensures comes { TellsPlan told (took S.left S.faults source.old source.new) result.printed result.turns result.journal }
     ensures never_falls { S.faults source.old ≤ S.faults source.new }
@@ -48,32 +50,39 @@ fn come_to_plan<S: Source>(alloc: Global, told: PlanCommand, source: &mut S) -> 
     }
 }
 
+/// What the words and the source come to, where the words are this command or none.
+#[tactic(auto, using(crate::proofs::Untaken::check_comes, crate::proofs::Untaken::replay_comes, crate::proofs::Untaken::faulty_comes, crate::proofs::Untaken::run_comes, crate::proofs::Untaken::workload_comes))]
+fn come_under<S: Source>(alloc: Global, told: Option<Command>, source: &mut S) -> Outcome
+    ensures comes { ComesTo told (took S.left S.faults source.old source.new) result.printed result.turns result.journal }
+    ensures never_falls { S.faults source.old ≤ S.faults source.new }
+{
+    match told {
+        Some(Command::Check) => come_to_plan(alloc, PlanCommand::Check, source),
+        Some(Command::Replay) => come_to_plan(alloc, PlanCommand::Replay, source),
+        Some(Command::Generate(number)) => untaken(alloc, workload_shown(alloc, number)),
+        Some(Command::Run(_)) => untaken(alloc, usage_shown(alloc)),
+        None => untaken(alloc, usage_shown(alloc)),
+    }
+}
+
 /// What the words and the source come to.
+#[tactic(auto, using(crate::proofs::Untaken::nothing_comes))]
 fn come_to<S: Source>(alloc: Global, line: &Line, source: &mut S) -> Outcome
     ensures comes { ComesTo (command line.now) (took S.left S.faults source.old source.new) result.printed result.turns result.journal }
     ensures never_falls { S.faults source.old ≤ S.faults source.new }
 {
     match line.command(alloc) {
-        Ok(Some(Command::Check)) => come_to_plan(alloc, PlanCommand::Check, source),
-        Ok(Some(Command::Replay)) => come_to_plan(alloc, PlanCommand::Replay, source),
-        Ok(Some(Command::Generate(number))) => untaken(alloc, workload_shown(alloc, number)),
-        Ok(Some(Command::Run(_)) | None) => untaken(alloc, usage_shown(alloc)),
+        Ok(told) => come_under(alloc, told, source),
         Err(_) => untaken(alloc, None),
     }
 }
 
 /// Does what the words ask for, and says how it ended.
-fn ending<S: Source, K: Sink>(alloc: Global, line: &Line, source: &mut S, sink: &mut K) -> Ended
-    ensures ends { Ends line.now (took S.left S.faults source.old source.new) (gave K.held K.faults sink.old sink.new) result.turns result.journal result.status }
-    ensures replay { (length result.journal == 0) ≡ false → Replays (took S.left S.faults source.old source.new) result.turns result.journal }
+fn doing<S: Source, K: Sink>(alloc: Global, line: &Line, source: &mut S, sink: &mut K) -> Ended
+    ensures does { Does line.now (took S.left S.faults source.old source.new) (gave K.held K.faults sink.old sink.new) result.turns result.journal result.status }
     ensures source_never_falls { S.faults source.old ≤ S.faults source.new }
     ensures sink_never_falls { K.faults sink.old ≤ K.faults sink.new }
 {
-    verdicts_tell_the_alter();
-    read_plans_are_runnable();
-    read_plans_are_serial();
-    read_options_allow();
-    quiet_runs_are_done();
     let outcome = come_to(alloc, line, source);
     let status = give(&outcome.printed, sink);
     Ended {
@@ -81,6 +90,28 @@ fn ending<S: Source, K: Sink>(alloc: Global, line: &Line, source: &mut S, sink: 
         turns: outcome.turns,
         journal: outcome.journal,
     }
+}
+
+/// The laws that the top call stands on.
+fn laws_stand()
+    ensures { Laws }
+{
+    verdicts_tell_the_alter();
+    read_plans_are_runnable();
+    read_plans_are_serial();
+    quiet_runs_are_done();
+    read_options_allow();
+}
+
+/// Does what the words ask for, and says how it ended, with what the laws make of it.
+fn ending<S: Source, K: Sink>(alloc: Global, line: &Line, source: &mut S, sink: &mut K) -> Ended
+    ensures ends { Ends line.now (took S.left S.faults source.old source.new) (gave K.held K.faults sink.old sink.new) result.turns result.journal result.status }
+    ensures replay { (length result.journal == 0) ≡ false → Replays (took S.left S.faults source.old source.new) result.turns result.journal }
+    ensures source_never_falls { S.faults source.old ≤ S.faults source.new }
+    ensures sink_never_falls { K.faults sink.old ≤ K.faults sink.new }
+{
+    laws_stand();
+    doing(alloc, line, source, sink)
 }
 
 /// All that the program does: it gives to the sink what the words ask for, of the plan that the source has.

@@ -1,13 +1,15 @@
-use Rattle.command_words.specs.Commands.{command}
-use Rattle.whole_host.proofs.Endings.{ends_by, replays_where_taken}
-use Rattle.whole_host.proofs.Taken.{laws_by}
+use Rattle.whole_host.proofs.Endings.{ends_by}
+use Rattle.whole_host.proofs.Headline.{replays_by}
 use Rattle.whole_host.proofs.top.ending.Goals as goal
 
 pub returns-clause-ends : goal.returns-clause-ends
-returns-clause-ends g c =
-    rw c.number.ensures
-    (ends_by c.args.line.now _ _ c.come_to-outcome.result.turns c.come_to-outcome.result.journal (laws_by c.verdicts_tell_the_alter.ensures c.read_plans_are_runnable.ensures c.read_plans_are_serial.ensures c.quiet_runs_are_done.ensures c.read_options_allow.ensures) c.come_to-outcome.result.printed c.give-status.result c.come_to-outcome.ensures.comes c.give-status.ensures.gives)
+returns-clause-ends g c = ends_by c.args.line.now _ _ c.doing.result.turns c.doing.result.journal c.laws_stand.ensures c.doing.result.status c.doing.ensures.does
 
 pub returns-clause-replay : goal.returns-clause-replay
-returns-clause-replay g c =
-    replays_where_taken (laws_by c.verdicts_tell_the_alter.ensures c.read_plans_are_runnable.ensures c.read_plans_are_serial.ensures c.quiet_runs_are_done.ensures c.read_options_allow.ensures) (command c.args.line.now) _ c.come_to-outcome.result.printed c.come_to-outcome.result.turns c.come_to-outcome.result.journal c.come_to-outcome.ensures.comes
+returns-clause-replay g c = replays_by c.laws_stand.ensures c.args.line.now _ _ c.doing.result.turns c.doing.result.journal c.doing.result.status c.doing.ensures.does
+
+pub returns-clause-source_never_falls : goal.returns-clause-source_never_falls
+returns-clause-source_never_falls g c = c.doing.ensures.source_never_falls
+
+pub returns-clause-sink_never_falls : goal.returns-clause-sink_never_falls
+returns-clause-sink_never_falls g c = c.doing.ensures.sink_never_falls

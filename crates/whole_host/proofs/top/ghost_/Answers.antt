@@ -1,7 +1,7 @@
 use Rattle.std.proofs.Common.{Some}
 use Rattle.command_words.specs.declared.command.Command.TheVariants.{Check, Generate, Replay}
 use Rattle.call_endings.specs.declared.status.Status.TheVariants.{Usage, Refused, Reverted, ReadFault, WriteFault, NoMemory, TurnsSpent}
-use Rattle.whole_host.proofs.Endings.{faulty_words}
+use Rattle.whole_host.proofs.Faulty.{faulty_words}
 use Rattle.whole_host.proofs.Numbers.{under, under_done}
 use Rattle.whole_host.proofs.top.ghost_.Goals as goal
 
@@ -37,3 +37,9 @@ returns-clause-no_memory g c = under NoMemory c.args.line.now _ _ c.ending.resul
 
 pub returns-clause-turns_spent : goal.returns-clause-turns_spent
 returns-clause-turns_spent g c = under TurnsSpent c.args.line.now _ _ c.ending.result.turns c.ending.result.journal c.ending.result.status c.ending.ensures.ends
+
+pub returns-clause-ends : goal.returns-clause-ends
+returns-clause-ends g c = c.ending.ensures.ends
+
+pub returns-clause-replay : goal.returns-clause-replay
+returns-clause-replay g c = c.ending.ensures.replay
