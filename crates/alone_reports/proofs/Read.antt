@@ -1,0 +1,20 @@
+-- A plan that was read may be run alone.
+use Rattle.std.proofs.Common.{[], ◌∷◌}
+use Rattle.std.specs.List.{AllByRecursion}
+use Rattle.alter_laws.specs.Laws.{IsClause}
+use Rattle.row_store.specs.Databases.{Database}
+use Rattle.plan_tables.specs.Tables.{IsSound}
+use Rattle.plan_words.specs.PlanData.{PlanData}
+use Rattle.plan_laws.specs.PlanLaws.{ReadPlansAreAccepted}
+use Rattle.accepted_laws.specs.Laws.{ReadPlansAreWorded, WasRead}
+use Rattle.alone_model.specs.Histories.{AreLawful}
+
+sound_lawful : (tables : Database) → AllByRecursion IsSound tables → AreLawful tables
+sound_lawful [] all = tt
+sound_lawful (table ∷ tables) all = (all.0.lawful, sound_lawful tables all.1)
+
+pub read_lawful : ReadPlansAreAccepted → (plan : PlanData) → WasRead plan → AreLawful plan.tables
+read_lawful accepted plan was = sound_lawful plan.tables (accepted was.bytes plan was.is).sound
+
+pub read_clauses : ReadPlansAreWorded → (plan : PlanData) → WasRead plan → AllByRecursion IsClause plan.alter
+read_clauses worded plan was = (worded plan was).clauses

@@ -1,0 +1,142 @@
+//! The comparison.
+
+ghost use Rattle.std.specs.Prelude.{◌≡◌, map, IfOk};
+ghost use Rattle.accepted_laws.specs.Laws.{WasRead};
+ghost use Rattle.alone_model.specs.Histories.{alone_in_order, happening_of};
+ghost use Rattle.journal_pasts.specs.Walks.{item_as};
+
+use crate::clients::push_clients;
+use crate::replies::are_the_same;
+use crate::tables::push_tables;
+use accepted_laws::laws::read_plans_are_worded;
+use accepted_laws::read_accepted_plan;
+use alone_model::{InOrder, PlainTables, alone, plain_tables, run_in_order, tables_left};
+use gho_values::{Sequence, Text};
+use journal_pasts::{PastItem, Reached, Walked, happenings_of, walk};
+use plain_server::{Journal, Replies};
+use plan_document::PlanFault;
+use plan_laws::laws::read_plans_are_accepted;
+use plan_words::Plan;
+use std::alloc::{AllocError, Global};
+
+/// What the lines of the open transactions are answered alone, on the tables that the history left: a list a client.
+fn open_replies(
+    alloc: Global,
+    tables: &PlainTables,
+    clients: &[Reached<'_>],
+) -> Result<Sequence<Replies>, AllocError> {
+    let mut all = Sequence::new(alloc);
+    for client in clients {
+        all.push(alone(alloc, tables, client.lines())?.replies)?;
+    }
+    Ok(all)
+}
+
+/// Whether the transactions that ended got these replies, a list a transaction.
+fn got_these(items: &[PastItem], replies: &[Replies]) -> bool {
+    let mut rest = replies;
+    for item in items {
+        if let PastItem::Txn(past) = item {
+            let Some((own, others)) = rest.split_first() else {
+                return false;
+            };
+            if !are_the_same(past.replies.as_slice(), own.as_slice()) {
+                return false;
+            }
+            rest = others;
+        }
+    }
+    rest.is_empty()
+}
+
+/// Whether the clients got these replies in their open transactions, a list a client.
+fn go_on_with_these(clients: &[Reached<'_>], replies: &[Replies]) -> bool {
+    clients.len() == replies.len()
+        && clients.iter().zip(replies).all(|(client, own)| are_the_same(
+            client.replies(),
+            own.as_slice(),
+        ))
+}
+
+/// What the report says of clients and tables, where the history gave this.
+fn middle(
+    alloc: Global,
+    plan: &Plan,
+    walked: &Walked<'_>,
+    ran: &InOrder,
+    open: &[Replies],
+) -> Result<Text, AllocError> {
+    let mut text = Text::new(alloc);
+    if plan.options().show_replies {
+        push_clients(&mut text, walked, ran.replies.as_slice(), open)?;
+    }
+    let left = tables_left(alloc, plan, ran.tables.as_slice())?;
+    push_tables(&mut text, plan.options().show_tables, left.as_slice())?;
+    Ok(text)
+}
+
+/// Whether the report says this between its first line, the verdict, and the line of the tables' names.
+fn says(report: &str, middle: &str) -> bool {
+    match report.split_once('\n') {
+        Some((_, rest)) => match rest.strip_prefix(middle) {
+            Some(names) => names.starts_with("tables"),
+            None => false,
+        },
+        None => false,
+    }
+}
+
+/// Whether what the history gave alone is what the journal and the report have.
+fn is_given(
+    alloc: Global,
+    plan: &Plan,
+    walked: &Walked<'_>,
+    ran: &InOrder,
+    report: &str,
+) -> Result<bool, AllocError> {
+    let open = open_replies(alloc, &ran.tables, walked.clients.as_slice())?;
+    let text = middle(alloc, plan, walked, ran, open.as_slice())?;
+    Ok(
+        got_these(walked.items.as_slice(), ran.replies.as_slice())
+            && go_on_with_these(walked.clients.as_slice(), open.as_slice())
+            && says(report, text.as_str()),
+    )
+}
+
+/// What happened gives alone, from the plan's opening tables on; none where the ALTER can't be done.
+#[tactic(auto, using(crate::proofs::Read::read_lawful, crate::proofs::Read::read_clauses))]
+fn run_alone(alloc: Global, plan: &Plan, items: &[PastItem]) -> Result<Option<InOrder>, AllocError>
+    requires { WasRead plan.now }
+    ensures { IfOk result (λ ran. ran ≡ alone_in_order plan.now plan.now.tables (map happening_of (map item_as items.now))) }
+{
+    read_plans_are_accepted();
+    read_plans_are_worded();
+    let happenings = happenings_of(alloc, items)?;
+    let opening = plain_tables(alloc, plan.tables())?;
+    run_in_order(alloc, plan, opening, happenings.as_slice())
+}
+
+/// The same for a plan that was read, with its journal.
+fn is_so(alloc: Global, plan: &Plan, journal: &Journal, report: &str) -> Result<bool, AllocError>
+    requires { WasRead plan.now }
+{
+    let walked = walk(alloc, plan, journal.as_slice())?;
+    match run_alone(alloc, plan, walked.items.as_slice())? {
+        Some(ran) => is_given(alloc, plan, &walked, &ran, report),
+        None => Ok(false),
+    }
+}
+
+/// Whether one at a time gives what a run of the plan of these bytes gave, which had this journal and this report.
+pub fn is_as_alone(
+    alloc: Global,
+    bytes: &[u8],
+    journal: &Journal,
+    report: &str,
+) -> Result<bool, AllocError> {
+    match read_accepted_plan(alloc, bytes) {
+        Ok(plan) => is_so(alloc, &plan, journal, report),
+        Err(PlanFault::Refused(_)) => Ok(false),
+        Err(PlanFault::Memory) => Err(AllocError),
+    }
+}

@@ -1,0 +1,5 @@
+pub mod Turns
+pub mod Strangers
+pub mod Clients
+pub mod Tool
+pub mod Whole

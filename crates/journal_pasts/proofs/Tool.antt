@@ -1,0 +1,98 @@
+-- What a turn of the tool's adds.
+use Rattle.std.proofs.Common.{◌≡◌, ℕ, Bool, true, false, cond, List, [], ◌∷◌, map, Option, Some, None, refl, sym, ap, ◌∙◌, true≢false}
+use Rattle.std.specs.Prelude.{option_to_list}
+use Rattle.std.specs.List.{list_any, slice_get}
+use Rattle.script_text.specs.declared.actor.Actor.{Actor}
+use Rattle.script_text.specs.declared.actor.Actor.TheVariants.{Op, Insp, Copy, Apply, Lock, Ren, Client}
+use Rattle.plain_server.specs.declared.request.Request.{Request}
+use Rattle.plain_server.specs.declared.answer.Answer.{Answer}
+use Rattle.plain_server.specs.declared.answer.Answer.TheVariants as answers
+use Rattle.plain_server.specs.declared.entry.Entry.{Entry}
+use Rattle.plain_server.specs.Entries.{is_client, same_actor}
+use Rattle.plan_words.specs.PlanData.{PlanData}
+use Rattle.journal_words.specs.Histories.{HistoryItem, about, adds, alters, entry_adds, is_alter, renames_away, request_waiting, told_in}
+use Rattle.journal_words.specs.Histories as histories
+use Rattle.journal_words.specs.Sessions.{live_session}
+use Rattle.actor_seats.specs.declared.seat.ActorSeat.{ActorSeat}
+use Rattle.actor_seats.specs.Seats.{seat_at}
+use Rattle.journal_pasts.specs.Walks.{free_seat, place_of, renames_of, tool_seats}
+
+-- ---- seats
+
+-- before the first turn
+pub seats_begin : (table : List ℕ) (all : List Actor) → map free_seat all ≡ map (seat_at table []) all
+unfolding live_session request_waiting
+seats_begin table [] = refl
+seats_begin table (actor ∷ all) = ap (λ seats. free_seat actor ∷ seats) (seats_begin table all)
+
+-- the seat at an actor's place
+pub seat_found : (table : List ℕ) (before : List Entry) (actor : Actor) → is_client actor ≡ false → slice_get (tool_seats table before) (place_of actor) ≡ Some (seat_at table before actor)
+seat_found table before Op tool = refl
+seat_found table before Insp tool = refl
+seat_found table before Copy tool = refl
+seat_found table before Apply tool = refl
+seat_found table before Lock tool = refl
+seat_found table before Ren tool = refl
+seat_found table before (Client number) tool = absurd (true≢false tool)
+
+-- whether the actor waits with the RENAME, by its seat
+pub renames_is : (table : List ℕ) (before : List Entry) (actor : Actor) (seats : List ActorSeat) → seats ≡ tool_seats table before → is_client actor ≡ false → renames_of (slice_get seats (place_of actor)) ≡ renames_away table (request_waiting before actor)
+renames_is table before actor seats are tool = ap (λ (all : List ActorSeat). renames_of (slice_get all (place_of actor))) are ∙ ap renames_of (seat_found table before actor tool)
+
+-- a turn of the tool's is none of a client's
+pub no_client : (actor : Actor) → ((number : ℕ) → actor ≡ Client number → ⊥) → (number : ℕ) → same_actor actor (Client number) ≡ false
+no_client Op not number = refl
+no_client Insp not number = refl
+no_client Copy not number = refl
+no_client Apply not number = refl
+no_client Lock not number = refl
+no_client Ren not number = refl
+no_client (Client client) not number = absurd (not client refl)
+
+-- ---- the ALTER
+
+abbrev alter_if : Bool → List HistoryItem
+alter_if b = cond b (histories.Alter ∷ []) []
+
+alter_alone : (plan : PlanData) (request : Option Request) (told : Option Answer) → alters plan request told ≡ alter_if (list_any is_alter (alters plan request told))
+alter_alone plan request None = refl
+alter_alone plan request (Some (answers.Ok count)) = by (renames_away plan.table request)
+  where
+    by : (b : Bool) → cond b (histories.Alter ∷ []) [] ≡ alter_if (list_any is_alter (cond b (histories.Alter ∷ []) []))
+    by true = refl
+    by false = refl
+alter_alone plan request (Some (answers.Rows rows)) = refl
+alter_alone plan request (Some (answers.Keys keys end)) = refl
+alter_alone plan request (Some (answers.Ends range)) = refl
+alter_alone plan request (Some (answers.End key)) = refl
+alter_alone plan request (Some (answers.At count)) = refl
+alter_alone plan request (Some (answers.Events events next)) = refl
+alter_alone plan request (Some (answers.Tables tables)) = refl
+alter_alone plan request (Some (answers.Waiting waiters)) = refl
+alter_alone plan request (Some (answers.Refused number column)) = refl
+alter_alone plan request (Some (answers.Waits by)) = refl
+alter_alone plan request (Some (answers.TimedOut waited)) = refl
+alter_alone plan request (Some answers.Lost) = refl
+
+tool_adds : (plan : PlanData) (before : List Entry) (entry : Entry) (actor : Actor) → is_client actor ≡ false → adds plan before entry actor ≡ alters plan (about before entry) (told_in entry.asked entry.side entry.answer entry.missed)
+tool_adds plan before entry Op tool = refl
+tool_adds plan before entry Insp tool = refl
+tool_adds plan before entry Copy tool = refl
+tool_adds plan before entry Apply tool = refl
+tool_adds plan before entry Lock tool = refl
+tool_adds plan before entry Ren tool = refl
+tool_adds plan before entry (Client number) tool = absurd (true≢false tool)
+
+-- a turn of the tool's adds the ALTER or nothing
+adds_if : (plan : PlanData) (before : List Entry) (entry : Entry) (b : Bool) → is_client entry.actor ≡ false → b ≡ list_any is_alter (entry_adds plan before entry) → alter_if b ≡ entry_adds plan before entry
+adds_if plan before entry b tool is =
+    let same : entry_adds plan before entry ≡ alters plan (about before entry) (told_in entry.asked entry.side entry.answer entry.missed) = tool_adds plan before entry entry.actor tool in
+    ap alter_if (is ∙ ap (list_any is_alter) same)
+    ∙ sym (alter_alone plan (about before entry) (told_in entry.asked entry.side entry.answer entry.missed))
+    ∙ sym same
+
+pub adds_alter : (plan : PlanData) (before : List Entry) (entry : Entry) → is_client entry.actor ≡ false → true ≡ list_any is_alter (entry_adds plan before entry) → histories.Alter ∷ [] ≡ entry_adds plan before entry
+adds_alter plan before entry tool is = adds_if plan before entry true tool is
+
+pub adds_nothing : (plan : PlanData) (before : List Entry) (entry : Entry) → is_client entry.actor ≡ false → false ≡ list_any is_alter (entry_adds plan before entry) → [] ≡ entry_adds plan before entry
+adds_nothing plan before entry tool is = adds_if plan before entry false tool is
