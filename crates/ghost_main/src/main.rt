@@ -2,11 +2,11 @@
 #![tactic(auto)]
 
 use gho_edges::{OpenGate, StdSink, StdSource};
-use migration_host::{Line, ghost_};
 use std::alloc::{AllocError, Global};
 use std::process::ExitCode;
 use std::rt::Env;
 use std::{env, io};
+use whole_host::{Line, ghost_};
 
 /// The words behind the program's name. Words that aren't UTF-8 are no command, as no words are none.
 fn words<R: Env + AllocGlobal>(rt: &R) -> Result<Line, AllocError> {

@@ -1,12 +1,12 @@
 //! The top call over a case.
 
 use crate::cases::Case;
-use crate::model::modelled;
+use crate::model::is_modelled;
 use gho_edges::{BytesSink, BytesSource, OpenGate};
-use migration_host::{Ended, Line, ghost_, read_plan};
 use std::alloc::{AllocError, Global};
 use std::sync::Wait;
 use std::thread::Threads;
+use whole_host::{Ended, Line, ghost_};
 
 /// How a call of the program ended, and what it printed.
 #[derive(Drop)]
@@ -39,20 +39,6 @@ fn printed_of<R: Threads + Wait + Sync + AllocGlobal>(
     Ok(Printed { ended, sink })
 }
 
-/// Whether the plain model says what was printed, where turns were taken and the ALTER was done.
-fn is_modelled(alloc: Global, plan: &[u8], printed: &Printed) -> Result<bool, AllocError> {
-    if printed.ended.status != 0 || printed.ended.journal.is_empty() {
-        return Ok(true);
-    }
-    match read_plan(alloc, plan) {
-        Ok(plan) => {
-            let text = modelled(alloc, &plan, &printed.ended.journal)?;
-            Ok(text.as_str().as_bytes() == printed.sink.held())
-        }
-        Err(_) => Ok(false),
-    }
-}
-
 /// Whether a case prints what stands in it, with the status that stands there, and what the model says.
 pub fn is_as_expected<R: Threads + Wait + Sync + AllocGlobal>(
     rt: &R,
@@ -64,6 +50,11 @@ pub fn is_as_expected<R: Threads + Wait + Sync + AllocGlobal>(
         case.is_whole
             && status.as_str() == case.status
             && case.prints.as_slice() == printed.sink.held()
-            && is_modelled(rt.alloc(), case.plan.as_slice(), &printed)?,
+            && is_modelled(
+                rt.alloc(),
+                case.plan.as_slice(),
+                &printed.ended,
+                printed.sink.held(),
+            )?,
     )
 }

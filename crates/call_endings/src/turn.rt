@@ -1,0 +1,16 @@
+//! Whose turns a run took.
+
+use gho_values::Sequence;
+use script_text::Actor;
+
+/// Whose turn it was.
+#[derive(Debug, Drop)]
+pub struct Turn {
+    /// The number of the worker that took it: 0 in a replay.
+    pub worker: u32,
+    /// The actor.
+    pub actor: Actor,
+}
+
+/// Turns in order.
+pub type Turns = Sequence<Turn>;

@@ -1,0 +1,119 @@
+//! Single losses of sessions.
+
+use crate::run::run;
+use script_text::Actor;
+use std::alloc::{AllocError, Global};
+use std::io;
+use std::sync::Wait;
+use std::thread::Threads;
+use whole_host::Turn;
+
+/// The actors of the plan.
+const ACTORS: [&str; 6] = ["insp", "copy", "apply", "lock", "ren", "c1"];
+
+/// How many losses a plan was run with, and how many of the runs are as one at a time.
+#[derive(Clone, Copy)]
+pub struct Count {
+    /// The losses.
+    pub losses: u64,
+    /// Those of which the run is.
+    pub as_alone: u64,
+}
+
+/// The word of an actor of the plan.
+fn word_of(actor: Actor) -> &'static str {
+    match actor {
+        Actor::Op => "op",
+        Actor::Insp => "insp",
+        Actor::Copy => "copy",
+        Actor::Apply => "apply",
+        Actor::Lock => "lock",
+        Actor::Ren => "ren",
+        Actor::Client(_) => "c1",
+    }
+}
+
+/// How many of the turns are this actor's.
+fn turns_of(actor: Actor, turns: &[Turn]) -> usize {
+    turns.iter().filter(|turn| turn.actor == actor).count()
+}
+
+/// Runs a plan with a loss, and counts it.
+fn run_loss<R: Print + Threads + Wait + Sync + AllocGlobal>(
+    rt: &R,
+    plan: &str,
+    loss: &str,
+    count: &mut Count,
+) -> io::Result<()> {
+    let faults = format!(in rt.alloc(); "faults = [\"{loss}\"]")?;
+    count.losses = count.losses.saturating_add(1);
+    if run(rt, faults.as_str(), plan)?.is_as_alone {
+        count.as_alone = count.as_alone.saturating_add(1);
+        Ok(())
+    } else {
+        println!(rt; "loss {loss} is not")
+    }
+}
+
+/// Runs a plan with the session of each of these turns lost at it, before its call is done and after.
+fn run_turn_losses<R: Print + Threads + Wait + Sync + AllocGlobal>(
+    rt: &R,
+    plan: &str,
+    turns: &[Turn],
+    count: &mut Count,
+) -> io::Result<()> {
+    let mut place = 0usize;
+    for turn in turns {
+        place = place.saturating_add(1);
+        let word = word_of(turn.actor);
+        let number = match turns.get(..place) {
+            Some(so_far) => turns_of(turn.actor, so_far),
+            None => 0,
+        };
+        let alloc = rt.alloc();
+        run_loss(
+            rt,
+            plan,
+            format!(in alloc; "{word} {number} before")?.as_str(),
+            count,
+        )?;
+        run_loss(
+            rt,
+            plan,
+            format!(in alloc; "{word} {number} after")?.as_str(),
+            count,
+        )?;
+    }
+    Ok(())
+}
+
+/// Runs a plan with each actor's session lost before the turn of this number.
+fn run_losses_before<R: Print + Threads + Wait + Sync + AllocGlobal>(
+    rt: &R,
+    plan: &str,
+    number: usize,
+    count: &mut Count,
+) -> io::Result<()> {
+    for word in &ACTORS {
+        let loss = format!(in rt.alloc(); "turn {number} {word}")?;
+        run_loss(rt, plan, loss.as_str(), count)?;
+    }
+    Ok(())
+}
+
+/// Runs a plan with each single loss that its run could meet.
+pub fn run_losses<R: Print + Threads + Wait + Sync + AllocGlobal>(
+    rt: &R,
+    plan: &str,
+) -> io::Result<Count> {
+    let mut count = Count {
+        losses: 0,
+        as_alone: 0,
+    };
+    let whole = run(rt, "# No session is lost.", plan)?;
+    run_turn_losses(rt, plan, whole.turns.as_slice(), &mut count)?;
+    for place in 0..whole.turns.len() {
+        run_losses_before(rt, plan, place.saturating_add(1), &mut count)?;
+    }
+    Ok(count)
+}

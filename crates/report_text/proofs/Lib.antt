@@ -1,3 +1,0 @@
-pub mod BareNames
-pub mod Steps
-pub mod Walks

@@ -1,4 +1,0 @@
-pub mod Replies
-pub mod Reports
-pub mod Tables
-pub mod Walks

@@ -1,5 +1,0 @@
-use Rattle.serial_laws.proofs.Verdicts.{verdicts_tell_the_alter}
-use Rattle.serial_laws.proofs.laws.verdicts_tell_the_alter.Goals as goal
-
-pub returns : goal.returns
-returns c = verdicts_tell_the_alter

@@ -1,2 +1,0 @@
-pub mod SerialLaws
-pub mod VerdictLaws

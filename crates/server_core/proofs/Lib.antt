@@ -1,5 +1,0 @@
-mod Cuts
-mod Edited
-mod Lists
-mod Views
-mod Written

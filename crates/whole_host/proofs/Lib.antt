@@ -1,0 +1,6 @@
+mod Endings
+mod Faulty
+mod Headline
+mod Numbers
+mod Taken
+mod Untaken

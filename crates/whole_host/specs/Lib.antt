@@ -1,0 +1,4 @@
+pub mod Comings
+pub mod Outcomes
+pub mod Promises
+pub mod Standing

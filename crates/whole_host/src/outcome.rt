@@ -1,0 +1,94 @@
+//! What comes of a plan's bytes.
+
+ghost use Rattle.std.specs.Prelude.{◌≡◌, [], IfSome, IfOk};
+ghost use Rattle.plan_document.specs.Plans.{read};
+ghost use Rattle.accepted_laws.specs.Laws.{WasRead};
+ghost use Rattle.plan_replays.specs.Replays.{IsEnd};
+ghost use Rattle.whole_host.specs.Outcomes.{Comes, IsReport, IsTaken};
+
+use crate::status::status_of;
+use crate::turns::turns_in;
+use accepted_laws::read_accepted_plan;
+use call_endings::{PlanCommand, Printed, Turns, plan_checked, refused};
+use gho_values::Sequence;
+use plain_server::Journal;
+use plan_document::PlanFault;
+use plan_replays::{End, replay_plan};
+use plan_words::Plan;
+use report_print::report;
+use serving::Serve;
+use std::alloc::{AllocError, Global};
+
+/// What the words and the source come to.
+#[derive(Drop)]
+pub(crate) struct Outcome {
+    /// What is printed; none where memory ran out.
+    pub(crate) printed: Option<Printed>,
+    /// Whose turns were taken.
+    pub(crate) turns: Turns,
+    /// The turns.
+    pub(crate) journal: Journal,
+}
+
+/// What comes where no turn is taken. It takes no memory.
+pub(crate) fn untaken(alloc: Global, printed: Option<Printed>) -> Outcome
+    ensures { result ≡ record { printed = printed; turns = []; journal = [] } }
+{
+    Outcome {
+        printed,
+        turns: Sequence::new(alloc),
+        journal: Journal::new(alloc),
+    }
+}
+
+/// The report of a replay that ended.
+fn reported<V: Serve>(
+    alloc: Global,
+    plan: &Plan,
+    journal: &Journal,
+    end: &Option<End<V>>,
+) -> Option<Printed>
+    requires { IfSome end.now (λ end. IsEnd plan.now journal.now end.verdict (V.state end.server)) }
+    ensures { IfSome result (IsReport plan.now journal.now) }
+{
+    let end = end.as_ref()?;
+    let tables = end.server.tables();
+    match report(alloc, plan, journal, &end.verdict, tables) {
+        Ok(text) => Some(Printed {
+            status: status_of(&end.verdict),
+            text,
+        }),
+        Err(_) => None,
+    }
+}
+
+/// What comes of the replay of a plan. Where there is no memory for the list of turns, or for the server, no turn is taken.
+fn plan_replayed(alloc: Global, plan: &Plan) -> Result<Outcome, AllocError>
+    requires { WasRead plan.now }
+    ensures { IfOk result (λ outcome. IsTaken plan.now outcome.printed outcome.turns outcome.journal) }
+{
+    // The room for the turns is made before the first, so that none that was taken is thrown away.
+    let room = Vec::with_capacity(alloc, plan.options().turn_limit as usize)?;
+    let left = replay_plan(alloc, plan)?;
+    Ok(Outcome {
+        printed: reported(alloc, plan, &left.journal, &left.end),
+        turns: turns_in(room, left.journal.as_slice()),
+        journal: left.journal,
+    })
+}
+
+/// What comes of a plan's bytes under a command; `AllocError` where there was no memory before the first turn.
+pub(crate) fn outcome_of(
+    alloc: Global,
+    command: PlanCommand,
+    bytes: &[u8],
+) -> Result<Outcome, AllocError>
+    ensures { IfOk result (λ outcome. Comes command (read bytes.now) outcome.printed outcome.turns outcome.journal) }
+{
+    match (read_accepted_plan(alloc, bytes), command) {
+        (Ok(plan), PlanCommand::Check) => Ok(untaken(alloc, plan_checked(alloc, &plan))),
+        (Ok(plan), PlanCommand::Replay) => plan_replayed(alloc, &plan),
+        (Err(PlanFault::Refused(refusal)), _) => Ok(untaken(alloc, refused(alloc, refusal))),
+        (Err(PlanFault::Memory), _) => Err(AllocError),
+    }
+}
