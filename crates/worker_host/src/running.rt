@@ -1,0 +1,70 @@
+//! A run by worker threads.
+
+ghost use Rattle.std.specs.Prelude.{◌≡◌, ◌≤◌, ◌<◌, [], true, All, IfOk};
+ghost use Rattle.desk_workers.specs.declared.ending.Ending.TheVariants.{Over};
+ghost use Rattle.journal_words.specs.Journals.{opening, state_at};
+ghost use Rattle.journal_words.specs.Sessions.{NumbersSessions};
+ghost use Rattle.migration_program.specs.Orders.{RunOrder};
+ghost use Rattle.run_laws.specs.Kept.{IsKept};
+ghost use Rattle.turn_desk.specs.Turns.{DeskList};
+ghost use Rattle.whole_run.specs.Runs.{is_over};
+ghost use Rattle.worker_run.specs.WorkedRuns.{listed};
+ghost use Rattle.worker_run.specs.Workers.{IsGoing};
+
+use desk_workers::{Ending, take_turns};
+use gho_edges::Gate;
+use serving::Serve;
+use std::alloc::{AllocError, Global};
+use std::snapshot::Snapshot;
+use std::sync::Wait;
+use std::thread::Threads;
+use turn_desk::Passes;
+use whole_run::Run;
+use worker_run::{Turns, Worked};
+
+/// What workers leave of a run.
+#[derive(Drop)]
+pub struct Ran<'a, V: Serve> {
+    /// The run.
+    pub run: Run<'a, V>,
+    /// The worker of each of its turns.
+    pub turns: Turns,
+    /// How the workers' turns ended.
+    pub ending: Ending,
+    /// The workers' passes at the end, for contracts alone: each has its worker's turns in their order.
+    pub passes: Snapshot<Passes<Worked<'a, V>>>,
+}
+
+/// Lets so many workers take the turns of a run, each in a thread of its own, until it is over or there is no memory for a turn;
+/// what is left is the run, and the worker of each of its turns. Workers wait for each other's turns at the desk.
+pub fn run_by_workers<'a, V: Serve + Send, R: Threads + Wait + Sync, G: Gate + Sync>(
+    rt: &R,
+    alloc: Global,
+    run: Run<'a, V>,
+    workers: u32,
+    gate: &G,
+) -> Result<Ran<'a, V>, AllocError>
+    requires some { 1 ≤ workers }
+    requires few { workers ≤ 16 }
+    requires going { IsGoing run.plan }
+    requires fresh { run.journal ≡ [] }
+    requires server { run.server ≡ opening run.plan }
+    ensures plan { IfOk result (λ ran. ran.run.plan ≡ run.entry.plan) }
+    ensures kept { IfOk result (λ ran. IsKept run.entry.plan ran.run.journal) }
+    ensures numbered { IfOk result (λ ran. NumbersSessions ran.run.journal) }
+    ensures order { IfOk result (λ ran. RunOrder run.entry.plan ran.run.journal ran.turns.items workers) }
+    ensures workers { IfOk result (λ ran. DeskList (listed ran.turns.items ran.run.journal) ran.passes.value.items) }
+    ensures numbers { IfOk result (λ ran. All (λ pass. pass.worker < workers) ran.passes.value.items) }
+    ensures over { IfOk result (λ ran. ran.ending ≡ Over → is_over run.entry.plan ran.run.journal ≡ true) }
+    ensures server { IfOk result (λ ran. ran.ending ≡ Over → ran.run.server ≡ state_at run.entry.plan ran.run.journal) }
+{
+    let worked = Worked::open(alloc, run, workers)?;
+    let done = take_turns(rt, alloc, worked, workers, gate)?;
+    let (run, turns) = done.book.stop();
+    Ok(Ran {
+        run,
+        turns,
+        ending: done.ending,
+        passes: done.passes,
+    })
+}
