@@ -17,7 +17,7 @@ use Rattle.migration_program.specs.Verdicts.{verdict_of}
 use Rattle.ghost_laws.specs.Copies.{IsAltered}
 use Rattle.planning_laws.specs.Laws.{migration_of}
 use Rattle.rename_laws.specs.Laws.{IsRename}
-use Rattle.whole_run.specs.Runs.{is_over}
+use Rattle.whole_run.specs.Runs.{is_over, Stops}
 
 -- *Finds the altered table*: where the RENAME is done in some turn of the journal, the new table is then what the plan's
 -- ALTER makes of the migrated one as it stands.
@@ -28,13 +28,14 @@ FindsAltered plan journal =
 
 -- *Whole replay*. Each answer is the plain server's; clients take the lines of their scripts in order, and sessions are lost
 -- where the plan says; each turn asks what was given; the turns go in a replay's order, and each actor's are in its session.
--- There are no more than the plan allows, and no other replay has as many. What clients got and the tables that are left are
--- those of their ended transactions, one at a time, with the ALTER at one instant or not at all. Where its verdict is a
--- revert, the cause stands in the journal.
+-- There are no more than the plan allows, none is taken of a run that is over, and no other replay has as many. What clients
+-- got and the tables that are left are those of their ended transactions, one at a time, with the ALTER at one instant or not
+-- at all. Where its verdict is a revert, the cause stands in the journal.
 pub record IsWholeReplay (plan : PlanData) (journal : List Entry) : Type 0 where
   pub replay : IsReplay plan journal
   pub sessions : KeepsSessions journal
   pub bound : length journal ≤ plan.options.turn_limit
+  pub stops : Stops plan journal
   pub only : (other : List Entry) → IsReplay plan other → length other ≡ length journal → other ≡ journal
   pub serial : IsSerial plan journal
   pub altered : FindsAltered plan journal

@@ -26,40 +26,41 @@ use Rattle.call_endings.specs.Texts.{IsRefusal}
 use Rattle.whole_host.specs.Comings.{IsRead, TellsPlan, ComesTo}
 use Rattle.whole_host.specs.Outcomes.{IsTaken, TakesNone, Comes, status_of}
 use Rattle.whole_host.specs.Promises.{Ends, EndsUnder, PrintsDone, PrintsReport, Replays}
-use Rattle.whole_host.proofs.Taken.{Laws, ends_as, is_taken, tells_alter}
+use Rattle.whole_host.proofs.Taken.{Laws, completes, ends_as, is_taken, tells_alter}
 
 -- THE HEADLINE
 
 none_taken : (Shows : Printed → Type 0) (printed : Option Printed) (turns : List Turn) (journal : List Entry) → TakesNone Shows printed turns journal → (length journal == 0) ≡ false → ⊥
 none_taken Shows printed turns journal none some = let empty : length journal ≡ 0 = ap length none.untaken.no_journal in grind (arith, nat_tests, empty, some)
 
-abbrev replays_of : (source : Taking) (printed : Option Printed) (turns : List Turn) (journal : List Entry) (was : IsRead plans.Replay source printed turns journal) (plan : PlanData) → read was.bytes ≡ Ok plan → IsTaken plan printed turns journal → Replays source turns journal
-replays_of source printed turns journal was plan said taken = record {
+abbrev replays_of : Laws → (source : Taking) (printed : Option Printed) (turns : List Turn) (journal : List Entry) (was : IsRead plans.Replay source printed turns journal) (plan : PlanData) → read was.bytes ≡ Ok plan → IsTaken plan printed turns journal → Replays source turns journal
+replays_of laws source printed turns journal was plan said taken = record {
   bytes = was.bytes;
   whole = was.whole;
   plan = plan;
   accepted = said;
   replay = taken.replay;
+  completes = completes laws plan journal taken.was_read taken.replay;
   turns_are = taken.turns_are;
 }
 
-replays_said : (told : PlanCommand) (source : Taking) (printed : Option Printed) (turns : List Turn) (journal : List Entry) (was : IsRead told source printed turns journal) (said : Result PlanData PlanRefusal) → read was.bytes ≡ said → Comes told said printed turns journal → (length journal == 0) ≡ false → Replays source turns journal
-replays_said plans.Replay source printed turns journal was (Ok plan) is comes some = replays_of source printed turns journal was plan is comes
-replays_said plans.Replay source printed turns journal was (Err refusal) is comes some = absurd (none_taken _ printed turns journal comes some)
-replays_said plans.Check source printed turns journal was (Ok plan) is comes some = absurd (none_taken _ printed turns journal comes some)
-replays_said plans.Check source printed turns journal was (Err refusal) is comes some = absurd (none_taken _ printed turns journal comes some)
+replays_said : Laws → (told : PlanCommand) (source : Taking) (printed : Option Printed) (turns : List Turn) (journal : List Entry) (was : IsRead told source printed turns journal) (said : Result PlanData PlanRefusal) → read was.bytes ≡ said → Comes told said printed turns journal → (length journal == 0) ≡ false → Replays source turns journal
+replays_said laws plans.Replay source printed turns journal was (Ok plan) is comes some = replays_of laws source printed turns journal was plan is comes
+replays_said laws plans.Replay source printed turns journal was (Err refusal) is comes some = absurd (none_taken _ printed turns journal comes some)
+replays_said laws plans.Check source printed turns journal was (Ok plan) is comes some = absurd (none_taken _ printed turns journal comes some)
+replays_said laws plans.Check source printed turns journal was (Err refusal) is comes some = absurd (none_taken _ printed turns journal comes some)
 
-replays_told : (told : PlanCommand) (source : Taking) (printed : Option Printed) (turns : List Turn) (journal : List Entry) → TellsPlan told source printed turns journal → (length journal == 0) ≡ false → Replays source turns journal
-replays_told told source printed turns journal (inl was) some = replays_said told source printed turns journal was (read was.bytes) refl was.comes some
-replays_told told source printed turns journal (inr fault) some = absurd (none_taken _ printed turns journal fault some)
+replays_told : Laws → (told : PlanCommand) (source : Taking) (printed : Option Printed) (turns : List Turn) (journal : List Entry) → TellsPlan told source printed turns journal → (length journal == 0) ≡ false → Replays source turns journal
+replays_told laws told source printed turns journal (inl was) some = replays_said laws told source printed turns journal was (read was.bytes) refl was.comes some
+replays_told laws told source printed turns journal (inr fault) some = absurd (none_taken _ printed turns journal fault some)
 
 -- *Where turns were taken, they are a plan's whole replay*
-pub replays_where_taken : (told : Option Command) (source : Taking) (printed : Option Printed) (turns : List Turn) (journal : List Entry) → ComesTo told source printed turns journal → (length journal == 0) ≡ false → Replays source turns journal
-replays_where_taken None source printed turns journal comes some = absurd (none_taken _ printed turns journal comes some)
-replays_where_taken (Some Check) source printed turns journal comes some = replays_told plans.Check source printed turns journal comes some
-replays_where_taken (Some Replay) source printed turns journal comes some = replays_told plans.Replay source printed turns journal comes some
-replays_where_taken (Some (Run workers)) source printed turns journal comes some = absurd (none_taken _ printed turns journal comes some)
-replays_where_taken (Some (Generate number)) source printed turns journal comes some = absurd (none_taken _ printed turns journal comes some)
+pub replays_where_taken : Laws → (told : Option Command) (source : Taking) (printed : Option Printed) (turns : List Turn) (journal : List Entry) → ComesTo told source printed turns journal → (length journal == 0) ≡ false → Replays source turns journal
+replays_where_taken laws None source printed turns journal comes some = absurd (none_taken _ printed turns journal comes some)
+replays_where_taken laws (Some Check) source printed turns journal comes some = replays_told laws plans.Check source printed turns journal comes some
+replays_where_taken laws (Some Replay) source printed turns journal comes some = replays_told laws plans.Replay source printed turns journal comes some
+replays_where_taken laws (Some (Run workers)) source printed turns journal comes some = absurd (none_taken _ printed turns journal comes some)
+replays_where_taken laws (Some (Generate number)) source printed turns journal comes some = absurd (none_taken _ printed turns journal comes some)
 
 -- WHAT IS PRINTED WHOLE
 
@@ -123,7 +124,7 @@ module _ (words : List (List ℕ)) (source : Taking) (sink : Giving) (turns : Li
     report_given verdict same =
         let tells = tells_alter laws plan journal taken.was_read taken.replay.replay.faithful taken.replay.replay.follows in
         record {
-          replays = replays_of source (Some printed) turns journal was plan said taken;
+          replays = replays_of laws source (Some printed) turns journal was plan said taken;
           taken = is_taken plan journal (laws.allow was.bytes plan said).turns taken.reports.over;
           over = ends_as plan journal verdict tells taken.reports.over taken.replay.bound same;
           verdict_is = same;

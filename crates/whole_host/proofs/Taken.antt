@@ -12,19 +12,31 @@ use Rattle.migration_program.specs.Programs.{Follows}
 use Rattle.migration_program.specs.Tools.{moment}
 use Rattle.migration_program.specs.Verdicts.{has_ended, verdict_of}
 use Rattle.machine_laws.specs.Laws.{TellsAlter, VerdictsTellTheAlter}
-use Rattle.accepted_laws.specs.Laws.{WasRead, ReadPlansAreRunnable}
+use Rattle.accepted_laws.specs.Laws.{WasRead, ReadPlansAreRunnable, ReadPlansAreSerial}
+use Rattle.complete_laws.specs.Quiet.{QuietRunsAreDone}
 use Rattle.option_laws.specs.Laws.{ReadOptionsAllow}
 use Rattle.whole_run.specs.Runs.{is_over}
-use Rattle.whole_host.specs.Promises.{EndsBy}
+use Rattle.plan_replays.specs.Replays.{IsWholeReplay}
+use Rattle.whole_host.specs.Promises.{Completes, EndsBy}
 
 -- the laws of verdicts, and what they ask of a plan
 pub record Laws : Type 0 where
   pub tell : VerdictsTellTheAlter
   pub runnable : ReadPlansAreRunnable
+  pub serial : ReadPlansAreSerial
+  pub quiet : QuietRunsAreDone
   pub allow : ReadOptionsAllow
+
+abbrev pub laws_by : VerdictsTellTheAlter → ReadPlansAreRunnable → ReadPlansAreSerial → QuietRunsAreDone → ReadOptionsAllow → Laws
+laws_by tell runnable serial quiet allow = record { tell = tell; runnable = runnable; serial = serial; quiet = quiet; allow = allow }
 
 pub tells_alter : Laws → (plan : PlanData) (journal : List Entry) → WasRead plan → IsFaithful plan journal → Follows plan journal → has_ended plan journal ≡ true → TellsAlter plan journal
 tells_alter laws plan journal was faithful follows ended = laws.tell plan journal (laws.runnable plan was).fitting (laws.runnable plan was).stands faithful follows ended
+
+-- *Completes*
+pub completes : Laws → (plan : PlanData) (journal : List Entry) → WasRead plan → IsWholeReplay plan journal → Completes plan journal
+completes laws plan journal was whole is_quiet images within ended =
+    laws.quiet plan journal is_quiet images (laws.runnable plan was) (laws.serial was.bytes plan was.is) (record { faithful = whole.replay.faithful; planned = whole.replay.planned; follows = whole.replay.follows; sessions = whole.sessions }) within ended
 
 -- HOW IT ENDED
 

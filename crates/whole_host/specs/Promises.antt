@@ -15,6 +15,7 @@ use Rattle.journal_words.specs.Journals.{state_at}
 use Rattle.migration_program.specs.Failures.{Stands}
 use Rattle.migration_program.specs.Verdicts.{has_ended, verdict_of}
 use Rattle.machine_laws.specs.Laws.{TellsAlter}
+use Rattle.complete_laws.specs.Quiet.{IsQuiet, RowsHaveImages, IsWithinLimits}
 use Rattle.report_print.specs.Reports.{report}
 use Rattle.command_words.specs.Commands.{command}
 use Rattle.command_words.specs.declared.command.Command.{Command}
@@ -31,6 +32,11 @@ use Rattle.whole_host.specs.Comings.{ComesTo}
 use Rattle.whole_host.specs.Outcomes.{IsUntaken, turns_of}
 use Rattle.plan_replays.specs.Replays.{IsWholeReplay}
 
+-- *Completes*: where a plan has no client, no command and no loss, each row of its table has an image, no limit is met and the
+-- run has ended, the ALTER was done.
+abbrev pub Completes : PlanData → List Entry → Type 0
+Completes plan journal = IsQuiet plan → RowsHaveImages plan → IsWithinLimits plan journal → has_ended plan journal ≡ true → verdict_of plan journal ≡ verdicts.Done
+
 -- *The headline*, of the journal that a call leaves: the source was read whole, its bytes are an accepted plan, and the
 -- journal is that of the plan's whole replay.
 pub record Replays (source : Taking) (turns : List Turn) (journal : List Entry) : Type 0 where
@@ -39,6 +45,7 @@ pub record Replays (source : Taking) (turns : List Turn) (journal : List Entry) 
   pub plan : PlanData
   pub accepted : read bytes ≡ Ok plan
   pub replay : IsWholeReplay plan journal
+  pub completes : Completes plan journal
   pub turns_are : turns ≡ turns_of journal
 
 -- Where the verdict is done or reverted, the run has ended; where it is unfinished, the run hasn't, and took as many turns

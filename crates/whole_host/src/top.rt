@@ -9,9 +9,10 @@ ghost use Rattle.whole_host.specs.Comings.{ComesTo, TellsPlan};
 ghost use Rattle.whole_host.specs.Promises.{Ends, Replays, PrintsReport, PrintsSchema, PrintsWorkload, PrintsRevert, PrintsUnfinished, PrintsRefusal, PrintsUsage, PrintsReadFault, PrintsPrefix, PrintsNone};
 
 use crate::outcome::{Outcome, outcome_of, untaken};
-use accepted_laws::laws::read_plans_are_runnable;
+use accepted_laws::laws::{read_plans_are_runnable, read_plans_are_serial};
 use call_endings::{PlanCommand, Turns, give, read_fault_shown, usage_shown, workload_shown};
 use command_words::{Command, Line};
+use complete_laws::laws::quiet_runs_are_done;
 use gho_edges::{Gate, ReadFault, Sink, Source, read_whole};
 use machine_laws::laws::verdicts_tell_the_alter;
 use option_laws::laws::read_options_allow;
@@ -70,7 +71,9 @@ fn ending<S: Source, K: Sink>(alloc: Global, line: &Line, source: &mut S, sink: 
 {
     verdicts_tell_the_alter();
     read_plans_are_runnable();
+    read_plans_are_serial();
     read_options_allow();
+    quiet_runs_are_done();
     let outcome = come_to(alloc, line, source);
     let status = give(&outcome.printed, sink);
     Ended {

@@ -26,7 +26,7 @@ use Rattle.due_turns.specs.Due.{due, next_entry}
 use Rattle.due_turns.proofs.Coming.{Comes, Cuts, Gives, comes, given_uncut}
 use Rattle.due_turns.proofs.Keeping.{turns_kept, turns_numbered}
 use Rattle.migration_program.specs.Verdicts.{has_ended}
-use Rattle.whole_run.specs.Runs.{RunView, is_over, TakesTurn, IsUnmoved}
+use Rattle.whole_run.specs.Runs.{RunView, is_over, TakesTurn, IsUnmoved, Stops}
 use Rattle.whole_replay.specs.declared.place.Place.{Place}
 use Rattle.whole_replay.specs.declared.place.NextTurn.{NextTurn}
 use Rattle.whole_replay.specs.Places.{queue_of, choice_of}
@@ -57,12 +57,16 @@ order_more : (plan : PlanData) (journal : List Entry) (entry : Entry) → Replay
 unfolding ReplayOrder
 order_more plan journal entry order next = Along-more (λ (before : List Entry) (one : Entry). IsNext (is_cut one.asked) (next_actor plan before) one.actor) [] journal entry order next
 
+stops_more : (plan : PlanData) (journal : List Entry) (entry : Entry) → Stops plan journal → is_over plan journal ≡ false → Stops plan (journal ++ entry ∷ [])
+unfolding Stops
+stops_more plan journal entry stops going = Along-more (λ (before : List Entry) (one : Entry). is_over plan before ≡ false) [] journal entry stops going
+
 -- ONE TURN MORE
 
 self_behind : (state : State) → IsBehind state state
 self_behind state = record { made = omega arith; same = refl }
 
-module _ (plan : PlanData) (journal : List Entry) (actor : Actor) (turn : Turn) (kept : IsKept plan journal) (order : ReplayOrder plan journal) (numbered : NumbersSessions journal) (is_due : due plan journal actor ≡ Some turn) where
+module _ (plan : PlanData) (journal : List Entry) (actor : Actor) (turn : Turn) (kept : IsKept plan journal) (order : ReplayOrder plan journal) (numbered : NumbersSessions journal) (is_due : due plan journal actor ≡ Some turn) (stops : Stops plan journal) (going : is_over plan journal ≡ false) where
   abbrev entry : Entry
   entry = next_entry journal (state_at plan journal) turn
 
@@ -86,6 +90,7 @@ module _ (plan : PlanData) (journal : List Entry) (actor : Actor) (turn : Turn) 
     kept = kept_more;
     order = order_more plan journal entry order next;
     numbered = numbered_more;
+    stops = stops_more plan journal entry stops going;
     server = sym (state_more (opening plan) journal entry);
     queue = queue ∙ sym (queue_more plan journal entry);
   }
@@ -127,7 +132,7 @@ module _ (plan : PlanData) (journal : List Entry) (actor : Actor) (turn : Turn) 
 abbrev view : RunView → State → Turn → RunView
 view before server turn = record { plan = before.plan; journal = before.journal ++ next_entry before.journal server turn ∷ []; server = after_entry server (next_entry before.journal server turn) }
 
-module _ (before : RunView) (actor : Actor) (after : RunView) (old : Place) (is : IsReplaying before old) (takes : TakesTurn before actor after) where
+module _ (before : RunView) (actor : Actor) (after : RunView) (old : Place) (is : IsReplaying before old) (takes : TakesTurn before actor after) (going : is_over before.plan before.journal ≡ false) where
   after_is : after ≡ view before (state_at before.plan before.journal) takes.turn
   after_is = takes.taken ∙ ap (λ (s : State). view before s takes.turn) is.server
 
@@ -140,13 +145,13 @@ module _ (before : RunView) (actor : Actor) (after : RunView) (old : Place) (is 
 
   -- by a loss between calls
   pub cut_taken : is_some (cut_due before.plan before.journal) ≡ true → GoesOn before after old
-  cut_taken cut = gone_on old (cut_goes before.plan before.journal actor takes.turn is.kept is.order is.numbered takes.is_due old cut is.queue)
+  cut_taken cut = gone_on old (cut_goes before.plan before.journal actor takes.turn is.kept is.order is.numbered takes.is_due is.stops going old cut is.queue)
 
   -- by the next actor's turn
   pub turn_taken : (next : NextTurn) → is_some (cut_due before.plan before.journal) ≡ false → Some (choice_of before.plan next) ≡ chosen before.plan before.journal (queue_of before.plan old) → next.actor ≡ actor → GoesOn before after next.behind
   turn_taken next uncut chooses same =
       gone_on next.behind
-      (turn_goes before.plan before.journal actor takes.turn is.kept is.order is.numbered takes.is_due next.behind (choice_of before.plan next) uncut (sym (chooses ∙ ap (chosen before.plan before.journal) is.queue)) same refl)
+      (turn_goes before.plan before.journal actor takes.turn is.kept is.order is.numbered takes.is_due is.stops going next.behind (choice_of before.plan next) uncut (sym (chooses ∙ ap (chosen before.plan before.journal) is.queue)) same refl)
 
 -- nobody's turn comes next
 pub stalls : (run : RunView) (place : Place) → IsReplaying run place → is_some (cut_due run.plan run.journal) ≡ false → None ≡ chosen run.plan run.journal (queue_of run.plan place) → IsStalled run.plan run.journal
@@ -170,11 +175,12 @@ queue_begin plan count is = both (words_whole plan.turns) (left_none (actors pla
     both first second = λ i. record { words = first i; round = second i }
 
 pub begins : (run : RunView) (count : ℕ) → IsFresh run → count ≡ length (actors run.plan) → IsReplaying run (record { run = 0; used = 0; actor = count })
-unfolding ReplayOrder NumbersSessions state_behind
+unfolding ReplayOrder NumbersSessions Stops state_behind
 begins run count fresh is = record {
   kept = subst (IsKept run.plan) (sym fresh.journal) (kept_none run.plan);
   order = subst (ReplayOrder run.plan) (sym fresh.journal) tt;
   numbered = subst NumbersSessions (sym fresh.journal) tt;
+  stops = subst (Stops run.plan) (sym fresh.journal) tt;
   server = fresh.server ∙ ap (state_at run.plan) (sym fresh.journal);
   queue = queue_begin run.plan count is ∙ ap (queue_at run.plan) (sym fresh.journal);
 }
@@ -186,6 +192,12 @@ is_replay run place is = record { faithful = is.kept.faithful; planned = is.kept
 pub still_replay : (before after : RunView) (place : Place) → IsReplaying before place → IsUnmoved before after → IsReplay after.plan after.journal
 still_replay before after place is still =
     subst (λ (p : PlanData). IsReplay p after.journal) (sym still.plan) (subst (IsReplay before.plan) (sym still.journal) (is_replay before place is))
+
+pub it_stops : (run : RunView) (place : Place) → IsReplaying run place → Stops run.plan run.journal
+it_stops run place is = is.stops
+
+pub still_stops : (before after : RunView) (place : Place) → IsReplaying before place → IsUnmoved before after → Stops after.plan after.journal
+still_stops before after place is still = subst (λ (p : PlanData). Stops p after.journal) (sym still.plan) (subst (Stops before.plan) (sym still.journal) is.stops)
 
 or_true : (a : Bool) → (a || true) ≡ true
 or_true true = refl

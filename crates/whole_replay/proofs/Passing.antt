@@ -73,7 +73,7 @@ ready_is_due plan journal actor uncut ready none = by (cut_due plan journal) unc
 
 -- a loss between calls
 pub pass_cut : (before : RunView) (place : Place) (stepped : Stepped) (after : RunView) → IsReplaying before place → is_some (cut_due before.plan before.journal) ≡ true → Steps before Op stepped after → Passes before stepped after place
-pass_cut before place Took after is cut steps = cut_taken before Op after place is steps.1 cut
+pass_cut before place Took after is cut steps = cut_taken before Op after place is steps.1 steps.0 cut
 pass_cut before place Idle after is cut steps = absurd (cut_is_due before.plan before.journal Op cut steps.1)
 pass_cut before place Over after is cut steps = steps
 pass_cut before place NoMemory after is cut steps = steps.2
@@ -81,7 +81,7 @@ pass_cut before place NoMemory after is cut steps = steps.2
 -- the next actor's turn
 pub pass_turn : (before : RunView) (place : Place) (next : NextTurn) (stepped : Stepped) (after : RunView) → IsReplaying before place → is_some (cut_due before.plan before.journal) ≡ false → Some (choice_of before.plan next) ≡ chosen before.plan before.journal (queue_of before.plan place)
     → Steps before next.actor stepped after → Passes before stepped after next.behind
-pass_turn before place next Took after is uncut chooses steps = turn_taken before next.actor after place is steps.1 next uncut chooses refl
+pass_turn before place next Took after is uncut chooses steps = turn_taken before next.actor after place is steps.1 steps.0 next uncut chooses refl
 pass_turn before place next Idle after is uncut chooses steps =
     absurd (ready_is_due before.plan before.journal next.actor uncut (chosen_ready before.plan before.journal (queue_of before.plan place) (choice_of before.plan next) (sym chooses)) steps.1)
 pass_turn before place next Over after is uncut chooses steps = steps

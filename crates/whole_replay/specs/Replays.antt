@@ -9,7 +9,7 @@ use Rattle.migration_program.specs.Orders.{queue_at, next_actor, ReplayOrder}
 use Rattle.run_laws.specs.Kept.{IsKept}
 use Rattle.whole_run.specs.declared.run.Stepped.{Stepped}
 use Rattle.whole_run.specs.declared.run.Stepped.TheVariants.{Took, Idle, Over, NoMemory}
-use Rattle.whole_run.specs.Runs.{RunView, is_over, IsUnmoved}
+use Rattle.whole_run.specs.Runs.{RunView, is_over, IsUnmoved, Stops}
 use Rattle.whole_replay.specs.declared.place.Place.{Place}
 use Rattle.whole_replay.specs.Places.{queue_of}
 
@@ -23,6 +23,7 @@ pub record IsReplaying (run : RunView) (place : Place) : Type 0 where
   pub kept : IsKept run.plan run.journal
   pub order : ReplayOrder run.plan run.journal
   pub numbered : NumbersSessions run.journal
+  pub stops : Stops run.plan run.journal
   pub server : run.server ≡ state_at run.plan run.journal
   pub queue : queue_of run.plan place ≡ queue_at run.plan run.journal
 

@@ -4,7 +4,7 @@ ghost use Rattle.std.specs.Prelude.{◌≡◌, ◌≢◌, None, true};
 ghost use Rattle.journal_words.specs.Journals.{state_at};
 ghost use Rattle.journal_words.specs.Keeping.{cut_due};
 ghost use Rattle.migration_program.specs.Orders.{next_actor, IsReplay};
-ghost use Rattle.whole_run.specs.Runs.{is_over};
+ghost use Rattle.whole_run.specs.Runs.{is_over, Stops};
 ghost use Rattle.whole_replay.specs.declared.replaying.Replayed.TheVariants as replayed;
 ghost use Rattle.whole_replay.specs.Replays.{IsFresh, IsReplaying, Passes, IsStalled};
 
@@ -55,11 +55,12 @@ fn pass<V: Serve>(run: &mut Run<'_, V>, place: &mut Place) -> Stepped
 
 /// Takes the turns of the plan's replay until its run is over, or nobody is ready. Where there is no memory for a turn, those
 /// before it stay.
-#[tactic(auto, using(crate::proofs::GoingOn::begins, crate::proofs::GoingOn::is_replay, crate::proofs::GoingOn::still_replay))]
+#[tactic(auto, using(crate::proofs::GoingOn::begins, crate::proofs::GoingOn::is_replay, crate::proofs::GoingOn::still_replay, crate::proofs::GoingOn::it_stops, crate::proofs::GoingOn::still_stops))]
 pub fn replay<V: Serve>(run: &mut Run<'_, V>) -> Replayed
     requires { IsFresh run.old }
     ensures plan { run.new.plan ≡ run.old.plan }
     ensures replay { IsReplay run.new.plan run.new.journal }
+    ensures stops { Stops run.new.plan run.new.journal }
     ensures over { result ≡ replayed.Over → is_over run.new.plan run.new.journal ≡ true }
     ensures stalled { result ≡ replayed.Stalled → IsStalled run.new.plan run.new.journal }
     ensures server { result ≢ replayed.NoMemory → run.new.server ≡ state_at run.new.plan run.new.journal }

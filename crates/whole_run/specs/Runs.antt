@@ -1,6 +1,7 @@
 -- *Run*: a plan's turns taken one by one on a server, each of them written into the journal. (This project's rule.)
 use Rattle.std.specs.Prelude.{◌≡◌, nat_le, Bool, true, false, ◌||◌, is_some, List, [], ◌∷◌, ◌++◌, length, Some, None}
 use Rattle.script_text.specs.declared.actor.Actor.{Actor}
+use Rattle.plain_server.specs.Along.{Along}
 use Rattle.plain_server.specs.declared.entry.Entry.{Entry}
 use Rattle.plain_server.specs.States.{State}
 use Rattle.plan_words.specs.PlanData.{PlanData}
@@ -23,6 +24,10 @@ pub record RunView : Type 0 where
 -- *Over*: no further turn is taken, since the run has ended, or has as many turns as the plan allows
 unfoldable pub is_over : PlanData → List Entry → Bool
 is_over plan journal = has_ended plan journal || nat_le plan.options.turn_limit (length journal)
+
+-- *Stops*: no turn was taken of a run that was over already
+unfoldable pub Stops : PlanData → List Entry → Type 0
+Stops plan journal = Along (λ before entry. is_over plan before ≡ false) [] journal
 
 -- the run behind a turn: the server answered it
 abbrev pub with_turn : RunView → Turn → RunView
