@@ -47,7 +47,6 @@ fn verdict_after<V: Serve>(run: &Run<'_, V>, ending: Ending) -> Option<Verdict>
 }
 
 /// Runs a plan that was read by so many workers, on a server at its opening.
-#[tactic(auto, using(crate::proofs::WholeWorks::whole_of))]
 fn work_on<V: Serve + Send, R: Threads + Wait + Sync, G: Gate + Sync>(
     rt: &R,
     alloc: Global,

@@ -1,6 +1,7 @@
 -- How a call ends, from what its words and its source come to and what was given of it.
 use Rattle.std.proofs.Common.{◌≡◌, ℕ, ◌==◌, ◌≤◌, true, false, List, [], ◌∷◌, length, Option, Some, None, Result, Ok, Err, ◌⊎◌, inl, inr, refl, sym, ap, ◌∙◌, subst, arith}
 use Rattle.std.specs.Io.KnownBytes.{Appends}
+use Rattle.std.proofs.lemmas.Bool.{true≢false}
 use Rattle.std.proofs.lemmas.Bool.Decides.{nat_tests}
 use Rattle.plain_server.specs.declared.entry.Entry.{Entry}
 use Rattle.plain_server.specs.declared.outcome.Verdict.{Verdict}
@@ -20,47 +21,49 @@ use Rattle.call_endings.specs.declared.printed.Printed.{Printed}
 use Rattle.call_endings.specs.declared.status.Status.{Status}
 use Rattle.call_endings.specs.declared.status.Status.TheVariants as statuses
 use Rattle.call_endings.specs.declared.turn.Turn.{Turn}
-use Rattle.call_endings.specs.Endings.{Taking, Giving, IsReadFault, IsUsage, IsWorkload, Gives, asked, is_built, reads_plan, status_number, IsUsageOrLost}
+use Rattle.call_endings.specs.Endings.{Taking, Giving, IsReadFault, IsUsage, IsWorkload, Gives, asked, reads_plan, status_number, IsUsageOrLost}
 use Rattle.call_endings.specs.Checks.{IsSchema}
 use Rattle.call_endings.specs.Texts.{IsRefusal}
 use Rattle.whole_host.specs.Comings.{IsRead, TellsPlan, ComesTo}
 use Rattle.whole_host.specs.Outcomes.{IsTaken, TakesNone, Comes, status_of}
-use Rattle.whole_host.specs.Promises.{Ends, EndsUnder, PrintsDone, PrintsReport, Replays}
-use Rattle.whole_host.proofs.Taken.{Laws, completes, ends_as, is_taken, tells_alter}
+use Rattle.whole_host.specs.Promises.{Ends, EndsUnder, PrintsDone, PrintsReport, Runs, RunsBy}
+use Rattle.whole_host.proofs.Taken.{Laws, KeepsAll, keeps_all, completes, ends_as, is_taken, tells_alter}
 
 -- THE HEADLINE
 
 none_taken : (Shows : Printed → Type 0) (printed : Option Printed) (turns : List Turn) (journal : List Entry) → TakesNone Shows printed turns journal → (length journal == 0) ≡ false → ⊥
 none_taken Shows printed turns journal none some = let empty : length journal ≡ 0 = ap length none.untaken.no_journal in grind (arith, nat_tests, empty, some)
 
-abbrev replays_of : Laws → (source : Taking) (printed : Option Printed) (turns : List Turn) (journal : List Entry) (was : IsRead plans.Replay source printed turns journal) (plan : PlanData) → read was.bytes ≡ Ok plan → IsTaken plan printed turns journal → Replays source turns journal
-replays_of laws source printed turns journal was plan said taken = record {
+abbrev runs_of : Laws → (told : PlanCommand) (source : Taking) (printed : Option Printed) (turns : List Turn) (journal : List Entry) (was : IsRead told source printed turns journal) (plan : PlanData) → read was.bytes ≡ Ok plan → IsTaken told plan printed turns journal → Runs told source turns journal
+runs_of laws told source printed turns journal was plan said taken = record {
   bytes = was.bytes;
   whole = was.whole;
   plan = plan;
   accepted = said;
-  replay = taken.replay;
-  completes = completes laws plan journal taken.was_read taken.replay;
-  turns_are = taken.turns_are;
+  takes = taken.takes;
+  completes = completes laws plan journal taken.was_read (keeps_all told plan turns journal taken.takes).kept;
 }
 
-replays_said : Laws → (told : PlanCommand) (source : Taking) (printed : Option Printed) (turns : List Turn) (journal : List Entry) (was : IsRead told source printed turns journal) (said : Result PlanData PlanRefusal) → read was.bytes ≡ said → Comes told said printed turns journal → (length journal == 0) ≡ false → Replays source turns journal
-replays_said laws plans.Replay source printed turns journal was (Ok plan) is comes some = replays_of laws source printed turns journal was plan is comes
-replays_said laws plans.Replay source printed turns journal was (Err refusal) is comes some = absurd (none_taken _ printed turns journal comes some)
-replays_said laws plans.Check source printed turns journal was (Ok plan) is comes some = absurd (none_taken _ printed turns journal comes some)
-replays_said laws plans.Check source printed turns journal was (Err refusal) is comes some = absurd (none_taken _ printed turns journal comes some)
+runs_said : Laws → (told : PlanCommand) (source : Taking) (printed : Option Printed) (turns : List Turn) (journal : List Entry) (was : IsRead told source printed turns journal) (said : Result PlanData PlanRefusal) → read was.bytes ≡ said → Comes told said printed turns journal → (length journal == 0) ≡ false → Runs told source turns journal
+runs_said laws plans.Replay source printed turns journal was (Ok plan) is comes some = runs_of laws plans.Replay source printed turns journal was plan is comes
+runs_said laws (plans.Run workers) source printed turns journal was (Ok plan) is comes some = runs_of laws (plans.Run workers) source printed turns journal was plan is comes
+runs_said laws plans.Check source printed turns journal was (Ok plan) is comes some = absurd (none_taken _ printed turns journal comes some)
+runs_said laws plans.Replay source printed turns journal was (Err refusal) is comes some = absurd (none_taken _ printed turns journal comes some)
+runs_said laws (plans.Run workers) source printed turns journal was (Err refusal) is comes some = absurd (none_taken _ printed turns journal comes some)
+runs_said laws plans.Check source printed turns journal was (Err refusal) is comes some = absurd (none_taken _ printed turns journal comes some)
 
-replays_told : Laws → (told : PlanCommand) (source : Taking) (printed : Option Printed) (turns : List Turn) (journal : List Entry) → TellsPlan told source printed turns journal → (length journal == 0) ≡ false → Replays source turns journal
-replays_told laws told source printed turns journal (inl was) some = replays_said laws told source printed turns journal was (read was.bytes) refl was.comes some
-replays_told laws told source printed turns journal (inr fault) some = absurd (none_taken _ printed turns journal fault some)
+runs_told : Laws → (told : PlanCommand) (source : Taking) (printed : Option Printed) (turns : List Turn) (journal : List Entry) → TellsPlan told source printed turns journal → (length journal == 0) ≡ false → Runs told source turns journal
+runs_told laws told source printed turns journal (inl was) some = runs_said laws told source printed turns journal was (read was.bytes) refl was.comes some
+runs_told laws told source printed turns journal (inr fault) some = absurd (none_taken _ printed turns journal fault some)
 
--- *Where turns were taken, they are a plan's whole replay*
-pub replays_where_taken : Laws → (told : Option Command) (source : Taking) (printed : Option Printed) (turns : List Turn) (journal : List Entry) → ComesTo told source printed turns journal → (length journal == 0) ≡ false → Replays source turns journal
-replays_where_taken laws None source printed turns journal comes some = absurd (none_taken _ printed turns journal comes some)
-replays_where_taken laws (Some Check) source printed turns journal comes some = replays_told laws plans.Check source printed turns journal comes some
-replays_where_taken laws (Some Replay) source printed turns journal comes some = replays_told laws plans.Replay source printed turns journal comes some
-replays_where_taken laws (Some (Run workers)) source printed turns journal comes some = absurd (none_taken _ printed turns journal comes some)
-replays_where_taken laws (Some (Generate number)) source printed turns journal comes some = absurd (none_taken _ printed turns journal comes some)
+-- *Where turns were taken, they are a plan's whole replay or whole run*
+pub runs_where_taken : Laws → (words : List (List ℕ)) (told : Option Command) (source : Taking) (printed : Option Printed) (turns : List Turn) (journal : List Entry) → command words ≡ told → ComesTo told source printed turns journal → (length journal == 0) ≡ false → RunsBy words source turns journal
+runs_where_taken laws words None source printed turns journal is comes some = absurd (none_taken _ printed turns journal comes some)
+runs_where_taken laws words (Some Check) source printed turns journal is comes some = record { told = plans.Check; command_is = is; runs = runs_told laws plans.Check source printed turns journal comes some }
+runs_where_taken laws words (Some Replay) source printed turns journal is comes some = record { told = plans.Replay; command_is = is; runs = runs_told laws plans.Replay source printed turns journal comes some }
+runs_where_taken laws words (Some (Run workers)) source printed turns journal is comes some =
+    record { told = plans.Run workers; command_is = is; runs = runs_told laws (plans.Run workers) source printed turns journal comes some }
+runs_where_taken laws words (Some (Generate number)) source printed turns journal is comes some = absurd (none_taken _ printed turns journal comes some)
 
 -- WHAT IS PRINTED WHOLE
 
@@ -77,8 +80,9 @@ module _ (words : List (List ℕ)) (source : Taking) (sink : Giving) (turns : Li
   reads_by : (told : PlanCommand) → command words ≡ Some (asked told) → reads_plan (command words) ≡ true
   reads_by plans.Check is = rw is refl
   reads_by plans.Replay is = rw is refl
+  reads_by (plans.Run workers) is = rw is refl
 
-  usage_under : (printed : Printed) → is_built (command words) ≡ false → Gave printed → TakesNone (IsUsage source) (Some printed) turns journal → Under printed.status
+  usage_under : (printed : Printed) → command words ≡ None → Gave printed → TakesNone (IsUsage source) (Some printed) turns journal → Under printed.status
   usage_under printed faulty given comes =
       subst Under (sym comes.shows.status_is) (record { faulty = faulty; untaken = comes.untaken; takes_none = comes.shows.takes_none; given = text_given printed _ comes.shows.text_is given })
 
@@ -119,14 +123,22 @@ module _ (words : List (List ℕ)) (source : Taking) (sink : Giving) (turns : Li
         untaken = comes.untaken;
       })
 
-  module _ (laws : Laws) (printed : Printed) (was : IsRead plans.Replay source (Some printed) turns journal) (plan : PlanData) (is : command words ≡ Some Replay) (said : read was.bytes ≡ Ok plan) (given : Gave printed) (taken : IsTaken plan (Some printed) turns journal) where
-    report_given : (verdict : Verdict) → verdict_of plan journal ≡ verdict → PrintsReport verdict source sink turns journal
+  printed_done : (told : PlanCommand) → PrintsReport told verdicts.Done source sink turns journal → PrintsDone (Some (asked told)) source sink turns journal
+  printed_done plans.Check prints = absurd prints.runs.takes
+  printed_done plans.Replay prints = prints
+  printed_done (plans.Run workers) prints = prints
+
+  module _ (laws : Laws) (told : PlanCommand) (printed : Printed) (was : IsRead told source (Some printed) turns journal) (plan : PlanData) (is : command words ≡ Some (asked told)) (said : read was.bytes ≡ Ok plan) (given : Gave printed) (taken : IsTaken told plan (Some printed) turns journal) where
+    all : KeepsAll plan journal
+    all = keeps_all told plan turns journal taken.takes
+
+    report_given : (verdict : Verdict) → verdict_of plan journal ≡ verdict → PrintsReport told verdict source sink turns journal
     report_given verdict same =
-        let tells = tells_alter laws plan journal taken.was_read taken.replay.replay.faithful taken.replay.replay.follows in
+        let tells = tells_alter laws plan journal taken.was_read all.kept.faithful all.kept.follows in
         record {
-          replays = replays_of laws source (Some printed) turns journal was plan said taken;
+          runs = runs_of laws told source (Some printed) turns journal was plan said taken;
           taken = is_taken plan journal (laws.allow was.bytes plan said).turns taken.reports.over;
-          over = ends_as plan journal verdict tells taken.reports.over taken.replay.bound same;
+          over = ends_as plan journal verdict tells taken.reports.over all.bound same;
           verdict_is = same;
           tells = tells;
           given = text_given printed _ (taken.reports.text_is ∙ ap (λ (v : Verdict). report plan journal v (state_at plan journal).tables) same) given;
@@ -134,23 +146,26 @@ module _ (words : List (List ℕ)) (source : Taking) (sink : Giving) (turns : Li
 
     verdict_under : (verdict : Verdict) → verdict_of plan journal ≡ verdict → printed.status ≡ status_of verdict → Under printed.status
     unfolding report_given
-    verdict_under verdicts.Done same status = done_under (Some Replay) printed is status (report_given verdicts.Done same)
-    verdict_under verdicts.Unfinished same status = subst Under (sym status) (record { command_is = is; prints = report_given verdicts.Unfinished same })
+    verdict_under verdicts.Done same status = done_under (Some (asked told)) printed is status (printed_done told (report_given verdicts.Done same))
+    verdict_under verdicts.Unfinished same status = subst Under (sym status) (record { told = told; command_is = is; prints = report_given verdicts.Unfinished same })
     verdict_under (verdicts.Reverted cause) same status =
         subst Under (sym status) (record {
+          told = told;
           command_is = is;
           cause = cause;
           prints = report_given (verdicts.Reverted cause) same;
-          stands = taken.replay.causes cause same;
+          stands = all.causes cause same;
         })
 
     report_under : Under printed.status
     report_under = verdict_under (verdict_of plan journal) refl taken.reports.status_is
 
   said_under : Laws → (told : PlanCommand) (printed : Printed) (was : IsRead told source (Some printed) turns journal) (said : Result PlanData PlanRefusal) → command words ≡ Some (asked told) → read was.bytes ≡ said → Gave printed → Comes told said (Some printed) turns journal → Under printed.status
-  said_under laws plans.Replay printed was (Ok plan) is said given comes = report_under laws printed was plan is said given comes
+  said_under laws plans.Replay printed was (Ok plan) is said given comes = report_under laws plans.Replay printed was plan is said given comes
+  said_under laws (plans.Run workers) printed was (Ok plan) is said given comes = report_under laws (plans.Run workers) printed was plan is said given comes
   said_under laws plans.Check printed was (Ok plan) is said given comes = schema_under printed was plan is said given comes
   said_under laws plans.Replay printed was (Err refusal) is said given comes = refusal_under plans.Replay printed was refusal is said given comes
+  said_under laws (plans.Run workers) printed was (Err refusal) is said given comes = refusal_under (plans.Run workers) printed was refusal is said given comes
   said_under laws plans.Check printed was (Err refusal) is said given comes = refusal_under plans.Check printed was refusal is said given comes
 
   plan_under : Laws → (told : PlanCommand) (printed : Printed) → command words ≡ Some (asked told) → Gave printed → TellsPlan told source (Some printed) turns journal → Under printed.status
@@ -158,8 +173,8 @@ module _ (words : List (List ℕ)) (source : Taking) (sink : Giving) (turns : Li
   plan_under laws told printed is given (inr fault) = fault_under told printed is given fault
 
   whole_under : Laws → (told : Option Command) (printed : Printed) → command words ≡ told → Gave printed → ComesTo told source (Some printed) turns journal → Under printed.status
-  whole_under laws None printed is given comes = usage_under printed (rw is refl) given comes
-  whole_under laws (Some (Run workers)) printed is given comes = usage_under printed (rw is refl) given comes
+  whole_under laws None printed is given comes = usage_under printed is given comes
+  whole_under laws (Some (Run workers)) printed is given comes = plan_under laws (plans.Run workers) printed is given comes
   whole_under laws (Some (Generate number)) printed is given comes = workload_under number printed is given comes
   whole_under laws (Some Check) printed is given comes = plan_under laws plans.Check printed is given comes
   whole_under laws (Some Replay) printed is given comes = plan_under laws plans.Replay printed is given comes
@@ -175,33 +190,25 @@ module _ (words : List (List ℕ)) (source : Taking) (sink : Giving) (turns : Li
 
   -- FAULTY WORDS
 
-  not_done : (told : Option Command) → is_built told ≡ false → PrintsDone told source sink turns journal → ⊥
-  not_done None faulty prints = prints
-  not_done (Some Check) faulty prints = cc
-  not_done (Some Replay) faulty prints = cc
-  not_done (Some (Run workers)) faulty prints = prints
-  not_done (Some (Generate number)) faulty prints = cc
+  not_done : command words ≡ None → PrintsDone (command words) source sink turns journal → ⊥
+  not_done none prints = subst (λ (told : Option Command). PrintsDone told source sink turns journal) none prints
 
-  not_read : (told : Option Command) → is_built told ≡ false → reads_plan told ≡ true → ⊥
-  not_read None faulty reads = cc
-  not_read (Some Check) faulty reads = cc
-  not_read (Some Replay) faulty reads = cc
-  not_read (Some (Run workers)) faulty reads = cc
-  not_read (Some (Generate number)) faulty reads = cc
+  not_read : command words ≡ None → reads_plan (command words) ≡ true → ⊥
+  not_read none reads = true≢false (sym reads ∙ ap reads_plan none)
 
-  not_replay : (told : Option Command) → is_built told ≡ false → told ≡ Some Replay → ⊥
-  not_replay told faulty is = cc
+  not_asked : (told : PlanCommand) → command words ≡ None → command words ≡ Some (asked told) → ⊥
+  not_asked told none is = cc
 
-  faulty_status : (status : Status) → is_built (command words) ≡ false → Under status → IsUsageOrLost (status_number status)
-  faulty_status statuses.Done faulty under = absurd (not_done (command words) faulty under)
-  faulty_status statuses.Usage faulty under = inl refl
-  faulty_status statuses.Refused faulty under = absurd (not_read (command words) faulty under.reads)
-  faulty_status statuses.Reverted faulty under = absurd (not_replay (command words) faulty under.command_is)
-  faulty_status statuses.ReadFault faulty under = absurd (not_read (command words) faulty under.reads)
-  faulty_status statuses.WriteFault faulty under = inr (inl refl)
-  faulty_status statuses.NoMemory faulty under = inr (inr refl)
-  faulty_status statuses.TurnsSpent faulty under = absurd (not_replay (command words) faulty under.command_is)
+  faulty_status : (status : Status) → command words ≡ None → Under status → IsUsageOrLost (status_number status)
+  faulty_status statuses.Done none under = absurd (not_done none under)
+  faulty_status statuses.Usage none under = inl refl
+  faulty_status statuses.Refused none under = absurd (not_read none under.reads)
+  faulty_status statuses.Reverted none under = absurd (not_asked under.told none under.command_is)
+  faulty_status statuses.ReadFault none under = absurd (not_read none under.reads)
+  faulty_status statuses.WriteFault none under = inr (inl refl)
+  faulty_status statuses.NoMemory none under = inr (inr refl)
+  faulty_status statuses.TurnsSpent none under = absurd (not_asked under.told none under.command_is)
 
   -- *Faulty words get the usage*, unless the sink fails or memory runs out
-  pub faulty_words : (number : ℕ) → Ends words source sink turns journal number → is_built (command words) ≡ false → IsUsageOrLost number
-  faulty_words number ends faulty = subst IsUsageOrLost (sym ends.number_is) (faulty_status ends.status faulty ends.under)
+  pub faulty_words : (number : ℕ) → Ends words source sink turns journal number → command words ≡ None → IsUsageOrLost number
+  faulty_words number ends none = subst IsUsageOrLost (sym ends.number_is) (faulty_status ends.status none ends.under)

@@ -1,3 +1,4 @@
 mod Endings
 mod Numbers
 mod Taken
+mod Words

@@ -4,9 +4,9 @@ use Rattle.std.specs.List.{All}
 use Rattle.plain_server.specs.declared.entry.Entry.{Entry}
 use Rattle.plan_words.specs.PlanData.{PlanData}
 use Rattle.migration_program.specs.Orders.{WorkerTurn, RunOrder}
-use Rattle.whole_run.specs.Runs.{is_over}
+use Rattle.whole_run.specs.Runs.{is_over, Stops}
 use Rattle.worker_run.specs.WorkedRuns.{turns_of, journal_of, IsWorkersRun, WasOver, WorkedView}
-use Rattle.worker_run.proofs.Listing.{run_ordered, was_over}
+use Rattle.worker_run.proofs.Listing.{run_ordered, stopped, was_over}
 
 -- what a closed desk's run leaves is in run order
 pub ran_ordered : (done : WorkedView) (plan : PlanData) (workers : ℕ) (journal : List Entry) (turns : List WorkerTurn) → IsWorkersRun done.plan done.workers done.list → done.plan ≡ plan → done.workers ≡ workers → All (λ taken. taken.worker < workers) done.list
@@ -21,3 +21,7 @@ ran_ordered done plan workers journal turns is plan_is workers_are below journal
 pub ran_over : (done : WorkedView) (plan : PlanData) (journal : List Entry) → IsWorkersRun done.plan done.workers done.list → done.plan ≡ plan → journal ≡ journal_of done.list → WasOver done.plan (journal_of done.list) → is_over plan journal ≡ true
 ran_over done plan journal is plan_is journal_is was =
     subst (λ (p : PlanData). is_over p journal ≡ true) plan_is (subst (λ (all : List Entry). is_over done.plan all ≡ true) (sym journal_is) (was_over done.plan done.workers done.list is.rule was))
+
+-- and no turn was taken where it was
+pub ran_stopped : (done : WorkedView) (plan : PlanData) (journal : List Entry) → IsWorkersRun done.plan done.workers done.list → done.plan ≡ plan → journal ≡ journal_of done.list → Stops plan journal
+ran_stopped done plan journal is plan_is journal_is = subst (λ (p : PlanData). Stops p journal) plan_is (subst (Stops done.plan) (sym journal_is) (stopped done.plan done.workers done.list is.rule))

@@ -7,7 +7,7 @@ ghost use Rattle.journal_words.specs.Sessions.{NumbersSessions};
 ghost use Rattle.migration_program.specs.Orders.{RunOrder};
 ghost use Rattle.run_laws.specs.Kept.{IsKept};
 ghost use Rattle.turn_desk.specs.Turns.{DeskList};
-ghost use Rattle.whole_run.specs.Runs.{is_over};
+ghost use Rattle.whole_run.specs.Runs.{is_over, Stops};
 ghost use Rattle.worker_run.specs.WorkedRuns.{listed};
 ghost use Rattle.worker_run.specs.Workers.{IsGoing};
 
@@ -52,6 +52,7 @@ pub fn run_by_workers<'a, V: Serve + Send, R: Threads + Wait + Sync, G: Gate + S
     ensures plan { IfOk result (λ ran. ran.run.plan ≡ run.entry.plan) }
     ensures kept { IfOk result (λ ran. IsKept run.entry.plan ran.run.journal) }
     ensures numbered { IfOk result (λ ran. NumbersSessions ran.run.journal) }
+    ensures stops { IfOk result (λ ran. Stops run.entry.plan ran.run.journal) }
     ensures order { IfOk result (λ ran. RunOrder run.entry.plan ran.run.journal ran.turns.items workers) }
     ensures workers { IfOk result (λ ran. DeskList (listed ran.turns.items ran.run.journal) ran.passes.value.items) }
     ensures numbers { IfOk result (λ ran. All (λ pass. pass.worker < workers) ran.passes.value.items) }

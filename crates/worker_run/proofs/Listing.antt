@@ -9,7 +9,7 @@ use Rattle.plain_server.specs.declared.entry.Entry.{Entry}
 use Rattle.plan_words.specs.PlanData.{PlanData}
 use Rattle.migration_program.specs.Orders.{WorkerTurn, Paired, IsWorkersTurn, RunOrder}
 use Rattle.turn_desk.specs.declared.book.Entry.{Entry as Taken}
-use Rattle.whole_run.specs.Runs.{is_over}
+use Rattle.whole_run.specs.Runs.{is_over, Stops}
 use Rattle.worker_run.specs.WorkedRuns.{turn_of, turns_of, journal_of, paired_of, taken_of, listed, IsByRule, WasOver}
 
 -- LISTS
@@ -63,6 +63,18 @@ not_over plan count before (taken ∷ list) kept (first ∷ front) entry rest is
     let all : journal_of (before ++ taken ∷ []) ++ front ≡ journal_of before ++ first ∷ front =
     ap (λ (journal : List Entry). journal ++ front) (journal_more before taken) ∙ append_assoc (journal_of before) (taken.event ∷ []) front ∙ ap (λ (one : Entry). journal_of before ++ one ∷ front) same in
     subst (λ (journal : List Entry). is_over plan journal ≡ false) all (not_over plan count (before ++ taken ∷ []) list kept.1 front entry rest tail)
+
+-- no turn was taken where it was
+pub stopped : (plan : PlanData) (count : ℕ) (list : List (Taken Entry)) → Along (IsByRule plan count) [] list → Stops plan (journal_of list)
+unfolding Stops
+stopped plan count list kept = by [] list kept
+  where
+    by : (before list : List (Taken Entry)) → Along (IsByRule plan count) before list → Along (λ (front : List Entry) (entry : Entry). is_over plan front ≡ false) (journal_of before) (journal_of list)
+    by before [] kept = tt
+    by before (taken ∷ list) kept = (
+      kept.0.going,
+      subst (λ (front : List Entry). Along (λ (one : List Entry) (entry : Entry). is_over plan one ≡ false) front (journal_of list)) (journal_more before taken) (by (before ++ taken ∷ []) list kept.1),
+    )
 
 -- where it was over it is over
 pub was_over : (plan : PlanData) (count : ℕ) (list : List (Taken Entry)) → Along (IsByRule plan count) [] list → WasOver plan (journal_of list) → is_over plan (journal_of list) ≡ true

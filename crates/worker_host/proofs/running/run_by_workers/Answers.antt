@@ -1,7 +1,7 @@
 use Rattle.std.proofs.Common.{ap, ◌∙◌}
 use Rattle.worker_run.specs.declared.worked.Opening.{Opening}
 use Rattle.worker_run.specs.WorkedRuns.{WorkedView}
-use Rattle.worker_host.proofs.Ordering.{ran_ordered, ran_over}
+use Rattle.worker_host.proofs.Ordering.{ran_ordered, ran_over, ran_stopped}
 use Rattle.worker_host.proofs.running.run_by_workers.Goals as goal
 
 pub returns-clause-order : goal.returns-clause-order
@@ -13,3 +13,7 @@ pub returns-clause-over : goal.returns-clause-over
 returns-clause-over g c = λ over.
     ran_over c.in_ok-done.done.book c.args.run.plan c.stop.result.0.journal c.stop.ensures.worked (ap (λ (o : Opening). o.plan) c.in_ok-done.ensures.opening ∙ ap (λ (v : WorkedView). v.plan) c.in_ok-worked.ensures) c.stop.ensures.journal
     (c.in_ok-done.ensures.over over)
+
+pub returns-clause-stops : goal.returns-clause-stops
+returns-clause-stops g c =
+    ran_stopped c.in_ok-done.done.book c.args.run.plan c.stop.result.0.journal c.stop.ensures.worked (ap (λ (o : Opening). o.plan) c.in_ok-done.ensures.opening ∙ ap (λ (v : WorkedView). v.plan) c.in_ok-worked.ensures) c.stop.ensures.journal
