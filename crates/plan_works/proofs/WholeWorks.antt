@@ -36,10 +36,10 @@ module _ (plan begun : PlanData) (run : RunView) (journal : List Entry) (begun_i
   of_run : (P : PlanData → List Entry → Type 0) → P begun run.journal → P plan journal
   of_run P is = subst (λ (all : List Entry). P plan all) (sym journal_is) (subst (λ (p : PlanData). P p run.journal) begun_is is)
 
-  pub whole_of : AcceptedRunsAreSerial → AcceptedRenamesFindTheAltered → AcceptedRunsAreOnline → AcceptedCausesStand → (turns : List WorkerTurn) (workers : ℕ) → WasRead plan → IsKept begun run.journal → NumbersSessions run.journal → RunOrder begun run.journal turns workers → Stops begun run.journal → length journal ≤ run.plan.options.turn_limit → IsWholeRun plan journal turns workers
+  pub whole_of : AcceptedRunsAreSerial → AcceptedRenamesFindTheAltered → AcceptedRunsAreOnline → AcceptedCausesStand → (turns : List WorkerTurn) (workers : ℕ) → WasRead plan → IsKept begun run.journal → NumbersSessions run.journal → RunOrder begun run.journal turns workers → Stops begun run.journal → length run.journal ≤ run.plan.options.turn_limit → IsWholeRun plan journal turns workers
   whole_of serial altered online causes turns workers was kept numbered order stops bound =
       whole serial altered online causes plan journal turns workers was (of_run IsKept kept) (subst NumbersSessions (sym journal_is) numbered) (of_run (λ (p : PlanData) (all : List Entry). RunOrder p all turns workers) order)
-      (of_run Stops stops) (subst (λ (p : PlanData). length journal ≤ p.options.turn_limit) (plan_is ∙ begun_is) bound)
+      (of_run Stops stops) (of_run (λ (p : PlanData) (all : List Entry). length all ≤ p.options.turn_limit) (subst (λ (p : PlanData). length run.journal ≤ p.options.turn_limit) plan_is bound))
 
   -- how it ended, where there is a verdict
   pub told_end : (ending : Ending) (told : Option Verdict) (server : State) → IfSome told (λ verdict. verdict ≡ verdict_of run.plan run.journal) → IfSome told (λ verdict. ending ≡ Over) → (ending ≡ Over → is_over begun run.journal ≡ true) → (ending ≡ Over → run.server ≡ state_at begun run.journal) → server ≡ run.server → IfSome told (λ verdict. IsEnd plan journal verdict server)
