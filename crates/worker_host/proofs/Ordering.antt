@@ -3,8 +3,9 @@ use Rattle.std.proofs.Common.{◌≡◌, ◌<◌, ℕ, true, List, sym, subst}
 use Rattle.std.specs.List.{All}
 use Rattle.plain_server.specs.declared.entry.Entry.{Entry}
 use Rattle.plan_words.specs.PlanData.{PlanData}
+use Rattle.journal_words.specs.Journals.{state_at}
 use Rattle.migration_program.specs.Orders.{WorkerTurn, RunOrder}
-use Rattle.whole_run.specs.Runs.{is_over, Stops}
+use Rattle.whole_run.specs.Runs.{RunView, is_over, Stops}
 use Rattle.worker_run.specs.WorkedRuns.{turns_of, journal_of, IsWorkersRun, WasOver, WorkedView}
 use Rattle.worker_run.proofs.Listing.{run_ordered, stopped, was_over}
 
@@ -25,3 +26,7 @@ ran_over done plan journal is plan_is journal_is was =
 -- and no turn was taken where it was
 pub ran_stopped : (done : WorkedView) (plan : PlanData) (journal : List Entry) → IsWorkersRun done.plan done.workers done.list → done.plan ≡ plan → journal ≡ journal_of done.list → Stops plan journal
 ran_stopped done plan journal is plan_is journal_is = subst (λ (p : PlanData). Stops p journal) plan_is (subst (Stops done.plan) (sym journal_is) (stopped done.plan done.workers done.list is.rule))
+
+-- where it is over the server stands at its end
+pub ran_stands : (run : RunView) (plan : PlanData) → run.plan ≡ plan → (is_over run.plan run.journal ≡ true → run.server ≡ state_at run.plan run.journal) → is_over plan run.journal ≡ true → run.server ≡ state_at plan run.journal
+ran_stands run plan plan_is stands = subst (λ (p : PlanData). is_over p run.journal ≡ true → run.server ≡ state_at p run.journal) plan_is stands
