@@ -1,5 +1,3 @@
-pub mod Histories
-pub mod Journals
 pub mod Migratable
 pub mod PlanData
 pub mod PlanOptions
