@@ -3,4 +3,3 @@ pub mod Leaves
 pub mod Others
 pub mod Moving
 pub mod Migrating
-pub mod Plans

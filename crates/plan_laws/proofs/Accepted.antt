@@ -17,7 +17,7 @@ use Rattle.alter_schema.specs.Altering.{altered}
 use Rattle.alter_laws.specs.Laws.{ImagesKeepClusteredKeys, ImagesStayApart, AlteredTablesKeepNames}
 use Rattle.plan_words.specs.declared.plan.TheConstants.{CLIENT_LIMIT}
 use Rattle.plan_words.specs.PlanData.{PlanData, Altered}
-use Rattle.plan_words.specs.Migratable.{KeepsRows}
+use Rattle.plan_words.specs.KeptRows.{KeepsRows}
 use Rattle.plan_keys.specs.declared.fault.KeyRefusal.{KeyRefusal}
 use Rattle.plan_keys.specs.declared.fault.KeyRefusal.TheVariants.{UnknownKey, MissingKey, TooMany}
 use Rattle.plan_keys.specs.declared.limits.TheConstants.{TABLE_LIMIT, ROW_LIMIT, FAULT_LIMIT}

@@ -4,9 +4,9 @@ use Rattle.std.specs.List.{AllByRecursion}
 use Rattle.row_store.specs.Databases.{TableRows, NamesDiffer, find_table}
 use Rattle.plan_words.specs.declared.plan.TheConstants.{CLIENT_LIMIT}
 use Rattle.plan_words.specs.PlanData.{PlanData, Altered, altered_by}
-use Rattle.plan_words.specs.Migratable.{KeepsRows, IsMigratable}
+use Rattle.plan_words.specs.KeptRows.{KeepsRows}
 use Rattle.plan_tables.specs.Tables.{IsSound}
-use Rattle.plan_document.specs.Plans.{read, reads}
+use Rattle.plan_document.specs.Plans.{read}
 
 -- A plan of at most 64 clients, whose tables are tables of lawful schemas with different names, the migrated one among them,
 -- and whose ALTER can be done and keeps the rows' keys.
@@ -20,10 +20,6 @@ pub record IsAccepted (plan : PlanData) : Type 0 where
   pub alters : altered_by plan table.schema ≡ Some new
   pub keeps : KeepsRows table.schema new
 
--- Every plan that is accepted is such a one, whether or not it is run today.
+-- Every plan that is accepted is such a one.
 abbrev pub ReadPlansAreAccepted : Type 0
 ReadPlansAreAccepted = (bytes : List ℕ) (plan : PlanData) → read bytes ≡ Ok plan → IsAccepted plan
-
--- A plan that is run today is migratable: its one table is a table, and its ALTER keeps the keys of the rows.
-abbrev pub AcceptedPlansAreMigratable : Type 0
-AcceptedPlansAreMigratable = (bytes : List ℕ) (plan : PlanData) → reads bytes ≡ Ok plan → IsMigratable plan

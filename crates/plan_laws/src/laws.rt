@@ -1,6 +1,6 @@
 //! The laws: each function's contract is one.
 
-ghost use Rattle.plan_laws.specs.PlanLaws.{ReadPlansAreAccepted, AcceptedPlansAreMigratable};
+ghost use Rattle.plan_laws.specs.PlanLaws.{ReadPlansAreAccepted};
 
 use alter_laws::{altered_tables_keep_names, images_keep_keys};
 use gho_values::laws::stored_values_store_again;
@@ -16,11 +16,4 @@ pub fn read_plans_are_accepted()
     altered_tables_keep_names();
     stored_values_store_again();
     put_keeps_tables();
-}
-
-/// The table of a plan that is run is a table, and its ALTER keeps the rows' keys: so the law over journals speaks of it.
-pub fn accepted_plans_are_migratable()
-    ensures { AcceptedPlansAreMigratable }
-{
-    read_plans_are_accepted();
 }

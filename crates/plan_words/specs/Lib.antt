@@ -1,4 +1,4 @@
-pub mod Migratable
+pub mod KeptRows
 pub mod PlanData
 pub mod PlanOptions
 pub mod PlanParts

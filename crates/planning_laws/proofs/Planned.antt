@@ -18,13 +18,13 @@ use Rattle.row_store.specs.ClusteredKeys.{HasClusteredKey}
 use Rattle.alter_schema.specs.declared.code.AlterCode.{AlterCode}
 use Rattle.alter_schema.specs.declared.code.AlterCode.TheVariants as codes
 use Rattle.alter_schema.specs.declared.standing.Standing.{Standing}
-use Rattle.alter_schema.specs.Altering.{altered, keeps_key, result_reasons, same_columns}
+use Rattle.alter_schema.specs.Altering.{keeps_key, result_reasons, same_columns}
 use Rattle.alter_laws.proofs.ImageRows.{images_are_rows}
 use Rattle.alter_laws.proofs.ImageTables.{Both, both-clustered, clustered_keys_kept}
 use Rattle.alter_laws.proofs.KeepingKeys.{at-place, clustered-stands, ends}
 use Rattle.plan_words.specs.PlanData.{Altered}
 use Rattle.ghost_rows.specs.Timelines.{kept_key, old_places}
-use Rattle.planning_laws.specs.Laws.{AltersArePlanned, MigratablePlansArePlanned}
+use Rattle.planning_laws.specs.Laws.{AltersArePlanned}
 use Rattle.planning_laws.proofs.OldPlaces.{clustered_places, get-kept, images_clash, kept_are_old}
 
 abbrev AreNotNull : Schema → List ℕ → Type 0
@@ -100,8 +100,3 @@ alters_planned again approve schema clauses new rows lawful e table =
 pub was_ok : (read : Result Altered AlterCode) (new : Altered) → result_ok read ≡ Some new → read ≡ Ok new
 was_ok (Ok made) new is = cc
 was_ok (Err code) new is = absurd cc
-
-pub plans_planned : StoresAgain → MigratablePlansArePlanned
-plans_planned again plan is =
-    alters_planned again plan.options.approve_renamed_columns is.table.schema plan.alter is.new is.table.rows is.lawful
-    (was_ok (altered plan.options.approve_renamed_columns is.table.schema plan.alter) is.new is.alters) is.is_table

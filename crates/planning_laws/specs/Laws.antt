@@ -1,4 +1,4 @@
--- What the ghost relation asks of a migration, of each ALTER that is taken and of each plan.
+-- What the ghost relation asks of a migration, of each ALTER that is taken.
 use Rattle.std.specs.Prelude.{◌≡◌, ℕ, Bool, List, Ok}
 use Rattle.gho_values.specs.declared.value.Value.{Value}
 use Rattle.gho_schema.specs.declared.schema.Schema.{Schema}
@@ -7,8 +7,7 @@ use Rattle.alter_image.specs.declared.clause.Clause.{Clause}
 use Rattle.schema_rules.specs.Lawful.{IsLawful}
 use Rattle.alter_schema.specs.Altering.{altered}
 use Rattle.changelog_table.specs.ToolNames.{ghost_name}
-use Rattle.plan_words.specs.PlanData.{Altered, PlanData}
-use Rattle.plan_words.specs.Migratable.{IsMigratable}
+use Rattle.plan_words.specs.PlanData.{Altered}
 use Rattle.ghost_rows.specs.Timelines.{Migration, IsPlanned}
 
 -- the migration of a table of this schema to what its ALTER leaves, which is made under the ghost's name
@@ -18,7 +17,3 @@ migration_of schema new = record { name = schema.name; schema = schema; new = re
 -- *ALTERs are planned*: the migration of each table of a lawful schema is what the ghost relation asks.
 abbrev pub AltersArePlanned : Type 0
 AltersArePlanned = (approve : Bool) (schema : Schema) (clauses : List Clause) (new : Altered) (rows : List (List Value)) → IsLawful schema → altered approve schema clauses ≡ Ok new → IsTable schema rows → IsPlanned (migration_of schema new) rows
-
--- *Plans are planned*: so is that of the table of each migratable plan.
-abbrev pub MigratablePlansArePlanned : Type 0
-MigratablePlansArePlanned = (plan : PlanData) (is : IsMigratable plan) → IsPlanned (migration_of is.table.schema is.new) is.table.rows

@@ -1,19 +1,12 @@
 //! The laws: each function's contract is one.
 
-ghost use Rattle.planning_laws.specs.Laws.{AltersArePlanned, MigratablePlansArePlanned};
+ghost use Rattle.planning_laws.specs.Laws.{AltersArePlanned};
 
 use gho_values::laws::stored_values_store_again;
 
 /// An ALTER that is taken keeps what the ghost relation rests on: the clustered key, and the unique keys.
 pub fn alters_are_planned()
     ensures { AltersArePlanned }
-{
-    stored_values_store_again();
-}
-
-/// So does the ALTER of each migratable plan.
-pub fn migratable_plans_are_planned()
-    ensures { MigratablePlansArePlanned }
 {
     stored_values_store_again();
 }

@@ -1,6 +1,5 @@
 -- Every alterable plan whose words fit is runnable.
-use Rattle.std.proofs.Common.{◌≡◌, ℕ, Bool, true, false, List, [], ◌∷◌, cond, Option, Some, None, Ok, unwrap_or, refl, sym, ap, subst, ◌∙◌}
-use Rattle.std.specs.List.{AllByRecursion}
+use Rattle.std.proofs.Common.{◌≡◌, ℕ, Bool, true, false, List, [], ◌∷◌, cond, Option, Some, Ok, unwrap_or, refl, sym, ap, subst, ◌∙◌}
 use Rattle.std.specs.Option.{option_map}
 use Rattle.gho_values.specs.Laws.{StoresAgain}
 use Rattle.gho_schema.specs.declared.schema.Schema.{Schema}
@@ -9,16 +8,13 @@ use Rattle.alter_laws.proofs.KeepingLaws.{altered-lawful}
 use Rattle.row_store.specs.Databases.{TableRows, Database, is_named, find_table}
 use Rattle.schema_rules.proofs.Steps.{some_is}
 use Rattle.schema_rules.specs.Lawful.{IsLawful}
-use Rattle.statement_laws.specs.Covering.{IsOrderlyTable}
-use Rattle.statement_laws.proofs.Tests.{are_same, same_bytes}
+use Rattle.statement_laws.proofs.Tests.{are_same}
 use Rattle.plan_words.specs.PlanData.{PlanData, Altered, altered_by, no_schema, old_schema, new_altered, new_schema, new_map}
-use Rattle.plan_words.specs.Migratable.{IsMigratable}
 use Rattle.plain_server.specs.Conditions.{IsMapOf}
 use Rattle.planning_laws.proofs.Planned.{was_ok}
 use Rattle.machine_laws.specs.Tabling.{TableStands}
 use Rattle.machine_laws.specs.Keying.{IsMapped}
-use Rattle.machine_laws.proofs.Staying.{lawful_table}
-use Rattle.runnable_laws.specs.Laws.{IsAlterable, IsWorded, AlterablePlansAreRunnable, MigratablePlansAreAlterable, MigratablePlansAreRunnable}
+use Rattle.runnable_laws.specs.Laws.{IsAlterable, IsWorded, AlterablePlansAreRunnable}
 use Rattle.runnable_laws.proofs.Origins.{altered_is_mapped}
 
 -- the migrated table has the plan's name for it
@@ -66,24 +62,3 @@ alterables_run again plan is worded = record {
   stands = stands plan is;
   mapped = mapped plan is;
 }
-
--- *Migratable plans are alterable*
-unfoldable pub plans_alterable : MigratablePlansAreAlterable
-plans_alterable plan is =
-    let empty : IsOrderlyTable (record { schema = is.table.schema; rows = [] }) = lawful_table is.table.schema is.lawful in
-    record {
-      tables = subst (AllByRecursion IsOrderlyTable) (sym is.only) (record { keyed = empty.keyed; defaults = empty.defaults; is_table = is.is_table }, tt);
-      table = is.table;
-      found =
-          ap (find_table plan.table) is.only ∙ ap (λ (name : List ℕ). find_table name (is.table ∷ [])) (sym is.named)
-          ∙ ap (λ (b : Bool). cond b (Some is.table) None) (same_bytes is.table.schema.name);
-      is_table = is.is_table;
-      lawful = is.lawful;
-      new = is.new;
-      alters = is.alters;
-      keeps = is.keeps;
-    }
-
--- ... and runnable
-pub plans_run : StoresAgain → MigratablePlansAreRunnable
-plans_run again plan is worded = alterables_run again plan (plans_alterable plan is) worded

@@ -8,7 +8,7 @@ use Rattle.schema_rules.specs.Lawful.{IsLawful}
 use Rattle.statement_laws.specs.Covering.{IsOrderlyTable}
 use Rattle.plain_server.specs.Conditions.{IsTableName}
 use Rattle.plan_words.specs.PlanData.{PlanData, Altered, altered_by}
-use Rattle.plan_words.specs.Migratable.{KeepsRows, IsMigratable}
+use Rattle.plan_words.specs.KeptRows.{KeepsRows}
 use Rattle.changelog_table.specs.ToolNames.{ghost_name, log_name, old_name}
 use Rattle.journal_words.specs.Keeping.{words_of}
 use Rattle.machine_laws.specs.Forming.{SizeFits}
@@ -41,11 +41,3 @@ pub record IsAlterable (plan : PlanData) : Type 0 where
 -- *Alterable plans are runnable*, where their words fit.
 abbrev pub AlterablePlansAreRunnable : Type 0
 AlterablePlansAreRunnable = (plan : PlanData) → IsAlterable plan → IsWorded plan → IsRunnable plan
-
--- *Migratable plans are alterable*: those of one table
-abbrev pub MigratablePlansAreAlterable : Type 0
-MigratablePlansAreAlterable = (plan : PlanData) → IsMigratable plan → IsAlterable plan
-
--- ... and runnable
-abbrev pub MigratablePlansAreRunnable : Type 0
-MigratablePlansAreRunnable = (plan : PlanData) → IsMigratable plan → IsWorded plan → IsRunnable plan

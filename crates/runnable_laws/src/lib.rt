@@ -1,4 +1,4 @@
-//! What the program of a migratable plan may ask: each function's contract is a law.
+//! What the program of an alterable plan may ask: each function's contract is a law.
 #![tactic(auto)]
 
 pub mod laws;

@@ -1,4 +1,4 @@
--- One worked run of a migratable plan, that a client waits in behind a chunk's lock: all that the law over journals asks holds of its
+-- One worked run of an alterable plan, that a client waits in behind a chunk's lock: all that the law over journals asks holds of its
 -- journal until the RENAME is done, so by the law its new table is then the altered one.
 use Rattle.std.proofs.Common.{pos, true, false, ◌≡◌, List, [], ◌∷◌, take, None, Some, Ok, refl, arith}
 use Rattle.std.specs.Prelude.{codes}
@@ -16,7 +16,6 @@ use Rattle.alter_laws.proofs.KeepingKeys.{stay_apart}
 use Rattle.alter_laws.proofs.TableNames.{keep_names}
 use Rattle.row_store.specs.Databases.{TableRows}
 use Rattle.plain_server.specs.declared.entry.Entry.{Entry}
-use Rattle.plan_words.specs.Migratable.{IsMigratable}
 use Rattle.plan_words.specs.PlanData.{Altered}
 use Rattle.journal_words.specs.Journals.{IsFaithful, state_at}
 use Rattle.journal_words.specs.Keeping.{KeepsPlan}
@@ -28,8 +27,7 @@ use Rattle.history_laws.specs.Plans.{IsSerialPlan}
 use Rattle.ghost_laws.specs.Copies.{IsAltered}
 use Rattle.planning_laws.specs.Laws.{migration_of}
 use Rattle.run_laws.specs.Kept.{IsKept}
-use Rattle.runnable_laws.specs.Laws.{IsWorded}
-use Rattle.runnable_laws.proofs.Runnable.{plans_alterable}
+use Rattle.runnable_laws.specs.Laws.{IsAlterable, IsWorded}
 use Rattle.follow_turns.specs.Laws.{IsMark}
 use Rattle.follow_laws.specs.Laws.{FollowersAlter}
 use Rattle.worked_runs.proofs.Computing.{computing}
@@ -77,12 +75,12 @@ altered_so : altered false old_schema alter ≡ Ok new_table
 unfolding computing
 altered_so = refl
 
-migratable : IsMigratable plan_behind_chunk
+alterable : IsAlterable plan_behind_chunk
 unfolding computing
-migratable = record {
+alterable = record {
+  tables = (record { keyed = record { some = grind (arith); not_null = (refl, tt) }; defaults = (tt, tt); is_table = record { rows_fit = ((refl, tt), ((refl, tt), tt)); ascends = ((refl, tt), (tt, tt)); apart = ((refl, tt), (tt, tt)) } }, tt);
   table = old_table;
-  only = refl;
-  named = refl;
+  found = refl;
   is_table = record { rows_fit = ((refl, tt), ((refl, tt), tt)); ascends = ((refl, tt), (tt, tt)); apart = ((refl, tt), (tt, tt)) };
   lawful = lawful;
   new = new_table;
@@ -260,5 +258,5 @@ mark = record {
 
 -- *By the law the new table is the altered one when the RENAME comes.*
 altered_by_then : FollowersAlter → IsAltered (migration_of old_schema new_table) (state_at plan_behind_chunk journal_to_mark).tables
-unfolding migratable plans_alterable
-altered_by_then followers_alter = followers_alter plan_behind_chunk (plans_alterable plan_behind_chunk migratable) worded serial journal_to_mark kept mark
+unfolding alterable
+altered_by_then followers_alter = followers_alter plan_behind_chunk alterable worded serial journal_to_mark kept mark

@@ -1,15 +1,12 @@
 -- The text of a workload is read as its plan.
-use Rattle.std.proofs.Common.{◌≡◌, ℕ, false, nat_lt, [], ◌∷◌, length, Some, Result, Ok, refl, ap, arith}
+use Rattle.std.proofs.Common.{◌≡◌, ℕ, false, nat_lt, [], ◌∷◌, length, Some, Ok, refl, arith}
 use Rattle.std.proofs.lemmas.Bool.Decides.{nat_tests}
 use Rattle.changelog_table.specs.ToolNames.{ghost_name, old_name}
 use Rattle.order_reader.specs.Operators.{commands_from}
 use Rattle.turn_reader.specs.Turns.{runs_from}
 use Rattle.plan_document.specs.Openings.{opening_of}
 use Rattle.plan_document.specs.Orders.{orders_of}
-use Rattle.plan_document.specs.declared.fault.PlanRefusal.{PlanRefusal}
-use Rattle.plan_document.specs.Plans.{keys_in, plan_at, document, read, if_run, reads}
-use Rattle.plan_words.specs.PlanData.{PlanData}
-use Rattle.schema_rules.specs.Results.{◌>>=◌}
+use Rattle.plan_document.specs.Plans.{keys_in, plan_at, document, read}
 use Rattle.plan_document.specs.Walks.{each_from}
 use Rattle.workload_gen.specs.Workloads.{workload}
 use Rattle.workload_laws.specs.Alters.{clauses, altered_schema, altered_map}
@@ -49,7 +46,3 @@ document_read number = rw (text_is_utf8 number) (workload_read number)
 pub plans_read : (number : ℕ) → read (workload number) ≡ Ok (plan number)
 unfolding read
 plans_read number = rw (short number, document_read number) (plan_read number)
-
-pub refused_for_nothing_else : (number : ℕ) → reads (workload number) ≡ if_run (plan number)
-unfolding reads
-refused_for_nothing_else number = ap (λ (said : Result PlanData PlanRefusal). said >>= if_run) (plans_read number)

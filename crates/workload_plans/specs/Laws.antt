@@ -1,7 +1,7 @@
 -- *Workloads are plans*: the text of every number is read as this plan. This project's rule.
 use Rattle.std.specs.Prelude.{◌≡◌, ℕ, [], ◌∷◌, Ok}
 use Rattle.plan_words.specs.PlanData.{PlanData}
-use Rattle.plan_document.specs.Plans.{read, if_run, reads}
+use Rattle.plan_document.specs.Plans.{read}
 use Rattle.workload_gen.specs.Workloads.{workload}
 use Rattle.workload_laws.specs.Alters.{clauses}
 use Rattle.workload_document.specs.Plans.{options}
@@ -25,7 +25,3 @@ plan number = record {
 -- The text of a workload is read as its plan, which no rule refuses.
 abbrev pub WorkloadsAreRead : Type 0
 WorkloadsAreRead = (number : ℕ) → read (workload number) ≡ Ok (plan number)
-
--- So *reads*, which refuses last what isn't run yet, refuses a workload for nothing else.
-abbrev pub WorkloadsAreRefusedForNothingElse : Type 0
-WorkloadsAreRefusedForNothingElse = (number : ℕ) → reads (workload number) ≡ if_run (plan number)
