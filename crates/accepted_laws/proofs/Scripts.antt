@@ -89,9 +89,6 @@ was_read : {A : Type 0} (number : ℕ) (read : Result A ScriptCode) (x : A) → 
 was_read number (Ok y) x is = cc
 was_read number (Err code) x is = absurd cc
 
-or_false : (b : Bool) → (false || b) ≡ b
-or_false b = refl
-
 -- one line more in front
 more : (tools texts : List (List ℕ)) (text : List ℕ) (number : ℕ) (is_open behind : Bool) (asked : Option ScriptWord) (others : List ScriptLine) → is_line (text_words text) ≡ is_some_line asked → fitting tools texts is_open asked ≡ Ok behind → AreLines tools texts behind others
     → AreLines tools (text ∷ texts) is_open (numbered number asked ++ others)

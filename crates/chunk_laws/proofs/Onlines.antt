@@ -376,10 +376,6 @@ module _ (again : StoresAgain) (plan : PlanData) (runs : IsRunnable plan) (journ
     fits : (key : List Value) → IsAbout (requests.CopyRow plan.table (ghost_name plan.table) (new_map plan) key) (has Copy) entry.asked → CopyFits (view entry.session (opens entry (state_at plan journal))) plan.table (new_map plan) key entry.answer
     fits key is_about = own_copy again plan runs.mapped journal entry known served key (about _ is_about) (ap (λ (a : Actor). (has a).locked) same ∙ stands.locked) uncopied.tables
 
-    -- the step behind the answer to this request
-    abbrev Then : Asked → Request → Type 0
-    Then asked request = SmallStep (copied_after asked copied) (answered request entry.answer (has Copy)).waits (step_after tool.turns work.copier work.copier.step entry.answer)
-
     abbrev Unfits : CopyStep → Type 0
     Unfits step = (place number : ℕ) → progress_at step entry.answer ≡ Unfit place number → ⊥
 

@@ -116,9 +116,6 @@ record IsIdleSo (plan : PlanData) (journal : List Entry) : Type 0 where
   waits : is_renamed (moment plan journal).tool.course ≡ false → Unwaited plan journal
   chosen : is_renamed (moment plan journal).tool.course ≡ false → Chosen (moment plan journal).tool.course
 
-abbrev Bounded : PlanData → List Entry → Entry → Type 0
-Bounded plan before entry = is_renamed (moment plan before).tool.course ≡ false → IsBounded plan before entry
-
 module _ (again : StoresAgain) (plan : PlanData) (quiet : IsQuiet plan) (images : RowsHaveImages plan) (runs : IsRunnable plan) (serial : IsSerialPlan plan) (journal : List Entry) (entry : Entry) (kept : IsKept plan (journal ++ entry ∷ [])) (is : IsIdleSo plan journal) where
   earlier : IsKept plan journal
   earlier = kept_front plan journal (entry ∷ []) kept

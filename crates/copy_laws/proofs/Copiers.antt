@@ -375,9 +375,6 @@ module _ (m : Migration) (at : Clustered m.schema) (rows : List Row) (place : �
         any_kept (AllByRecursion (IsRow m.schema.columns) rows_now) m at rows number applier now
         (λ apply kept. (table_stands m rows before.log _ _ kept.progress kept.ghost (length before.log) planned kept.tool.kept.joined.under_way).rows_fit) was.stands
 
-    two : (number == applier) ≡ false
-    two = any_kept ((number == applier) ≡ false) m at rows number applier now (λ apply kept. kept.tool.two) was.stands
-
     other : (applier == number) ≡ false
     other = any_kept ((applier == number) ≡ false) m at rows number applier now (λ apply kept. kept.tool.other) was.stands
 

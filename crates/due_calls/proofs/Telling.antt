@@ -172,16 +172,9 @@ module _ (plan : PlanData) (journal : List Entry) (entry : Entry) (is : AllToget
           (subst (TellsEnds now.tables request) (own_given plan journal entry is.tool.known served no_side) (tells request about))
           (own_heard plan journal entry is.tool.known served request about no_side)
 
-  quiet : (asked : Asked) → entry.asked ≡ asked → (inner : Option Answer) → inner_answer now entry ≡ inner → Told (heard entry.side inner) → Told entry.answer
-  quiet asked asks inner is_inner told = subst Told (sym (run.answered.answer ∙ ap (heard entry.side) is_inner)) told
-
   heard_cut : (side : Option Side) → Told (heard side None)
   heard_cut None = tt
   heard_cut (Some side) = tt
-
-  heard_command : (side : Option Side) → Told (heard side (Some (answers.Ok 0)))
-  heard_command None = tt
-  heard_command (Some side) = tt
 
   command_told : (word : _) → entry.asked ≡ Command word → Told entry.answer
   unfolding inner_answer

@@ -64,11 +64,6 @@ pub delete_told : (schema : Schema) (at : Clustered schema) (key : Row) (rows : 
 unfolding tells
 delete_told schema at key rows full ascends = ap (map changes.Delete) (key_met schema at key rows full ascends) ∙ deleting_list (find (is_at (key_places schema) key) rows)
 
--- *CopyRow*
-copy_by : (row : Row) (b : Bool) → (cond b (only (answers.Ok 0)) (record { answer = answers.Ok 1; changes = changes.Write row ∷ [] })).changes ≡ cond b [] (changes.Write row ∷ [])
-copy_by row true = refl
-copy_by row false = refl
-
 -- whether a row clashes, by the two words for it
 clash_by : (schema : Schema) (row first : Row) (rows : List Row) (b : Bool) (found : Option Row) → cond (b && true) (Some first) (find (λ other. clash schema.uniques row other && true) rows) ≡ found
     → ((found : Option Row) → find (λ other. clash schema.uniques row other && true) rows ≡ found → list_any (clash schema.uniques row) rows ≡ Rattle.std.specs.Prelude.is_some found) → (b || list_any (clash schema.uniques row) rows) ≡ Rattle.std.specs.Prelude.is_some found

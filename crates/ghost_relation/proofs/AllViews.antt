@@ -138,10 +138,6 @@ copies_none {K = K} {R = R} {M = M} timeline done half progress views key beside
 
 -- ---- the batch
 
-held_same : {K R M : Type 0} (timeline : Timeline K R M) (done half : K → Bool) (progress : Progress K) (views : Views K M) (locked : K → Bool) (applied : K → Option M) → HoldsChanged progress views locked applied → GhostFollows timeline done half progress views
-    → (key : K) → progress.copier_holds key ≡ true → applied key ≡ views.applied key
-held_same timeline done half progress views locked applied held are key is = held.alone key (held.apart key is) ∙ sym (are.batch_alone key (are.apart key is))
-
 -- *An event is applied*, or the second half of one. The applier holds the keys that it changes.
 pub event_applied : {K R M : Type 0} (timeline : Timeline K R M) (done half : K → Bool) (progress : Progress K) (views : Views K M) (locked : K → Bool) (after : K → Option M) → IsTimeline timeline progress.end → progress.reached < progress.end → HoldsChanged progress views locked after
     → ((key : K) → locked key ≡ false → (timeline.touches progress.reached key ≡ false) × (timeline.row_at (progress.reached + 1) key ≡ timeline.row_at progress.reached key)) → ((key : K) → AppliedAt timeline half progress.reached views.applied after key) → GhostFollows timeline done half progress views

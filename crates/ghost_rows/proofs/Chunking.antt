@@ -25,10 +25,6 @@ use Rattle.ghost_rows.specs.Views.{GhostRows, is_among, is_done, is_done_in, is_
 
 -- ---- keys left to copy
 
-and_not : (a b : Bool) → a ≡ true → (a && b) ≡ false → b ≡ false
-and_not true b is none = none
-and_not false b is none = absurd (let no : false ≡ true = is in cc)
-
 not_less : (o : Ordering) → is_lt o ≡ false → is_le (ordering_reverse o) ≡ true
 not_less Less fails = absurd (let no : true ≡ false = fails in cc)
 not_less Equal fails = refl

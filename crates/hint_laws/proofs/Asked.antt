@@ -114,9 +114,6 @@ module _ (plan : PlanData) (runs : IsRunnable plan) (serial : IsSerialPlan plan)
   pub known : IsKnownAsked plan journal
   known = all_asked plan journal runs before.faithful before.follows
 
-  pub then_known : IsKnownAsked plan more
-  then_known = all_asked plan more runs kept.faithful kept.follows
-
   pub run : IsRun plan journal entry
   run = kept_run plan journal entry kept
 

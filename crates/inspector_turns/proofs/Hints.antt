@@ -125,9 +125,6 @@ hint_insert t n = statements.Insert (log_name t) None (hint_row n)
 abbrev Hints : List ℕ → ℕ → StatementResult → Type 0
 Hints t n result = (count : ℕ) → result.answer ≡ answers.Ok count → result.events ≡ hint_event t n ∷ []
 
-refused_hints : (t : List ℕ) (n number : ℕ) (events : List RowEvent) → Hints t n (record { answer = refuses number; events = events })
-refused_hints t n number events count is = absurd cc
-
 told_hints : (t : List ℕ) (n : ℕ) (rows : List (List Value)) (made : Result (List Value) Answer) → new_row (log_schema t) None (hint_row n) ≡ made
     → Hints t n (record { answer = (tells (log_schema t) rows (or_refused made works.Insert)).answer; events = events_of (log_name t) (tells (log_schema t) rows (or_refused made works.Insert)).changes })
 unfolding tells

@@ -30,7 +30,6 @@ use Rattle.cutover_core.specs.declared.cutover.Phase.{Phase}
 use Rattle.cutover_core.specs.declared.cutover.Phase.TheVariants.{Attempting, Ending, Finished, Finishing, Resting}
 use Rattle.cutover_core.specs.declared.cutover.Stage.TheVariants.{Hinting, Showing}
 use Rattle.journal_words.specs.Journals.{opens, state_at}
-use Rattle.journal_words.specs.Sessions.{live_session}
 use Rattle.migration_program.specs.Programs.{IsGiven, given, tool_call}
 use Rattle.migration_program.specs.Tools.{Course, Migrating, SettingUp, Work, is_reverting, moment}
 use Rattle.program_laws.proofs.Machines.{CourseIsNamed, named}
@@ -45,7 +44,7 @@ use Rattle.machine_laws.specs.Standings.{IsAbout, Standing, answers_to, free, is
 use Rattle.machine_laws.specs.Tabling.{schema_of}
 use Rattle.machine_laws.proofs.Asking.{waits_asks as waits_kind}
 use Rattle.machine_laws.proofs.Journals.{Asking, IsRun, IsTogether, all_together, asking, calls_so, never_commands, polls_so}
-use Rattle.machine_laws.proofs.Seated.{own_fits, own_session, own_waiting}
+use Rattle.machine_laws.proofs.Seated.{own_fits, own_waiting}
 use Rattle.sentry_laws.specs.Sentries.{InspectorMay, InspectorTurns, InspectorWrites, OthersTurn, Rests, WritesHint, scene}
 use Rattle.sentry_laws.specs.Turning.{Apart, AskedTurn, CourseTurn, InspectorSays, InspectorTurn, IsTurned, WorkTurn, last_session, told_if}
 use Rattle.sentry_laws.proofs.Serving.{others_turn, waits_on}
@@ -240,9 +239,6 @@ module _ (entries_are_turns : EntriesAreTurns) (plan : PlanData) (journal : List
         one : (a b : Request) → Some a ≡ Some b → a ≡ b
         one a b same = cc
 
-      asked_fits : answers_to request entry.answer ≡ true
-      asked_fits = own_fits plan journal entry together.known (entries.seated entries_are_turns plan journal entry runs serial kept off) request (subst (λ (a : Actor). IsAbout request (has a) entry.asked) (sym inspects) is_about)
-
       uncut : entry.asked ≡ Cut → ⊥
       uncut cut = by is_about where
         no_call : Call request ≡ Cut → ⊥
@@ -312,9 +308,6 @@ module _ (entries_are_turns : EntriesAreTurns) (plan : PlanData) (journal : List
     -- A LOSS BETWEEN CALLS
 
     module _ (cut : entry.asked ≡ Cut) where
-      live : live_session journal Insp ≡ Some entry.session
-      live = ap (live_session journal) (sym inspects) ∙ own_session plan journal entry together.known (entries.seated entries_are_turns plan journal entry runs serial kept off) (ap is_cut cut)
-
       waiting_here : (request : Request) → about now entry.session entry.asked ≡ Some request → (has Insp).waits ≡ Some request
       waiting_here request is =
           ap (λ (a : Actor). (has a).waits) (sym inspects) ∙ sym (own_waiting plan journal entry together.known (entries.seated entries_are_turns plan journal entry runs serial kept off) called)

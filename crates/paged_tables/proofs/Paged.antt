@@ -5,7 +5,7 @@ use Rattle.std.proofs.Math.Seq.{map-set_same}
 use Rattle.std.specs.List.{prefix_len, slice_get, slice_set}
 use Rattle.std.specs.Option.{option_copied}
 use Rattle.std.proofs.lemmas.List.{map-set, map_push, take_more, take-map, length-map}
-use Rattle.std.proofs.lemmas.Option.{slice_get_read, slice_get_within, get_or_from_slice_get}
+use Rattle.std.proofs.lemmas.Option.{slice_get_within, get_or_from_slice_get}
 use Rattle.gho_values.specs.declared.value.Value.{Value}
 use Rattle.gho_schema.specs.declared.schema.Schema.{Schema}
 use Rattle.gho_schema.specs.Rows.{key_places, with_row}
@@ -79,9 +79,6 @@ found_place name (t ∷ tables) = found_here (is_named name t.table) t tables (p
 
 pub at_stored : (tables : List PagedTable) (n : ℕ) (t : PagedTable) → t ≡ get_or tables n t → stored_of t ≡ get_or (stored tables) n (stored_of t)
 at_stored tables n t at = ap stored_of at ∙ sym (get_or-map stored_of tables n t)
-
-pub got_stored : (tables : List PagedTable) (n : ℕ) (t : PagedTable) → n < length (stored tables) → t ≡ get_or tables n t → slice_get (stored tables) n ≡ Some (stored_of t)
-got_stored tables n t lt at = slice_get_read (stored tables) (length (stored tables)) n (stored_of t) refl lt (at_stored tables n t at)
 
 pub within_tables : (name : List ℕ) (tables : List PagedTable) (n : ℕ) → n ≡ place name tables → IsSome (find_table name (database (stored tables))) → n < length tables
 within_tables name tables n is some = subst (λ (k : ℕ). n < k) (length-map tables stored_of) (within name (stored tables) n (is ∙ before_stored name tables) some)

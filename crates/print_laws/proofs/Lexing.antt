@@ -81,9 +81,6 @@ closes-both a b ws vs first second rest ts lex = turned a b rest ws vs ts (first
 pub writes-closed : (a b : List ℕ) (ws vs : List Token) → Writes a ws → ((rest : List ℕ) → IsEnd (b ++ rest)) → Closes b vs → Closes (a ++ b) (ws ++ vs)
 writes-closed a b ws vs first stops second rest ts lex = turned a b rest ws vs ts (first (b ++ rest) (vs ++ ts) (stops rest) (second rest ts lex))
 
-pub begins-then : (a b : List ℕ) → Begins a → Begins b → Begins (a ++ b)
-begins-then a b first second rest end = subst IsEnd (sym (append_assoc a b rest)) (first (b ++ rest) (second rest end))
-
 -- ---- names in backquotes
 
 quote-place : (name rest : List ℕ) → CanQuote name → position_or_len (λ b. eqb b 96) ((name ++ 96 ∷ []) ++ rest) ≡ length name

@@ -122,9 +122,6 @@ closes-opening rest ts lex = lex-gap 32 (codes "(\n" ++ rest) _ refl (closes-ope
 closes-closing : Closes (codes "\n)") (sign_word (codes ")") ∷ [])
 closes-closing rest ts lex = lex-gap 10 (codes ")" ++ rest) _ refl (closes-close rest ts lex)
 
-begins-closing : Begins (codes "\n)")
-begins-closing rest end = (refl, refl, refl)
-
 closes-comment : Closes (codes " COMMENT=") (keyword (codes "COMMENT") ∷ sign_word (codes "=") ∷ [])
 closes-comment rest ts lex =
     lex-gap 32 (codes "COMMENT=" ++ rest) _ refl (lex-word class.Name (codes "COMMENT") (codes "=" ++ rest) _ (omega arith) (λ place. front-comment place rest)

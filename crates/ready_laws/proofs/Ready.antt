@@ -267,9 +267,6 @@ module _ (plan : PlanData) (journal : List Entry) (going : IsGoing plan journal)
       goes : WorkGoes journal (is_reverting now.tool.reason) work
       goes = goes_at (Migrating work) eq
 
-      abbrev asks : Actor → Option Request
-      asks actor = tool_call plan now.server journal now.tool (Migrating work) actor
-
       -- the renamer waits, or has nothing
       renamer_polls : work.cutover.renamer_waits ≡ true → AnyReady
       renamer_polls on = ren_goes (polled Ren (record { request = attempts.exchange work.cutover.table; is = ap (λ (s : Standing). s.waits) (stands.renamer ∙ ap (renaming work.cutover.table) on) }))

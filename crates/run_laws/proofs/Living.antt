@@ -190,6 +190,3 @@ both plan journal faithful keeps =
 -- *Whose each live session is on the server*
 pub all_living : SessionsAreKnown
 all_living plan journal faithful keeps = (both plan journal faithful keeps).living
-
-pub all_known : (plan : PlanData) (journal : List Entry) → IsFaithful plan journal → KeepsSessions journal → SessionsKnown journal
-all_known plan journal faithful keeps = (both plan journal faithful keeps).known

@@ -161,10 +161,6 @@ same_together tables after written later desk together same kept = record {
   serves = subst (λ (d : Database). IsServing (state_of d desk)) (sym same) together.serves;
 }
 
--- the data keep what each session wrote
-pub kept_have : (written after : ℕ → List RowEvent) (desk : State) → HaveWritten written desk → ((n : ℕ) → after n ≡ written n) → HaveWritten after desk
-kept_have written after desk have same n = same n ∙ have n
-
 pub waits_same : (tables : Database) (desk : State) → waits_shown (state_of tables desk) ≡ waits_shown desk
 unfolding waits_shown
 waits_same tables desk = refl
