@@ -35,7 +35,7 @@ use Rattle.plain_server.specs.Jobs.{Job, after_events, job_needs, job_of, job_sa
 use Rattle.plain_server.specs.Locking.{need_within}
 use Rattle.plain_server.specs.Reading.{events_in}
 use Rattle.plain_server.specs.Saying.{tells}
-use Rattle.plain_server.specs.Showing.{ReadEvent, behind_last, events_given, events_read, read_from}
+use Rattle.plain_server.specs.Showing.{ReadEvent, behind_last, events_read, read_from}
 use Rattle.plain_server.specs.States.{State}
 use Rattle.changelog_table.specs.ToolNames.{log_name}
 use Rattle.journal_words.specs.Journals.{opens}
@@ -75,7 +75,7 @@ use Rattle.ghost_laws.proofs.Fitting.{orderly_events}
 use Rattle.ghost_laws.proofs.Keeping.{view_found}
 use Rattle.ghost_laws.proofs.Keys.{full_key}
 use Rattle.ghost_laws.proofs.Leaving.{deeds_are_done, holds_of}
-use Rattle.ghost_laws.proofs.Reading.{reads}
+use Rattle.ghost_laws.proofs.Reading.{reads, read_is}
 use Rattle.ghost_laws.proofs.Running.{NoPutFirst, any_kept, turn_keeps, works_at}
 use Rattle.ghost_laws.proofs.Tooling.{tool_refused}
 use Rattle.ghost_laws.proofs.Turns.{writes_fit}
@@ -108,10 +108,6 @@ rows_in (Some table) = table.rows
 no_changes : (m : Migration) (view : List Row) (refusal : Answer) → (tells m.new view (works.Refuse refusal)).changes ≡ []
 unfolding tells
 no_changes m view refusal = refl
-
-read_is : (position limit : ℕ) (tables : List (List ℕ)) (log : List RowEvent) → events_read position limit tables log ≡ events_given limit (length log) (take limit (read_from tables position (drop position log)))
-unfolding events_read
-read_is position limit tables log = refl
 
 some_left : (n : ℕ) → (n == 0) ≡ false → 0 < n
 some_left zero none = absurd cc

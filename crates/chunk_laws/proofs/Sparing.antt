@@ -6,7 +6,7 @@ use Rattle.std.specs.List.{AllByRecursion, list_any}
 use Rattle.std.specs.Str.{bytes_eq}
 use Rattle.std.specs.Cmp.Lexicographic.{pointwise}
 use Rattle.std.specs.Prelude.{nat_eq}
-use Rattle.std.proofs.lemmas.Bool.{true≢false, false≢true, not-true}
+use Rattle.std.proofs.lemmas.Bool.{true≢false, false≢true, not-true, or_parts}
 use Rattle.schema_rules.proofs.Lists.{All-append, All-filter}
 use Rattle.script_text.specs.declared.actor.Side.{Side}
 use Rattle.script_text.specs.declared.actor.Side.TheVariants.{Before, After}
@@ -221,15 +221,11 @@ not_held number other name first none = by first.exclusive none (not (other == n
   by false is true false = refl
   by false is false b = refl
 
-either_false : (a b : Bool) → (a || b) ≡ false → (a ≡ false) × (b ≡ false)
-either_false true b is = absurd (true≢false is)
-either_false false b is = (refl, is)
-
 session_free : (names : List HeldName) (number other : ℕ) (name : List ℕ) (behind : List grants.HeldName) → none_exclusive names → least_holder behind number name true ≡ None → least_holder (map (name_held other) names ++ behind) number name true ≡ None
 unfolding least_holder
 session_free [] number other name behind none rest = rest
 session_free (first ∷ names) number other name behind none rest =
-    let parts = either_false first.exclusive (list_any (λ (one : HeldName). one.exclusive) names) none in
+    let parts = or_parts first.exclusive (list_any (λ (one : HeldName). one.exclusive) names) none in
     both_none (holding_session number name true (name_held other first)) (least_holder (map (name_held other) names ++ behind) number name true) (not_held number other name first parts.0) (session_free names number other name behind parts.1 rest)
 
 none_holds : (sessions : List Session) (number : ℕ) (name : List ℕ) → AllByRecursion Shares sessions → least_holder (names_held sessions) number name true ≡ None

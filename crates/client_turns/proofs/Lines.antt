@@ -1,7 +1,5 @@
 -- The lines of a script that are left.
-use Rattle.std.proofs.Common.{◌≡◌, ℕ, zero, suc, ◌+◌, ◌<◌, true, List, [], ◌∷◌, ◌++◌, length, drop, refl, arith}
-use Rattle.plain_server.specs.declared.transaction.TxnLine.{TxnLine}
-use Rattle.journal_words.specs.Clients.{is_inside}
+use Rattle.std.proofs.Common.{◌≡◌, ℕ, zero, suc, ◌+◌, ◌<◌, List, [], ◌∷◌, length, drop, arith}
 
 -- one is left only within the script
 pub stands : {A : Type 0} → (place : ℕ) (script : List A) (line : A) (lines : List A) → drop place script ≡ line ∷ lines → place < length script
@@ -16,8 +14,3 @@ next_left zero [] line lines is = absurd (cc)
 next_left (suc place) [] line lines is = absurd (cc)
 next_left zero (first ∷ script) line lines is = cc
 next_left (suc place) (first ∷ script) line lines is = let next : suc place + 1 ≡ suc (place + 1) = omega arith in rw next (next_left place script line lines is)
-
--- a transaction with one line more is open
-pub goes_on : (lines : List TxnLine) (line : TxnLine) → is_inside (lines ++ line ∷ []) ≡ true
-goes_on [] line = refl
-goes_on (first ∷ lines) line = refl

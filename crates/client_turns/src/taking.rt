@@ -56,7 +56,7 @@ impl ClientSeat {
     }
 
     /// The next line got a mark.
-    #[tactic(auto, using(crate::proofs::Lines::stands, crate::proofs::Lines::goes_on))]
+    #[tactic(auto, using(crate::proofs::Lines::stands, journal_words::proofs::Lines::inside_more))]
     fn mark(&mut self, script: &Script, mark: Mark)
         ensures { (client : Reached) (reply : Option Reply) → IsReached script.now self.old client → IsReached script.now self.new (marked client mark reply client.left) }
     {

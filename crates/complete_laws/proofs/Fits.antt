@@ -30,9 +30,8 @@ use Rattle.event_applier.specs.Appliers as appliers
 use Rattle.migration_program.specs.Programs.{tool_call}
 use Rattle.migration_program.specs.Tools.{Course, SettingUp, Migrating, Work, is_reverting, moment}
 use Rattle.history_laws.specs.Holdings.{Face, face_of}
-use Rattle.history_laws.proofs.Faces.{faces_opened}
+use Rattle.history_laws.proofs.Faces.{faces_opened, writes_face}
 use Rattle.copy_laws.proofs.Rows.{found_all}
-use Rattle.copy_laws.proofs.Served.{writes_face}
 use Rattle.machine_laws.specs.Keying.{IsKeyed}
 use Rattle.machine_laws.specs.Laws.{has_keys}
 use Rattle.machine_laws.specs.Machines.{CourseStands, WorkStands, copier_asks}

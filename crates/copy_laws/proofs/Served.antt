@@ -1,5 +1,5 @@
 -- The deed of an entry's request, by what its session holds; and moments that are the same.
-use Rattle.std.proofs.Common.{◌≡◌, ℕ, Bool, true, false, not, List, [], ◌∷◌, ◌++◌, Option, Some, None, refl, sym, ap, ◌∙◌, subst}
+use Rattle.std.proofs.Common.{◌≡◌, ℕ, Bool, true, false, not, List, [], ◌∷◌, ◌++◌, refl, sym, ap, ◌∙◌, subst}
 use Rattle.std.specs.Prelude.{◌==◌}
 use Rattle.event_codec.specs.declared.event.RowEvent.{RowEvent}
 use Rattle.row_store.specs.Databases.{Database}
@@ -17,8 +17,8 @@ use Rattle.plain_server.specs.States.{State, is_in_transaction, session_of, view
 use Rattle.journal_words.specs.Journals.{opens, opens_if}
 use Rattle.statement_laws.proofs.Tests.{are_one}
 use Rattle.history_laws.specs.Scenes.{Besides, SessionHold, Stored}
-use Rattle.history_laws.specs.Holdings.{Face, face_in, face_of, stored}
-use Rattle.history_laws.proofs.Faces.{faces_opened}
+use Rattle.history_laws.specs.Holdings.{Face, face_of, stored}
+use Rattle.history_laws.proofs.Faces.{faces_opened, writes_face, busy_face}
 use Rattle.history_laws.proofs.Journals.{stored_opened}
 use Rattle.ghost_rows.specs.Moments.{Row}
 use Rattle.ghost_rows.specs.Timelines.{Migration}
@@ -32,14 +32,6 @@ use Rattle.copy_laws.specs.Copying.{moment_of}
 -- the tables as the session sees them
 abbrev pub seen_of : State → ℕ → Database
 seen_of state number = after_events state.tables (holds_of state number).writes
-
-pub writes_face : (found : Option Session) → writes_of found ≡ (face_in found).hold.writes
-writes_face None = refl
-writes_face (Some session) = refl
-
-pub busy_face : (found : Option Session) → is_in_transaction found ≡ (face_in found).busy
-busy_face None = refl
-busy_face (Some session) = refl
 
 tables_done : (asked : Asked) (number : ℕ) (state : State) → (where_done asked number state).tables ≡ state.tables
 tables_done (Call request) number state = refl

@@ -115,7 +115,7 @@ module _ (again : StoresAgain) (seen : Database) (from into : List ℕ) (map : L
 
 -- WHAT IS DONE
 
-not_outside : (found : Option Session) (request : Request) → (face_in found).locked ≡ [] → is_outside found request ≡ false
+pub not_outside : (found : Option Session) (request : Request) → (face_in found).locked ≡ [] → is_outside found request ≡ false
 not_outside None request none = refl
 not_outside (Some session) request none = ap (λ locked. is_beyond locked (tables_named request)) none
 

@@ -76,7 +76,7 @@ use Rattle.follow_laws.proofs.Leaving.{Left, NoneWrote, left}
 use Rattle.follow_laws.proofs.Said.{EndsSaid, ends_said, log_said, made_said}
 
 -- the position that was asked for is in the log
-abbrev NotedIn : Setup → ℕ → Type 0
+abbrev pub NotedIn : Setup → ℕ → Type 0
 NotedIn (Reaching position) end = position ≤ end
 NotedIn setup end = Unit {0}
 
@@ -88,7 +88,7 @@ record SetupGoes (plan : PlanData) (m : Migration) (rows : List Row) (journal : 
   empty : past_ghost setup ≡ true → find_table m.new.name (state_at plan journal).tables ≡ Some (record { schema = m.new; rows = [] })
   noted : NotedIn setup (length (state_at plan journal).log)
 
-grows : (setup : Setup) (end later : ℕ) → end ≤ later → NotedIn setup end → NotedIn setup later
+pub grows : (setup : Setup) (end later : ℕ) → end ≤ later → NotedIn setup end → NotedIn setup later
 grows (Reaching position) end later more noted = omega (arith, more, noted)
 grows Listing end later more noted = tt
 grows (Clearing some) end later more noted = tt

@@ -98,7 +98,7 @@ Rests (Planned next todo) = ⊥
 Rests (Returning next before after rest) = ⊥
 
 -- where the applier rests its session holds nothing
-rests_own : (m : Migration) (at : Clustered m.schema) (rows : List Row) (copier applier : ℕ) (now : ToolMoment) → now.plan ≡ Resting → ToolStands m at rows copier applier now → now.hold applier ≡ no_hold
+pub rests_own : (m : Migration) (at : Clustered m.schema) (rows : List Row) (copier applier : ℕ) (now : ToolMoment) → now.plan ≡ Resting → ToolStands m at rows copier applier now → now.hold applier ≡ no_hold
 rests_own m at rows copier applier now rests (at_rest is kept) = kept.tool.applying.rests
 rests_own m at rows copier applier now rests (at_work next todo is kept) = absurd (subst Rests (sym rests ∙ is) tt)
 rests_own m at rows copier applier now rests (halfway next old row rest is kept) = absurd (subst Rests (sym rests ∙ is) tt)

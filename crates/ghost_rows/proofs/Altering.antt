@@ -11,11 +11,10 @@ use Rattle.gho_schema.specs.Tables.{Ascends}
 use Rattle.alter_image.specs.declared.map.MapColumn.{MapColumn}
 use Rattle.alter_image.specs.Images.{image, images}
 use Rattle.row_store.specs.RowLists.{is_at}
-use Rattle.row_store.proofs.FoundRows.{others_not_at}
+use Rattle.row_store.proofs.FoundRows.{others_not_at, none_at}
 use Rattle.row_store.proofs.Orders.{turned}
 use Rattle.row_store.proofs.RowLaws.{key_is}
 use Rattle.statement_laws.proofs.OneRow.{own_key}
-use Rattle.ghost_rows.proofs.Replacing.{not_at}
 use Rattle.ghost_rows.specs.Moments.{Row}
 
 -- nothing is found where no row is at the key
@@ -38,7 +37,7 @@ rest_here : (places : List ℕ) (key row : Row) (a b : List Row) (at : Bool) →
 rest_here places key row a b false at first second same = same
 rest_here places key row a b true at first second same =
     let is : key_of places row ≡ key = sym (key_is places key row at) in
-    subst (λ k. find (is_at places k) a ≡ find (is_at places k) b) is (found_none (is_at places (key_of places row)) a (not_at places row a first.0) ∙ sym (found_none (is_at places (key_of places row)) b (not_at places row b second.0)))
+    subst (λ k. find (is_at places k) a ≡ find (is_at places k) b) is (found_none (is_at places (key_of places row)) a (none_at places row a first.0) ∙ sym (found_none (is_at places (key_of places row)) b (none_at places row b second.0)))
 
 same_by : (places : List ℕ) (x y : Row) (a b : List Row) (o : Ordering) → compare_keys (key_of places x) (key_of places y) ≡ o → Ascends places (x ∷ a) → Ascends places (y ∷ b) → ((key : Row) → find (is_at places key) (x ∷ a) ≡ find (is_at places key) (y ∷ b))
     → (((key : Row) → find (is_at places key) a ≡ find (is_at places key) b) → a ≡ b) → x ∷ a ≡ y ∷ b

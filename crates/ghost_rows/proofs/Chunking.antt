@@ -30,7 +30,7 @@ not_less Less fails = absurd (let no : true ≡ false = fails in cc)
 not_less Equal fails = refl
 not_less Greater fails = refl
 
-not_and : (a b : Bool) → (a && b) ≡ false → b ≡ true → a ≡ false
+pub not_and : (a b : Bool) → (a && b) ≡ false → b ≡ true → a ≡ false
 not_and true b none is = absurd (let no : true ≡ false = sym is ∙ none in cc)
 not_and false b none is = refl
 

@@ -3,7 +3,7 @@ use Rattle.std.proofs.Common.{◌≡◌, ℕ, Bool, true, false, ◌&&◌, ◌||
 use Rattle.std.specs.List.{AllByRecursion}
 use Rattle.std.specs.Ordering.{is_eq}
 use Rattle.std.specs.Result.{result_ok}
-use Rattle.std.proofs.lemmas.Bool.{and_parts}
+use Rattle.std.proofs.lemmas.Bool.{and_parts, or_parts}
 use Rattle.gho_values.specs.Comparing.{compare_keys}
 use Rattle.gho_values.proofs.Orders.{tied_keys}
 use Rattle.gho_schema.specs.declared.schema.Schema.{Schema}
@@ -24,7 +24,7 @@ use Rattle.ghost_relation.specs.Views.{GhostFollows, Progress}
 use Rattle.ghost_rows.proofs.Altering.{finds_itself}
 use Rattle.ghost_rows.proofs.Finding.{clash_turned, found_at, found_in, put_elsewhere}
 use Rattle.ghost_rows.proofs.Replacing.{after_both, behind}
-use Rattle.ghost_rows.proofs.StayingKeys.{or_false, put_is_found}
+use Rattle.ghost_rows.proofs.StayingKeys.{put_is_found}
 use Rattle.ghost_rows.specs.Moments.{Row, put_in, rows_after_all, rows_at}
 use Rattle.ghost_rows.specs.Timelines.{Migration, timeline_of}
 use Rattle.ghost_rows.specs.Views.{GhostRows, is_among, views_of}
@@ -55,7 +55,7 @@ among_more keys key other is = among_by key other (is_among keys other) (is_eq (
 
 pub among_less : (keys : List Row) (key other : Row) → is_among (key ∷ keys) other ≡ false → (is_eq (compare_keys other key) ≡ false) × (is_among keys other ≡ false)
 unfolding is_among
-among_less keys key other is = or_false (is_eq (compare_keys other key)) (is_among keys other) is
+among_less keys key other is = or_parts (is_eq (compare_keys other key)) (is_among keys other) is
 
 -- *CopyRow answers Ok(1).*
 pub row_copied : (m : Migration) (rows : List Row) (log : List RowEvent) (done half : Row → Bool) (progress : Progress Row) (ghost : GhostRows) (keys : List Row) (row made : Row) → HasClusteredKey m.new

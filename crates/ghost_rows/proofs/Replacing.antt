@@ -11,7 +11,7 @@ use Rattle.event_codec.specs.declared.event.Change.{Change}
 use Rattle.event_codec.specs.declared.event.Change.TheVariants.{Write, Delete}
 use Rattle.row_store.specs.ClusteredKeys.{HasClusteredKey}
 use Rattle.row_store.specs.RowLists.{is_at, without_key}
-use Rattle.row_store.proofs.FoundRows.{all_left, none_found}
+use Rattle.row_store.proofs.FoundRows.{all_left, none_found, none_at}
 use Rattle.row_store.proofs.Ascending.{all-filter}
 use Rattle.row_store.proofs.Orders.{turned}
 use Rattle.row_store.proofs.RowLaws.{key_is, gone}
@@ -36,11 +36,6 @@ unfolding rows_after_all
 after_both places [] b rows = refl
 after_both places (change ∷ a) b rows = after_both places a b (rows_after places change rows)
 
--- the other rows of a list in order of key are not at a row's key
-pub not_at : (places : List ℕ) (row : Row) (rows : List Row) → AllByRecursion (λ other. compare_keys (key_of places row) (key_of places other) ≡ Less) rows → AllByRecursion (λ other. is_at places (key_of places row) other ≡ false) rows
-not_at places row [] less = tt
-not_at places row (other ∷ rows) less = (rw less.0 refl, not_at places row rows less.1)
-
 -- a row in front stays, where all that are taken out are behind it
 out_behind : (places : List ℕ) (row : Row) (taken rows : List Row) → AllByRecursion (λ other. is_at places (key_of places other) row ≡ false) taken → Out places taken (row ∷ rows) ≡ row ∷ Out places taken rows
 unfolding rows_after_all
@@ -60,7 +55,7 @@ out_here : (test : Row → Bool) (places : List ℕ) (row : Row) (rows : List Ro
     → Out places (cond b (row ∷ filter test rows) (filter test rows)) (row ∷ rows) ≡ cond (not b) (row ∷ filter (λ r. not (test r)) rows) (filter (λ r. not (test r)) rows)
 unfolding rows_after_all
 out_here test places row rows true passes less others =
-    let left : without_key places (key_of places row) rows ≡ rows = all_left (is_at places (key_of places row)) rows (not_at places row rows less) in
+    let left : without_key places (key_of places row) rows ≡ rows = all_left (is_at places (key_of places row)) rows (none_at places row rows less) in
     let first : without_key places (key_of places row) (row ∷ rows) ≡ rows = rw (own_key places row) left in
     ap (Out places (filter test rows)) first ∙ others
 out_here test places row rows false passes less others =
@@ -81,7 +76,7 @@ left_here : (test : Row → Bool) (places : List ℕ) (key row : Row) (rows : Li
     → find (is_at places key) (cond (not t) (row ∷ filter (λ r. not (test r)) rows) (filter (λ r. not (test r)) rows)) ≡ unless test (cond k (Some row) (find (is_at places key) rows))
 unfolding unless
 left_here test places key row rows true true at passes less others =
-    let apart : AllByRecursion (λ other. is_at places key other ≡ false) rows = subst (λ k. AllByRecursion (λ other. is_at places k other ≡ false) rows) (sym (key_is places key row at)) (not_at places row rows less) in
+    let apart : AllByRecursion (λ other. is_at places key other ≡ false) rows = subst (λ k. AllByRecursion (λ other. is_at places k other ≡ false) rows) (sym (key_is places key row at)) (none_at places row rows less) in
     rw passes (none_found (is_at places key) (is_at places key) (filter (λ r. not (test r)) rows) (λ other fails. fails) (all-filter (λ other. is_at places key other ≡ false) (λ r. not (test r)) rows apart))
 left_here test places key row rows true false at passes less others = rw (at, passes) refl
 left_here test places key row rows false true at passes less others = others

@@ -1,6 +1,6 @@
 -- A change that doesn't touch a key leaves its unique keys.
 use Rattle.std.proofs.Common.{◌≡◌, ℕ, zero, suc, Bool, true, false, not, ◌&&◌, ◌||◌, List, [], ◌∷◌, find, Some, None, refl, sym, ap, ◌∙◌, subst}
-use Rattle.std.proofs.lemmas.Bool.{false≢true}
+use Rattle.std.proofs.lemmas.Bool.{false≢true, or_parts}
 use Rattle.std.specs.Ordering.{is_eq}
 use Rattle.std.specs.List.{slice_get}
 use Rattle.gho_values.specs.Comparing.{compare_keys}
@@ -21,11 +21,6 @@ use Rattle.row_store.proofs.FoundRows.{put_new}
 use Rattle.row_store.proofs.Orders.{is_Equal}
 use Rattle.statement_laws.proofs.OneRow.{own_key}
 
--- two rows that differ in no unique key meet the same rows
-pub or_false : (a b : Bool) → (a || b) ≡ false → (a ≡ false) × (b ≡ false)
-or_false true b is = absurd (false≢true (sym is))
-or_false false b is = (refl, is)
-
 not_false : (b : Bool) → not b ≡ false → b ≡ true
 not_false true is = refl
 not_false false is = absurd (false≢true (sym is))
@@ -39,18 +34,18 @@ pub same_clash : (uniques : List Index) (before after other : Row) → changes_k
 unfolding changes_key
 same_clash [] before after other none = refl
 same_clash (index ∷ uniques) before after other none =
-    let parts = or_false (not (is_eq (compare_keys (key_of index.places before) (key_of index.places after)))) (changes_key uniques before after) none in
+    let parts = or_parts (not (is_eq (compare_keys (key_of index.places before) (key_of index.places after)))) (changes_key uniques before after) none in
     rw (same_place index before after parts.0, same_clash uniques before after other parts.1) refl
 
 pub same_key : (uniques : List Index) (place : ℕ) (index : Index) (before after : Row) → slice_get uniques place ≡ Some index → changes_key uniques before after ≡ false → key_of index.places before ≡ key_of index.places after
 unfolding changes_key
 same_key [] place index before after there none = absurd cc
 same_key (first ∷ uniques) zero index before after there none =
-    let parts = or_false (not (is_eq (compare_keys (key_of first.places before) (key_of first.places after)))) (changes_key uniques before after) none in
+    let parts = or_parts (not (is_eq (compare_keys (key_of first.places before) (key_of first.places after)))) (changes_key uniques before after) none in
     let one : first ≡ index = cc in
     subst (λ (i : Index). key_of i.places before ≡ key_of i.places after) one (same_place first before after parts.0)
 same_key (first ∷ uniques) (suc place) index before after there none =
-    let parts = or_false (not (is_eq (compare_keys (key_of first.places before) (key_of first.places after)))) (changes_key uniques before after) none in
+    let parts = or_parts (not (is_eq (compare_keys (key_of first.places before) (key_of first.places after)))) (changes_key uniques before after) none in
     same_key uniques place index before after there parts.1
 
 -- the row of a key before a change that doesn't touch it

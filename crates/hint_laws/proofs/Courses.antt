@@ -52,6 +52,7 @@ use Rattle.machine_laws.proofs.Seated.{others_stand, own_fits, own_lost, own_mis
 use Rattle.course_laws.proofs.CourseTurns.{AnswerKeeps, ApplyKeeps, CopyKeeps, CutKeeps, DrainKeeps, Kept, ResizeKeeps, SetupKeeps, TurnKeeps, UnfitKeeps, gives_asked, turn_kept}
 use Rattle.course_laws.proofs.Owners.{commands_operator}
 use Rattle.follow_laws.proofs.Said.{log_said}
+use Rattle.follow_laws.proofs.Starts.{grows, NotedIn}
 use Rattle.follow_turns.proofs.Asked.{about_called}
 use Rattle.sentry_laws.specs.Sentries.{IsDraining}
 use Rattle.sentry_laws.proofs.Draining.{IsRead, Knows, knows_later}
@@ -59,12 +60,13 @@ use Rattle.sentry_laws.proofs.Hinting.{HintsBelow, none_earlier}
 use Rattle.sentry_laws.proofs.Inductions.{moment_more}
 use Rattle.sentry_laws.proofs.Knowing.{Reads, knows_took}
 use Rattle.unaltered_laws.specs.Laws.{IsUnaltered}
+use Rattle.migration_laws.proofs.Leaves.{not_both}
 use Rattle.hint_laws.specs.Laws.{is_unhinted}
 use Rattle.hint_laws.proofs.Asked.{InspLeft, before, insp_left, insp_setup, insp_work, known, lost_left, others_left, run, scene_run, served, setup_left, together}
 use Rattle.hint_laws.proofs.Logging.{LeavesAway, LogsAway, LogsHint, NoneWrote}
 use Rattle.hint_laws.proofs.Phases.{AsksHint, HintsIn, HintsStand, WaitsHint, asks_waits, drain_ahead, drain_passes, end_drains, end_passes, hint_below, insp_below, insp_drains, locker_drains, locker_hints, may_hint, passes, renamer_drains, renamer_passes}
 use Rattle.hint_laws.proofs.Telling.{both_tables, read_later, reading_said}
-use Rattle.hint_laws.proofs.States.{BatchIs, CourseAhead, CourseHints, HintsGo, NotedIn, SetupHints, batch_is, grows, hints_later, last_at_most, none_hinted, not_both, weakly}
+use Rattle.hint_laws.proofs.States.{BatchIs, CourseAhead, CourseHints, HintsGo, SetupHints, batch_is, hints_later, last_at_most, none_hinted, weakly}
 use Rattle.hint_laws.proofs.Writes.{Rises, rises_away, rises_both, below_both, none_below}
 
 -- ONE TURN

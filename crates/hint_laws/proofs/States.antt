@@ -1,39 +1,29 @@
 -- What is known of the hint rows behind a journal, and of a log that grows.
-use Rattle.std.proofs.Common.{◌≡◌, ◌≤◌, ℕ, zero, suc, Bool, true, false, List, [], ◌∷◌, ◌++◌, length, take, Option, Some, refl, subst, ◌∙◌, arith}
-use Rattle.std.specs.Prelude.{nat_le, ◌==◌, if◌then◌else◌}
+use Rattle.std.proofs.Common.{◌≡◌, ◌≤◌, ℕ, zero, suc, Bool, true, false, List, ◌++◌, length, take, Option, Some, refl, subst, ◌∙◌, arith}
+use Rattle.std.specs.Prelude.{nat_le}
 use Rattle.std.proofs.lemmas.Bool.Decides.{nat_tests}
 use Rattle.std.proofs.lemmas.List.{take_all}
 use Rattle.event_codec.specs.declared.event.RowEvent.{RowEvent}
 use Rattle.script_text.specs.declared.actor.Actor.TheVariants.{Apply, Insp}
-use Rattle.plain_server.specs.declared.answer.Answer.{Answer}
-use Rattle.plain_server.specs.declared.answer.Answer.TheVariants as answers
 use Rattle.plain_server.specs.declared.entry.Entry.{Entry}
 use Rattle.plain_server.specs.declared.request.Request.{Request}
 use Rattle.plan_words.specs.PlanData.{PlanData}
 use Rattle.changelog_table.specs.Hints.{last_hint}
 use Rattle.changelog_table.specs.ToolNames.{log_name}
 use Rattle.journal_words.specs.Journals.{state_at}
-use Rattle.event_applier.specs.declared.applier.Applier.{Applier}
-use Rattle.event_applier.specs.declared.applier.ApplyStep.{ApplyStep}
-use Rattle.event_applier.specs.declared.applier.ApplyStep.TheVariants.{Reading, Beginning, Applying, Committing}
-use Rattle.event_applier.specs.declared.applier.Batch.{Batch}
-use Rattle.event_applier.specs.Appliers as appliers
-use Rattle.migration_program.specs.Setups.{Setup, Listing, Clearing, MakingLog, MakingGhost, Marking, Reaching, Ready}
+use Rattle.migration_program.specs.Setups.{Setup}
 use Rattle.migration_program.specs.Tools.{Course, Migrating, SettingUp, moment, stopped}
 use Rattle.program_laws.proofs.Keeping.{Keeps, always}
 use Rattle.ghost_laws.specs.Invariant.{NotOf}
 use Rattle.machine_laws.specs.Standings.{needs_names, standing_of}
+use Rattle.machine_laws.proofs.Forming.{took_batch}
 use Rattle.sentry_laws.proofs.Hinting.{HintsBelow, none_earlier}
+use Rattle.follow_laws.proofs.Starts.{NotedIn}
 use Rattle.hint_laws.proofs.Logging.{NoneWrote}
 use Rattle.hint_laws.proofs.Phases.{HintsIn, HintsStand, IsAhead}
 use Rattle.hint_laws.proofs.Writes.{below_both, below_more, none_below}
 
 -- WHAT IS KNOWN
-
--- the position that was asked for is in the log
-abbrev pub NotedIn : Setup → ℕ → Type 0
-NotedIn (Reaching position) end = position ≤ end
-NotedIn setup end = Unit {0}
 
 -- while the tool sets up nothing of the changelog is logged
 pub record SetupHints (t : List ℕ) (log : List RowEvent) (setup : Setup) : Type 0 where
@@ -56,19 +46,6 @@ pub record HintsGo (plan : PlanData) (journal : List Entry) : Type 0 where
   pub names : (request : Request) → (standing_of plan journal Apply).waits ≡ Some request → needs_names request ≡ true
 
 -- THE LOG GROWS
-
-pub not_both : (name : List ℕ) (a b : List RowEvent) → NotOf name a → NotOf name b → NotOf name (a ++ b)
-not_both name [] b one two = two
-not_both name (event ∷ a) b one two = (one.0, not_both name a b one.1 two)
-
-pub grows : (setup : Setup) (end later : ℕ) → end ≤ later → NotedIn setup end → NotedIn setup later
-grows (Reaching position) end later more noted = omega (arith, more, noted)
-grows Listing end later more noted = tt
-grows (Clearing some) end later more noted = tt
-grows MakingLog end later more noted = tt
-grows MakingGhost end later more noted = tt
-grows Marking end later more noted = tt
-grows (Ready position range) end later more noted = tt
 
 pub hints_later : (t : List ℕ) (attempts : ℕ) (log events : List RowEvent) (b : Bool) → NotOf (log_name t) events → HintsIn b t attempts log → HintsIn b t attempts (log ++ events)
 hints_later t attempts log events true away below = (below.0, below.1, below_both t below.0 log events below.2 (none_below t below.0 events away))
@@ -100,26 +77,6 @@ last_at_most t most log below = subst (λ (l : List RowEvent). last_hint t 0 l �
 abbrev pub BatchIs : PlanData → Course → Type 0
 BatchIs plan (SettingUp setup tries) = Unit {0}
 BatchIs plan (Migrating work) = work.applier.batch ≡ plan.options.dml_batch_size
-
-read_batch : (applier : Applier) (batch : Batch) → (appliers.read_batch applier batch).batch ≡ applier.batch
-read_batch applier batch = by (batch.statements == 0) where
-  by : (none : Bool) → (if none then appliers.moved applier batch else record applier { step = Beginning batch }).batch ≡ applier.batch
-  by true = refl
-  by false = refl
-
-after_batch : (turn : ℕ) (applier : Applier) (step : ApplyStep) (answer : Answer) → (appliers.after_answer turn applier step answer).batch ≡ applier.batch
-after_batch turn applier Reading (answers.Events events next) = read_batch applier (appliers.batch_of turn applier events next)
-after_batch turn applier (Beginning batch) (answers.Ok count) = refl
-after_batch turn applier (Applying batch done part) (answers.Ok count) = refl
-after_batch turn applier (Applying batch done part) (answers.Refused number column) = refl
-after_batch turn applier (Committing batch) (answers.Ok count) = refl
-after_batch turn applier step answer = refl
-
-took_batch : (turn : ℕ) (applier : Applier) (answer : Answer) → (appliers.took turn applier answer).batch ≡ applier.batch
-unfolding appliers.took
-took_batch turn applier answers.Lost = refl
-took_batch turn applier (answers.TimedOut waited) = refl
-took_batch turn applier answer = after_batch turn applier applier.step answer
 
 stops : (plan : PlanData) (course : Course) → BatchIs plan course → BatchIs plan (stopped course)
 stops plan (SettingUp setup tries) at = tt

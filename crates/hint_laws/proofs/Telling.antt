@@ -20,6 +20,7 @@ use Rattle.history_laws.specs.Scenes.{Scene}
 use Rattle.history_laws.specs.Turns.{IsSceneRun, IsTold, about, scene_state}
 use Rattle.ghost_laws.specs.Leaving.{deed_answer, was_done, where_done}
 use Rattle.ghost_laws.proofs.Undone.{deeds_answer}
+use Rattle.ghost_laws.proofs.Reading.{read_is, taken_length}
 use Rattle.copy_laws.proofs.Served.{Deeded, deeded}
 use Rattle.copy_laws.proofs.Served.Deeded.{outside_so, within_so}
 use Rattle.statement_laws.proofs.Tests.{are_one}
@@ -86,11 +87,6 @@ short tables (event ∷ part) place (suc n) less = short_by tables n place event
 
 -- BOTH
 
-at_most : (n : ℕ) (given : List ReadEvent) → length (take n given) ≤ n
-at_most zero given = omega arith
-at_most (suc n) [] = omega arith
-at_most (suc n) (read ∷ given) = let less : length (take n given) ≤ n = at_most n given in omega (arith, less)
-
 abbrev nothing : List RowEvent
 nothing = []
 
@@ -127,13 +123,9 @@ reads t log limit position within = at (length given == suc limit) refl where
       let behind = takes.behind in
       record { forward = omega (arith, behind); within = omega (arith, behind, steps, size, within); part = take takes.steps part; joins = ap (λ (n : ℕ). take n log) behind ∙ take_more log position takes.steps; read = takes.are ∙ of_either t (take takes.steps part) }
   at false is =
-      let most : length given ≤ suc limit = at_most (suc limit) (read_from (both_tables t) position part) in
+      let most : length given ≤ suc limit = taken_length (suc limit) (read_from (both_tables t) position part) in
       let fewer : length given < suc limit = grind (arith, nat_tests, most, is) in
       record { forward = within; within = omega arith; part = part; joins = take_all log ∙ sym (take-append-drop position log); read = short (both_tables t) part position (suc limit) fewer ∙ of_either t part }
-
-read_is : (position limit : ℕ) (tables : List (List ℕ)) (log : List RowEvent) → events_read position limit tables log ≡ events_given limit (length log) (take limit (read_from tables position (drop position log)))
-unfolding events_read
-read_is position limit tables log = refl
 
 -- one event at least is asked for
 told_reads : (t : List ℕ) (log : List RowEvent) (limit position : ℕ) (events : List RowEvent) (next : ℕ) → 1 ≤ limit → position ≤ length log → answers.Events events next ≡ events_read position limit (both_tables t) log → IsRead t log position events next

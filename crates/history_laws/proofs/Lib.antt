@@ -25,3 +25,4 @@ pub mod Hearing
 pub mod Linking
 pub mod Naming
 pub mod PlanJournals
+pub mod LawfulTables

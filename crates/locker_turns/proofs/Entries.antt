@@ -1,6 +1,5 @@
 -- What a turn of the tool's leaves, of a kept journal in which the RENAME isn't done yet.
 use Rattle.std.proofs.Common.{◌≡◌, ◌≢◌, ℕ, Bool, true, false, not, ◌||◌, List, [], ◌∷◌, ◌++◌, cond, Option, Some, None, Ok, refl, sym, ap, ◌∙◌, subst}
-use Rattle.std.specs.Prelude.{is_some}
 use Rattle.std.proofs.lemmas.Bool.{true≢false, or_left, or_right}
 use Rattle.std.proofs.lemmas.List.Folds.{list_any-append}
 use Rattle.gho_schema.specs.declared.schema.Schema.{Schema}
@@ -14,7 +13,7 @@ use Rattle.plain_server.specs.Answers.{ok}
 use Rattle.plain_server.specs.Deeds.{created, dropped}
 use Rattle.plain_server.specs.Entries.{is_client, is_command}
 use Rattle.plain_server.specs.Serving.{Served, leaves, loses, serves}
-use Rattle.plain_server.specs.States.{State, connected, is_in_transaction, kept_names, locked_names, session_of, shared_names, writes_of}
+use Rattle.plain_server.specs.States.{State, is_in_transaction, kept_names, locked_names, session_of, shared_names, writes_of}
 use Rattle.plain_server.specs.declared.answer.Answer.{Answer}
 use Rattle.plain_server.specs.declared.answer.Answer.TheVariants as answers
 use Rattle.plain_server.specs.declared.entry.Asked.{Asked}
@@ -25,20 +24,19 @@ use Rattle.plain_server.specs.declared.request.Request.TheVariants as requests
 use Rattle.plain_server.specs.declared.session.HeldName.{HeldName}
 use Rattle.plain_server.specs.declared.session.Session.{Session}
 use Rattle.plan_words.specs.PlanData.{PlanData}
-use Rattle.journal_words.specs.Journals.{may_lose, opens, opens_if, state_at}
+use Rattle.journal_words.specs.Journals.{may_lose, opens, state_at}
 use Rattle.statement_laws.proofs.Tests.{same_bytes}
-use Rattle.copy_laws.proofs.Served.{writes_face}
 use Rattle.history_laws.specs.Holdings.{Face, IsHeld, face_in, face_of, names_of}
 use Rattle.history_laws.specs.Plans.{IsSerialPlan, limits_of, scene_of}
 use Rattle.history_laws.specs.Scenes.{SessionHold, Stored, no_hold}
 use Rattle.history_laws.specs.Turns.{IsSceneRun, IsTold, about, told_at}
-use Rattle.history_laws.proofs.Faces.{faces_opened}
+use Rattle.history_laws.proofs.Faces.{faces_opened, writes_face}
 use Rattle.history_laws.proofs.Joined.{told_answer, told_missed}
 use Rattle.history_laws.proofs.Journals.{JournalHolds, journal_holds, stored_opened}
-use Rattle.history_laws.proofs.Names.{held_joined}
 use Rattle.history_laws.proofs.PlanJournals.{plan_runs_are_scene_runs}
 use Rattle.server_laws.specs.Others.{DefinitionsAreDone, EntriesAreTurns, ExclusiveIsAlone, LocksAreTaken, TurnOf, asks_exclusive, held_at}
 use Rattle.server_laws.proofs.Others.{Held, held_from, holds_from}
+use Rattle.server_laws.proofs.Alone.{held_opened}
 use Rattle.run_laws.specs.Kept.{IsKept}
 use Rattle.machine_laws.specs.Runnable.{IsRunnable}
 use Rattle.machine_laws.specs.Standings.{IsAbout, Standing, answers_to, is_called, is_polled, standing_of}
@@ -55,14 +53,6 @@ use Rattle.follow_turns.proofs.Asked.{about_called}
 use Rattle.follow_turns.proofs.Follows.{kept_front, kept_run}
 use Rattle.locker_turns.proofs.Apart.{gone_names, lost_holds, nameless_holds, opened_apart}
 use Rattle.locker_turns.proofs.Quiet.{CountsNone, Quiet, defines, is_late, is_ok, is_rowless, quiet_served}
-
--- a session that just connects holds nothing
-pub held_opened : (nothing tool : Bool) (number : ℕ) (state : State) → held_at (opens_if nothing tool number state) ≡ held_at state
-unfolding opens_if
-held_opened nothing tool number state = by (nothing || is_some (session_of number state.sessions)) where
-  by : (b : Bool) → held_at (cond b state (connected number tool state)) ≡ held_at state
-  by true = refl
-  by false = held_joined state.sessions number tool
 
 -- no name is held, where none is shared and none is locked
 no_names : (held : List HeldName) → names_of (shared_names held) ≡ [] → locked_names held ≡ [] → held ≡ []

@@ -1,6 +1,6 @@
 -- What LOCK TABLES, UNLOCK TABLES, CREATE, DROP and RENAME leave on the server: they commit no row; only the last three
 -- change which tables stand, and these change no lock that is held.
-use Rattle.std.proofs.Common.{◌≡◌, ◌⊎◌, ℕ, Bool, true, false, List, [], ◌∷◌, ◌++◌, cond, Option, Some, None, Result, Ok, Err, refl, sym, ap, ◌∙◌, subst, inl, inr}
+use Rattle.std.proofs.Common.{◌≡◌, ℕ, Bool, true, false, List, [], ◌∷◌, ◌++◌, cond, Option, Some, None, Result, Ok, Err, refl, sym, ap, ◌∙◌, subst}
 use Rattle.std.specs.Prelude.{◌==◌}
 use Rattle.std.proofs.lemmas.Bool.{true≢false, false≢true}
 use Rattle.metadata_locks.specs.Granting as grants
@@ -10,7 +10,7 @@ use Rattle.row_store.specs.Databases.{Database, has_table, rename_tables}
 use Rattle.plain_server.specs.Answers.{refuses}
 use Rattle.plain_server.specs.Deeds.{all_stand, created, deed_unless, defined, dropped, is_outside, locks_if, renamed_or}
 use Rattle.plain_server.specs.Locking.{blocker, need}
-use Rattle.plain_server.specs.Serving.{Served, at_rest, called_unless, calls, counting, does, done, is_over, polled_of, polled_over, polled_unless, polls, serves, without_waiting}
+use Rattle.plain_server.specs.Serving.{Served, called_unless, calls, counting, does, done, is_over, polled_of, polled_over, polled_unless, polls, serves, without_waiting}
 use Rattle.plain_server.specs.States.{State, is_exclusive, is_in_transaction, locks_held, names_held, names_in, session_of, view, waiters, waiting_of, with_session}
 use Rattle.plain_server.specs.declared.answer.Answer.{Answer}
 use Rattle.plain_server.specs.declared.answer.Answer.TheVariants as answers
@@ -23,9 +23,10 @@ use Rattle.plain_server.specs.declared.session.Session.{Session}
 use Rattle.plain_server.specs.declared.session.Waiting.{Waiting}
 use Rattle.history_laws.specs.Holdings.{IsHeld}
 use Rattle.history_laws.specs.Turns.{about, request_of}
-use Rattle.history_laws.proofs.Names.{as_held, held_with, some_among}
+use Rattle.history_laws.proofs.Names.{as_held}
 use Rattle.least_session.proofs.Sessions.{none_of}
 use Rattle.server_laws.specs.Others.{held_at}
+use Rattle.server_laws.proofs.Others.{rests_names}
 use Rattle.machine_laws.proofs.Fitting.{IsPrompt}
 
 -- such a request
@@ -76,12 +77,6 @@ counted_names number polls (first ∷ sessions) = at (first.number == number) (c
   at true rest = refl
   at false rest = ap (λ (held : List grants.HeldName). as_held first.number first.names ++ held) rest
 
-rested_names : (number : ℕ) (sessions : List Session) (one : grants.HeldName) → IsHeld one (names_held (with_session number at_rest sessions)) → IsHeld one (names_held sessions)
-rested_names number sessions one is = by (held_with number at_rest sessions [] (λ s here x held. inl (some_among s.number (λ (h : HeldName). h.exclusive) s.names x held)) one is) where
-  by : IsHeld one (names_held sessions) ⊎ ⊥ → IsHeld one (names_held sessions)
-  by (inl old) = old
-  by (inr none) = absurd none
-
 -- WHERE IT IS DONE
 
 module _ (state : State) (number : ℕ) (w : List Waiting) where
@@ -126,7 +121,7 @@ counted request state number polls by w = record {
 }
 
 over : (request : Request) (state : State) (number by : ℕ) (late : Bool) → Quiet request state number (polled_over late by state number)
-over request state number by true = record { log = refl; tables = λ off. refl; undone = λ off. refl; counts = tt; fewer = λ is one held. rested_names number state.sessions one held; names = λ is late. absurd (true≢false late) }
+over request state number by true = record { log = refl; tables = λ off. refl; undone = λ off. refl; counts = tt; fewer = λ is one held. rests_names number state.sessions one held; names = λ is late. absurd (true≢false late) }
 over request state number by false = counted request state number _ by state.waiting
 
 -- *What such a turn leaves*

@@ -62,7 +62,7 @@ use Rattle.machine_laws.proofs.Clients.{Next, calls_line, polls_line, client_nex
 use Rattle.machine_laws.proofs.Polling.{AllTogether, AllWaits, waits_more, waits_begin, together_more_all, together_begins_all, given_idle, given_waits, no_word}
 use Rattle.machine_laws.proofs.Schemas.{keeps_table, is_quiet, quiet_keeps, schema_stays, schema_rests, schema_made}
 use Rattle.sentry_laws.proofs.Inductions.{moment_more}
-use Rattle.copy_laws.proofs.Served.{busy_face}
+use Rattle.history_laws.proofs.Faces.{busy_face}
 
 -- THE SETUP'S CALLS
 

@@ -55,7 +55,7 @@ use Rattle.migration_laws.proofs.Granted.{needs_apart, nothing_asked}
 
 -- WHAT IS WRITTEN
 
-not_both : (name : List ℕ) (a b : List RowEvent) → NotOf name a → NotOf name b → NotOf name (a ++ b)
+pub not_both : (name : List ℕ) (a b : List RowEvent) → NotOf name a → NotOf name b → NotOf name (a ++ b)
 not_both name [] b one two = two
 not_both name (event ∷ a) b one two = (one.0, not_both name a b one.1 two)
 

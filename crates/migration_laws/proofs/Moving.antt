@@ -36,7 +36,7 @@ use Rattle.migration_laws.specs.Machines.{IsBetween}
 
 -- THE COPIER BEHIND MORE TURNS
 
-copied_state : (journal : List Entry) (copier : Copier) → copier.is_copied ≡ true → copy_state journal copier ≡ Waiting None
+pub copied_state : (journal : List Entry) (copier : Copier) → copier.is_copied ≡ true → copy_state journal copier ≡ Waiting None
 copied_state journal copier is = rw is refl
 
 empty_state : (journal : List Entry) (copier : Copier) → copier.is_copied ≡ false → copier.range ≡ None → copy_state journal copier ≡ Waiting None

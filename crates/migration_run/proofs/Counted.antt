@@ -1,6 +1,6 @@
 -- What a turn in a session leaves to the counts.
 use Rattle.std.proofs.Common.{◌≡◌, ℕ, ◌+◌, ◌≤◌, ◌==◌, Bool, true, false, not, ◌&&◌, ◌||◌, max, List, [], ◌∷◌, ◌++◌, cond, Option, Some, None, refl, sym, ap, ◌∙◌, subst, arith}
-use Rattle.std.specs.Prelude.{is_some, count_by}
+use Rattle.std.specs.Prelude.{count_by}
 use Rattle.std.specs.Option.{option_map}
 use Rattle.script_text.specs.declared.actor.Side.{Side}
 use Rattle.plain_server.specs.declared.entry.Asked.{Asked}
@@ -18,15 +18,12 @@ use Rattle.migration_run.specs.declared.turn.Turn.{Turn}
 use Rattle.migration_run.specs.declared.counting.Counts.{Counts}
 use Rattle.migration_run.specs.Sessions.{IsSessionOf}
 use Rattle.migration_run.specs.Turning.{session_for, made_for, opened_on, answer_on, entry_on, is_lost_in, counts_of, MayTurn}
+use Rattle.migration_run.proofs.Connecting.{kind_live}
 
 -- a session by whose it would be
 none_there : (found : Option Session) → option_map (λ (s : Session). s.is_tool) found ≡ None → found ≡ None
 none_there None is = refl
 none_there (Some session) is = absurd (cc)
-
-some_there : (found : Option Session) (kind : Bool) → option_map (λ (s : Session). s.is_tool) found ≡ Some kind → is_some found ≡ true
-some_there None kind is = absurd (cc)
-some_there (Some session) kind is = refl
 
 lost_same : (side : Option Side) (asked : Asked) → is_lost side asked ≡ is_lost_in side asked
 lost_same None Cut = refl
@@ -84,7 +81,7 @@ module _ (state : State) (own : Option ℕ) (turn : Turn) (may : MayTurn state o
 
   live_is : kind_of number state.sessions ≡ Some tool → open_now ≡ state
   unfolding opens_if
-  live_is kind = rw (some_there (session_of number state.sessions) tool kind) refl
+  live_is kind = rw (kind_live (session_of number state.sessions) tool kind) refl
 
   idle : session_of number state.sessions ≡ None → is_waiting state number ≡ false
   idle none = may.waits number (ap (option_map (λ (s : Session). s.is_tool)) none)

@@ -1,11 +1,10 @@
 -- Behind the RENAME the new table's name is free for good, so no RENAME is done again.
-use Rattle.std.proofs.Common.{◌≡◌, ◌⊎◌, ◌+◌, ℕ, Bool, true, false, cond, not, ◌||◌, List, [], ◌∷◌, ◌++◌, Option, Some, None, Result, Ok, Err, refl, sym, ap, ◌∙◌, subst, inl, inr}
+use Rattle.std.proofs.Common.{◌≡◌, ◌⊎◌, ◌+◌, ℕ, Bool, true, false, cond, not, List, [], ◌∷◌, ◌++◌, Option, Some, None, Ok, Err, refl, sym, ap, ◌∙◌, subst, inl, inr}
 use Rattle.std.specs.List.{list_any}
 use Rattle.std.specs.Option.{option_map}
 use Rattle.std.specs.Str.{bytes_eq}
-use Rattle.std.proofs.lemmas.Bool.{true≢false, or_parts}
-use Rattle.row_store.specs.Databases.{Database, TableRows, find_table, has_table, is_named, name_table, rename_tables, with_name, without_table}
-use Rattle.row_store.specs.declared.renaming.NotRenamed.{NotRenamed}
+use Rattle.std.proofs.lemmas.Bool.{true≢false}
+use Rattle.row_store.specs.Databases.{Database, TableRows, find_table, has_table, is_named, rename_tables, with_name, without_table}
 use Rattle.row_store.specs.declared.renaming.NotRenamed.TheVariants as reasons
 use Rattle.row_store.specs.declared.renaming.Pair.{Pair}
 use Rattle.script_text.specs.declared.actor.Actor.{Actor}
@@ -27,7 +26,7 @@ use Rattle.plain_server.specs.declared.request.Request.{Request}
 use Rattle.plain_server.specs.declared.request.Request.TheVariants as requests
 use Rattle.plain_server.specs.declared.session.Waiting.{Waiting}
 use Rattle.plan_words.specs.PlanData.{PlanData}
-use Rattle.changelog_table.specs.ToolNames.{ghost_name, log_name, old_name}
+use Rattle.changelog_table.specs.ToolNames.{ghost_name, old_name}
 use Rattle.cutover_core.specs.Attempts as cutovers
 use Rattle.cutover_core.specs.Attempts.{clears, exchange, is_free}
 use Rattle.cutover_core.specs.declared.cutover.Clearing.{Clearing}
@@ -43,6 +42,7 @@ use Rattle.journal_words.specs.Journals.{may_lose, opens, state_at}
 use Rattle.migration_program.specs.Programs.{IsGiven, given, tool_call}
 use Rattle.migration_program.specs.Tools.{Course, Migrating, Moment, SettingUp, Tool, Work, is_reverting, moment, stopped}
 use Rattle.program_laws.proofs.Machines.{CourseIsNamed, named}
+use Rattle.program_laws.proofs.Naming.{not_ghost}
 use Rattle.statement_laws.proofs.Tests.{turned_bytes}
 use Rattle.history_laws.specs.Plans.{IsSerialPlan, limits_of, scene_of}
 use Rattle.history_laws.specs.Scenes.{Stored}
@@ -50,8 +50,7 @@ use Rattle.history_laws.specs.Turns.{IsTold, about, answer_at, missed_at, reques
 use Rattle.history_laws.proofs.Actors.{same_actor_is}
 use Rattle.history_laws.proofs.Joined.{told_answer, told_missed}
 use Rattle.history_laws.proofs.Journals.{opened_waits, stored_opened}
-use Rattle.history_laws.proofs.Moves.{renamed_other}
-use Rattle.history_laws.proofs.Naming.{migrated_no_tool}
+use Rattle.history_laws.proofs.Moves.{renamed_other, renamed_old, found_has, renamed_ok}
 use Rattle.server_laws.specs.Others.{DefinitionsAreDone}
 use Rattle.machine_laws.specs.Machines.{CourseStands, Stands, WorkStands, inspector_asks, inspector_waits}
 use Rattle.machine_laws.specs.Runnable.{IsRunnable}
@@ -71,9 +70,6 @@ use Rattle.locker_turns.proofs.Quiet.{CountsNone, Quiet, quiet_served}
 use Rattle.sentry_laws.proofs.Serving.{exchanged}
 
 -- NAMES
-
-table_not_ghost : (table : List ℕ) → bytes_eq table (ghost_name table) ≡ false
-table_not_ghost table = (or_parts (bytes_eq table (ghost_name table)) (bytes_eq table (log_name table)) (or_parts (bytes_eq table (ghost_name table) || bytes_eq table (log_name table)) (bytes_eq table (old_name table)) (migrated_no_tool table)).0).0
 
 -- WHO MAKES A TABLE
 
@@ -166,13 +162,6 @@ module _ (name dropped_name : List ℕ) (state : State) (number : ℕ) (none : I
 
 -- THE EXCHANGE
 
-found_has : (name : List ℕ) (tables : Database) → find_table name tables ≡ None → has_table name tables ≡ false
-found_has name [] none = refl
-found_has name (table ∷ tables) none = by (is_named name table) none (found_has name tables) where
-  by : (b : Bool) → cond b (Some table) (find_table name tables) ≡ None → (find_table name tables ≡ None → has_table name tables ≡ false) → (b || has_table name tables) ≡ false
-  by true none rest = absurd cc
-  by false none rest = rest none
-
 -- it needs the new table
 exchange_needs : (t : List ℕ) (tables after : Database) → find_table (ghost_name t) tables ≡ None → rename_tables (exchanged t) tables ≡ Ok after → ⊥
 unfolding rename_tables
@@ -181,7 +170,7 @@ exchange_needs t tables after none is = by (has_table (old_name t) tables) (has_
   moved = with_name t (old_name t) tables
 
   free : has_table (ghost_name t) moved ≡ false
-  free = found_has (ghost_name t) moved (renamed_other t (old_name t) (ghost_name t) tables (turned_bytes t (ghost_name t) (table_not_ghost t)) (ghost_not_old t) ∙ none)
+  free = found_has (ghost_name t) moved (renamed_other t (old_name t) (ghost_name t) tables (turned_bytes t (ghost_name t) (not_ghost t)) (ghost_not_old t) ∙ none)
 
   by : (a b c d : Bool) → d ≡ false → cond a (Err reasons.Stands) (cond b (cond c (Err reasons.Stands) (cond d (Ok (with_name (ghost_name t) t moved)) (Err reasons.Missing))) (Err reasons.Missing)) ≡ Ok after → ⊥
   by true b c d off is = cc
@@ -189,13 +178,6 @@ exchange_needs t tables after none is = by (has_table (old_name t) tables) (has_
   by false true true d off is = cc
   by false true false true off is = true≢false off
   by false true false false off is = cc
-
-renamed_old : (old new : List ℕ) (tables : Database) → bytes_eq new old ≡ false → find_table old (with_name old new tables) ≡ None
-renamed_old old new [] off = refl
-renamed_old old new (table ∷ tables) off = by (is_named old table) refl (renamed_old old new tables off) where
-  by : (b : Bool) → is_named old table ≡ b → find_table old (with_name old new tables) ≡ None → find_table old (cond b (name_table new table) table ∷ with_name old new tables) ≡ None
-  by true same rest = rw off rest
-  by false same rest = rw same rest
 
 -- behind it the new table's name is free
 pub exchange_frees : (t : List ℕ) (tables after : Database) → rename_tables (exchanged t) tables ≡ Ok after → schema_of (ghost_name t) after ≡ None
@@ -211,11 +193,7 @@ exchange_frees t tables after is = by (has_table (old_name t) tables) (has_table
   by false true false false is = absurd cc
   by false true false true is =
       let same : with_name (ghost_name t) t moved ≡ after = cc in
-      ap (schema_of (ghost_name t)) (sym same) ∙ ap (option_map (λ table. table.schema)) (renamed_old (ghost_name t) t moved (table_not_ghost t))
-
-renamed_ok : (result : Result Database NotRenamed) (tables : Database) → renamed_or result ≡ Ok tables → result ≡ Ok tables
-renamed_ok (Ok renamed) tables is = let same : renamed ≡ tables = cc in ap Ok same
-renamed_ok (Err reason) tables is = absurd cc
+      ap (schema_of (ghost_name t)) (sym same) ∙ ap (option_map (λ table. table.schema)) (renamed_old (ghost_name t) t moved (not_ghost t))
 
 -- WHAT IS SO BEHIND IT
 

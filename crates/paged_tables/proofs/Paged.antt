@@ -13,7 +13,7 @@ use Rattle.row_pages.specs.StoredRows.{PagedTable}
 use Rattle.row_store.specs.Databases.{TableRows, StoredTable, Database, IsNewIn, put_in_table, is_named, find_table, has_table, find_stored, others, spare_in, database, with_change, name_table, name_stored, NamesDiffer}
 use Rattle.row_store.proofs.RowsBetween.{one_more as one_further}
 use Rattle.row_store.proofs.NamedTables.{before, within, Stands, stands, Wrote, wrote, Put, put, is_new, has_found, IsTaken, take_out, IsAbsent, absent, added_differ}
-use Rattle.row_store.proofs.KeptTables.{not_ahead}
+use Rattle.row_store.proofs.KeptTables.{not_ahead, same_stored}
 use Rattle.name_map.specs.NameMaps.{NamedValues, names_before, has_name, with_value}
 use Rattle.name_map.proofs.Entries.{map_remove, got_map}
 use Rattle.paged_tables.specs.PagedDatabases.{stored_of, stored, table_names, AreNamed}
@@ -131,9 +131,6 @@ put_edited name row tables n old new named is got fresh schema rows =
     edit name (put_in_table row) tables n old new named at (ap (λ (s : Schema). s.name) schema) done.was done.wrote
 
 -- ---- another name
-
-same_stored : (t t' : TableRows) (n n' : ℕ) → t ≡ t' → n ≡ n' → let a : StoredTable = record { table = t; spare = n } in a ≡ record { table = t'; spare = n' }
-same_stored t t' n n' table spare = cc
 
 pub renamed_at : (tables : List PagedTable) (n : ℕ) (old new : PagedTable) (name had : List ℕ) → slice_get tables n ≡ Some old → new.table ≡ name_table name old.table → new.spare ≡ old.spare → had ≡ old.table.schema.name
     → IfSome (slice_get (stored tables) n) (λ s. (had ≡ s.table.schema.name) × (stored (set tables n new) ≡ slice_set (stored tables) n (name_stored name s)))

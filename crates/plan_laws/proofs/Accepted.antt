@@ -67,11 +67,11 @@ few_keys keys kept is =
     let few = or_parts before clients others.0 in
     subst (λ (k : KeyData). length k.texts.clients ≤ CLIENT_LIMIT) parts.1 (at_most CLIENT_LIMIT (length keys.texts.clients) few.1)
 
-past : {A C : Type 0} (b : Bool) (code : C) (other : Result A C) (y : A) → cond b (Err code) other ≡ Ok y → other ≡ Ok y
+pub past : {A C : Type 0} (b : Bool) (code : C) (other : Result A C) (y : A) → cond b (Err code) other ≡ Ok y → other ≡ Ok y
 past true code other y is = absurd (cc)
 past false code other y is = is
 
-keys_were : {A : Type 0} (read : Result A KeyRefusal) (x : A) → of_keys read ≡ Ok x → read ≡ Ok x
+pub keys_were : {A : Type 0} (read : Result A KeyRefusal) (x : A) → of_keys read ≡ Ok x → read ≡ Ok x
 keys_were (Ok y) x is = cc
 keys_were (Err refusal) x is = absurd (cc)
 

@@ -1,2 +1,2 @@
-mod Accepted
+pub mod Accepted
 mod Named

@@ -131,11 +131,11 @@ closes-comma rest ts lex = lex-word class.Sign (codes ",") rest ts (omega arith)
 
 -- ---- numbers
 
-end-digit : (rest : List ℕ) → IsEnd rest → is_ascii_digit (get_or rest 0 0) ≡ false
+pub end-digit : (rest : List ℕ) → IsEnd rest → is_ascii_digit (get_or rest 0 0) ≡ false
 end-digit [] end = refl
 end-digit (c ∷ rest) end = end.1
 
-end-quote : (rest : List ℕ) → IsEnd rest → begins_with 39 rest ≡ false
+pub end-quote : (rest : List ℕ) → IsEnd rest → begins_with 39 rest ≡ false
 end-quote [] end = refl
 end-quote (c ∷ rest) end = end.2
 

@@ -167,11 +167,11 @@ lexes-schema schema can =
     let same : front ++ body ++ close ++ comments ++ [] ≡ schema_words schema = append-nil (front ++ body ++ close ++ comments) ∙ append_assoc (front ++ body) close comments in
     subst (λ (words : List Token). Lexes (printed_schema schema ++ []) (words ++ [])) same (whole [] [] lex-end)
 
-words-are : (text : List ℕ) (read : Result (List Reading) WordFault) (ws : List Reading) (ts : List Token) → read ≡ Ok ws → map token_of ws ≡ ts → words_to text read ≡ record { words = ts; is_faulty = false }
+pub words-are : (text : List ℕ) (read : Result (List Reading) WordFault) (ws : List Reading) (ts : List Token) → read ≡ Ok ws → map token_of ws ≡ ts → words_to text read ≡ record { words = ts; is_faulty = false }
 words-are text (Ok us) ws ts e same = let is : us ≡ ws = cc in ap (λ (vs : List Reading). record { words = map token_of vs; is_faulty = false }) is ∙ ap (λ (vs : List Token). record { words = vs; is_faulty = false }) same
 words-are text (Err fault) ws ts e same = absurd cc
 
-lexes-words : (text : List ℕ) (ts : List Token) → Lexes text ts → text_words text ≡ record { words = ts; is_faulty = false }
+pub lexes-words : (text : List ℕ) (ts : List Token) → Lexes text ts → text_words text ≡ record { words = ts; is_faulty = false }
 unfolding text_words
 lexes-words text ts lex = let r = lex 0 in words-are text (words_of text) r.0 ts r.1 r.2
 

@@ -16,7 +16,6 @@ use Rattle.journal_words.specs.Clients.{client_at, clients_over}
 use Rattle.journal_words.specs.Journals.{state_at}
 use Rattle.journal_words.specs.Sessions.{live_session}
 use Rattle.migration_program.specs.Programs.{waits}
-use Rattle.copy_laws.proofs.Served.{busy_face}
 use Rattle.statement_laws.proofs.Tests.{same_number, are_one}
 use Rattle.run_laws.specs.Counting.{AreApart}
 use Rattle.run_laws.specs.Laws.{Living}
@@ -24,6 +23,7 @@ use Rattle.machine_laws.specs.Standings.{standing_in, standing_of}
 use Rattle.machine_laws.proofs.Asking.{WaitsWith, busy_waits}
 use Rattle.machine_laws.proofs.Clients.{ClientStands}
 use Rattle.course_laws.specs.Laws.{IsOwned}
+use Rattle.history_laws.proofs.Faces.{busy_face}
 use Rattle.ready_laws.specs.Laws.{ScriptsEnd}
 use Rattle.ready_laws.proofs.Ends.{all_closed}
 

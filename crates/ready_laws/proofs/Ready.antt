@@ -47,12 +47,13 @@ use Rattle.migration_program.specs.Programs.{waits, rolls_back, copy_call, apply
 use Rattle.migration_program.specs.Setups.{Setup, setup_call}
 use Rattle.migration_program.specs.Tools.{Work, Course, SettingUp, Migrating, Moment, is_reverting, moment}
 use Rattle.migration_program.specs.Verdicts.{is_calm, is_over, has_ended}
-use Rattle.copy_laws.proofs.Served.{busy_face}
 use Rattle.machine_laws.specs.Machines.{SetupStands, CourseStands, WorkStands, PhaseHolds, held, renaming}
 use Rattle.machine_laws.specs.Standings.{Standing, free, standing_in, standing_of}
 use Rattle.machine_laws.proofs.Asking.{WaitsWith, idle_waits}
 use Rattle.run_laws.proofs.Living.{all_living}
 use Rattle.course_laws.proofs.Owners.{AllOwned, IsOwnedTogether, together_owned}
+use Rattle.history_laws.proofs.Faces.{busy_face}
+use Rattle.ghost_rows.proofs.Chunking.{not_and}
 use Rattle.ready_laws.specs.Laws.{IsStuckAt, IsStuck, SomeoneIsReady}
 use Rattle.ready_laws.proofs.Going.{IsEnded, StepGoes, CopierGoes, CourseGoes, WorkGoes, IsGoing, all_going}
 use Rattle.ready_laws.proofs.Idle.{IsBusy, who_is_busy, load_none}
@@ -114,10 +115,6 @@ not_over : (a b c : Bool) → (a && b && not c) ≡ false → a ≡ true → b �
 not_over true true c is on calm = grind (arith)
 not_over true false c is on calm = absurd (false≢true calm)
 not_over false b c is on calm = absurd (false≢true on)
-
-not_both : (a b : Bool) → (a && b) ≡ false → b ≡ true → a ≡ false
-not_both true b is on = absurd (true≢false (sym on ∙ is))
-not_both false b is on = refl
 
 module _ (plan : PlanData) (journal : List Entry) (going : IsGoing plan journal) where
   abbrev now : Moment
@@ -481,7 +478,7 @@ someone_ready plan journal fit stands ends faithful follows ended = by (clients_
       (who_is_busy plan journal living together.owned.owner)
       none
       (load_none plan journal living together.owned.owner ends over going.tabled.all.clients.each)
-      (not_both (is_over (moment plan journal)) (clients_over plan journal) ended over)
+      (not_and (is_over (moment plan journal)) (clients_over plan journal) ended over)
       (moment plan journal).tool.course refl
 
   by : (a : Bool) → clients_over plan journal ≡ a → (b : Bool) → is_left plan (moment plan journal).tool.operator ≡ b → (list_any (is_ready plan journal) (actors plan) ≡ true) ⊎ IsStuck plan (moment plan journal) (moment plan journal).tool.course

@@ -3,7 +3,6 @@ use Rattle.std.proofs.Common.{◌≡◌, ℕ, true, false, not, List, [], ◌∷
 use Rattle.std.specs.List.{list_any}
 use Rattle.std.proofs.lemmas.Bool.{true≢false}
 use Rattle.row_store.specs.Databases.{Database, rename_tables}
-use Rattle.row_store.specs.declared.renaming.NotRenamed.{NotRenamed}
 use Rattle.row_store.specs.declared.renaming.Pair.{Pair}
 use Rattle.script_text.specs.declared.actor.Actor.{Actor}
 use Rattle.script_text.specs.declared.actor.Actor.TheVariants.{Op, Insp, Copy, Apply, Lock, Ren, Client}
@@ -38,6 +37,7 @@ use Rattle.history_laws.specs.Turns.{IsSceneRun, IsTold, about, request_of, told
 use Rattle.history_laws.proofs.Joined.{told_answer, told_missed}
 use Rattle.history_laws.proofs.Journals.{opened_waits}
 use Rattle.history_laws.proofs.PlanJournals.{plan_runs_are_scene_runs}
+use Rattle.history_laws.proofs.Moves.{renamed_ok}
 use Rattle.server_laws.specs.Others.{DefinitionsAreDone, ExclusiveIsAlone, WasDone}
 use Rattle.ghost_laws.specs.Leaving.{deed_answer, where_done}
 use Rattle.ghost_laws.proofs.Undone.{deeds_answer}
@@ -71,11 +71,6 @@ reads Reading is = refl
 reads (Beginning batch) is = absurd cc
 reads (Applying batch done part) is = absurd cc
 reads (Committing batch) is = absurd cc
-
--- tables that were renamed
-were_renamed : (result : Result Database NotRenamed) (tables : Database) → renamed_or result ≡ Ok tables → result ≡ Ok tables
-were_renamed (Ok made) tables is = let one : made ≡ tables = cc in ap Ok one
-were_renamed (Err reason) tables is = absurd cc
 
 -- EACH TURN IS SUCH A TURN
 
@@ -245,7 +240,7 @@ module _ (exclusive_is_alone : ExclusiveIsAlone) (definitions_are_done : Definit
   renamed : IsRenamed plan now entry.session
   renamed =
       is_renamed plan entry.session now (state_at plan (journal ++ entry ∷ []))
-      (were_renamed (rename_tables (exchanged plan.table) now.tables) (state_at plan (journal ++ entry ∷ [])).tables
+      (renamed_ok (rename_tables (exchanged plan.table) now.tables) (state_at plan (journal ++ entry ∷ [])).tables
       (definitions_are_done (limits_of plan) (scene_of plan journal) journal entry (exchange plan.table) (renamed_or (rename_tables (exchanged plan.table) now.tables)) entry_told about_here refl done))
       (exclusive_is_alone (limits_of plan) (scene_of plan journal) journal entry (exchange plan.table) scene_run entry_told about_here refl done)
 

@@ -3,12 +3,12 @@ use Rattle.std.proofs.Common.{◌≡◌, ℕ, zero, suc, ◌+◌, ◌<◌, Bool,
 use Rattle.std.specs.Prelude.{position}
 use Rattle.std.specs.Char.{to_ascii_lowercase}
 use Rattle.std.specs.List.{list_any, slice_get, prefix_len, position_or_len, AllByRecursion}
-use Rattle.std.proofs.lemmas.Bool.{lt-ltb, and_parts, or_parts}
+use Rattle.std.proofs.lemmas.Bool.{lt-ltb, and_parts, or_parts, or_right}
 use Rattle.std.proofs.lemmas.Slice.Eq.{bytes_eq-Decides}
 use Rattle.gho_schema.specs.Names.{same_name}
 use Rattle.schema_rules.specs.Names.{is_among, differ_from, names_differ, place_of}
 use Rattle.schema_rules.proofs.Lists.{All-at, All-weaker}
-use Rattle.schema_rules.proofs.Steps.{first_or, second_or}
+use Rattle.schema_rules.proofs.Steps.{first_or}
 use Rattle.schema_rules.proofs.SameNames.{same_name-own, same_name-turned, other_name-turned}
 
 -- ---- pairs of names
@@ -105,7 +105,7 @@ among-own [] place name at = absurd cc
 among-own (known ∷ names) zero name at =
     let same : known ≡ name = cc in
     first_or (same_name known name) (list_any (λ known. same_name known name) names) (subst (λ (n : List ℕ). same_name known n ≡ true) same (same_name-own known))
-among-own (known ∷ names) (suc place) name at = second_or (same_name known name) (list_any (λ known. same_name known name) names) (among-own names place name at)
+among-own (known ∷ names) (suc place) name at = or_right (same_name known name) (list_any (λ known. same_name known name) names) (among-own names place name at)
 
 -- ---- taken together again
 

@@ -28,9 +28,10 @@ use Rattle.statement_laws.specs.Databases.{EventsCovered}
 use Rattle.statement_laws.proofs.Tests.{are_one}
 use Rattle.history_laws.specs.Holdings.{face_of}
 use Rattle.history_laws.proofs.Names.{Free, names_granted}
+use Rattle.history_laws.proofs.Faces.{writes_face, busy_face}
 use Rattle.server_data.specs.Fitting.{NoneOf}
 use Rattle.state_laws.specs.Granting.{GrowsWell}
-use Rattle.state_laws.proofs.Deeds.{AtWork, busy_face, within_fits, writes_face}
+use Rattle.state_laws.proofs.Deeds.{AtWork, within_fits}
 use Rattle.state_laws.proofs.Waits.{nothing_blocks}
 use Rattle.server_desk.specs.Parts.{needed, state_of, GoTogether, HaveWritten, MayDo}
 use Rattle.server_desk.proofs.Steps.{at_work, need_so, seen_so}

@@ -102,7 +102,7 @@ told_inner None given is = cc
 told_inner (Some Before) given is = absurd (cc)
 told_inner (Some After) given is = cc
 
-held_opened : (nothing tool : Bool) (number : ℕ) (state : State) → held_at (opens_if nothing tool number state) ≡ held_at state
+pub held_opened : (nothing tool : Bool) (number : ℕ) (state : State) → held_at (opens_if nothing tool number state) ≡ held_at state
 unfolding opens_if
 held_opened nothing tool number state = at (nothing || is_some (session_of number state.sessions)) where
   at : (b : Bool) → held_at (cond b state (connected number tool state)) ≡ held_at state

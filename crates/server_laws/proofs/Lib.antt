@@ -1,5 +1,5 @@
 pub mod Others
-mod Alone
+pub mod Alone
 mod Locking
 pub mod Agreements
 pub mod Spans

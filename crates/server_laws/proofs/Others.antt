@@ -168,7 +168,7 @@ same_names number change sessions fewer one is = at (held_with number change ses
   at (inl old) = old
   at (inr none) = absurd none
 
-rests_names : (number : ℕ) (sessions : List Session) (one : grants.HeldName) → IsHeld one (names_held (with_session number at_rest sessions)) → IsHeld one (names_held sessions)
+pub rests_names : (number : ℕ) (sessions : List Session) (one : grants.HeldName) → IsHeld one (names_held (with_session number at_rest sessions)) → IsHeld one (names_held sessions)
 rests_names number sessions one is = same_names number at_rest sessions (λ s x held. some_among s.number (λ (h : HeldName). h.exclusive) s.names x held) one is
 
 unlocks_names : (number : ℕ) (sessions : List Session) (one : grants.HeldName) → IsHeld one (names_held (with_session number unlocking sessions)) → IsHeld one (names_held sessions)
@@ -188,7 +188,7 @@ locks_names number names sessions = held_with number (locking names) sessions (m
 
 -- THE TABLES THAT STAND
 
-some_changed : (b : Bool) (change : Change) (found : Option TableRows) → is_some (change_if b change found) ≡ is_some found
+pub some_changed : (b : Bool) (change : Change) (found : Option TableRows) → is_some (change_if b change found) ≡ is_some found
 some_changed true change None = refl
 some_changed true change (Some table) = refl
 some_changed false change None = refl

@@ -175,3 +175,9 @@ unfolding change_rows
 same-changed test places (Write row) a b same = same-put test places row a b same
 same-changed test places (Update before after) a b same = same-put test places after (without_row before a) (without_row before b) (same-without test before a b same)
 same-changed test places (Delete row) a b same = same-without test row a b same
+
+-- a row behind another one is another
+pub other_row : (places : List ℕ) (row other : Row) (b : Bool) → same_row row other ≡ b → compare_keys (key_of places row) (key_of places other) ≡ Less → b ≡ false
+other_row places row other true same less =
+    let tied : compare_keys (key_of places row) (key_of places other) ≡ Equal = ap (λ (r : Row). compare_keys (key_of places row) (key_of places r)) (sym (one_row row other same)) ∙ tied_itself keys_total (key_of places row) in absurd (cc)
+other_row places row other false same less = refl

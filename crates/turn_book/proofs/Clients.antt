@@ -227,7 +227,7 @@ reached_here plan journal i seats script seat all is at =
 
 -- THE CLIENTS ARE OVER
 
-left_here : {A : Type 0} → (xs : List A) (i : ℕ) (x : A) → slice_get xs i ≡ Some x → drop i xs ≡ x ∷ drop (i + 1) xs
+pub left_here : {A : Type 0} → (xs : List A) (i : ℕ) (x : A) → slice_get xs i ≡ Some x → drop i xs ≡ x ∷ drop (i + 1) xs
 left_here [] zero x is = absurd (cc)
 left_here [] (suc i) x is = absurd (cc)
 left_here (y ∷ xs) zero x is = let same : y ≡ x = cc in ap (λ z. z ∷ xs) same

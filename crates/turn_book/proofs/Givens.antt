@@ -12,7 +12,7 @@ use Rattle.migration_program.specs.Tools.{Work, Course, SettingUp, Migrating, To
 use Rattle.migration_program.specs.Programs.{waits, in_transaction, rolls_back, copy_call, tool_call, calls, tool_asks, given}
 use Rattle.run_laws.specs.Counting.{numbered, IsBehind}
 
-waits_same : (made : ℕ) (state : State) (session : Option ℕ) → waits (numbered made state) session ≡ waits state session
+pub waits_same : (made : ℕ) (state : State) (session : Option ℕ) → waits (numbered made state) session ≡ waits state session
 waits_same made state None = refl
 waits_same made state (Some session) = refl
 

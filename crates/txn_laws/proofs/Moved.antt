@@ -7,7 +7,7 @@ use Rattle.std.proofs.lemmas.Bool.{false≢true}
 use Rattle.gho_schema.specs.declared.schema.Schema.{Schema}
 use Rattle.event_codec.specs.declared.event.Change.{Change}
 use Rattle.event_codec.specs.declared.event.RowEvent.{RowEvent}
-use Rattle.row_store.specs.Databases.{TableRows, Database, find_table, has_table, is_named, with_change, without_table, rename_tables}
+use Rattle.row_store.specs.Databases.{TableRows, Database, find_table, with_change, without_table, rename_tables}
 use Rattle.row_store.specs.declared.renaming.Pair.{Pair}
 use Rattle.plain_server.specs.Jobs.{change_table, after_events}
 use Rattle.plain_server.specs.Rows.{change_all}
@@ -15,8 +15,8 @@ use Rattle.plain_server.specs.States.{pair_names}
 use Rattle.statement_laws.specs.Covering.{IsOrderlyTable}
 use Rattle.statement_laws.specs.Databases.{IsOrderly, WhereFound}
 use Rattle.statement_laws.proofs.Finding.{change_if, found_after}
-use Rattle.statement_laws.proofs.Tests.{are_same, nor_left, nor_right}
-use Rattle.history_laws.proofs.Moves.{Moved, create_moves, drop_moves, rename_moves}
+use Rattle.statement_laws.proofs.Tests.{are_same}
+use Rattle.history_laws.proofs.Moves.{Moved, create_moves, drop_moves, rename_moves, none_found}
 use Rattle.server_data.specs.Fitting.{EventsFit, FitsIn, NoneOf}
 use Rattle.txn_session.specs.Events.{changes_in}
 use Rattle.txn_session.specs.Premises.{HasSchema, IsOf}
@@ -111,11 +111,6 @@ pub outlasts_renames : TransactionsOutlastRenames
 outlasts_renames pairs tables after txn orderly of has none renamed =
     let moved : Moved (pair_names pairs) tables after = rename_moves pairs tables after renamed in
     outlasts_others (pair_names pairs) tables after txn of none (all_off (pair_names pairs) txn.events (schemas txn.tables) none has) moved.others (moved.orderly orderly)
-
--- *transactions outlast new tables*
-none_found : (name : List ℕ) (tables : Database) → has_table name tables ≡ false → find_table name tables ≡ None
-none_found name [] none = refl
-none_found name (table ∷ tables) none = rw (nor_left (is_named name table) (has_table name tables) none) (none_found name tables (nor_right (is_named name table) (has_table name tables) none))
 
 none_after : (b : Bool) (change : Change) (found : Option TableRows) → found ≡ None → change_if b change found ≡ None
 none_after true change found is = rw is refl

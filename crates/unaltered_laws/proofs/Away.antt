@@ -32,7 +32,8 @@ use Rattle.history_laws.specs.Plans.{AsksAway, AsksIdle, IsAway, IsSerialPlan, K
 use Rattle.history_laws.specs.Turns.{AtRest, RenamesSo, ToolAsks}
 use Rattle.history_laws.proofs.Actors.{Placed, Commands, GoesOn, Begins, placed}
 use Rattle.history_laws.proofs.Naming.{migrated_no_tool}
-use Rattle.copy_laws.proofs.Served.{busy_face}
+use Rattle.history_laws.proofs.LawfulTables.{lawful_table}
+use Rattle.history_laws.proofs.Faces.{busy_face}
 use Rattle.statement_laws.proofs.Tests.{are_same, same_bytes}
 use Rattle.machine_laws.specs.Forming.{IsFitting}
 use Rattle.machine_laws.specs.Laws.{has_keys}
@@ -45,7 +46,7 @@ use Rattle.machine_laws.proofs.Marks.{IsMarking, history_more, marking_begins, m
 use Rattle.machine_laws.proofs.Polling.{AllWaits, given_idle, waits_begin, waits_more}
 use Rattle.machine_laws.proofs.Schemas.{is_quiet}
 use Rattle.machine_laws.proofs.Seated.{IsServed, own_waiting}
-use Rattle.machine_laws.proofs.Staying.{defines_out, lawful_table, rest_if}
+use Rattle.machine_laws.proofs.Staying.{defines_out, rest_if}
 use Rattle.machine_laws.proofs.Tabling.{QuietAt, given_quiet, may_define}
 use Rattle.unaltered_laws.specs.Laws.{IsUnaltered}
 use Rattle.unaltered_laws.proofs.Asking.{AskedAs, ToolCall, exchange_takes, given_asked}

@@ -46,7 +46,7 @@ use Rattle.history_laws.specs.Plans.{limits_of, scene_of}
 use Rattle.history_laws.specs.Holdings.{Face, face_of}
 use Rattle.history_laws.specs.Scenes.{SessionHold}
 use Rattle.history_laws.proofs.Actors.{Placed, placed}
-use Rattle.history_laws.proofs.Faces.{faces_opened}
+use Rattle.history_laws.proofs.Faces.{faces_opened, writes_face}
 use Rattle.ghost_rows.specs.Moments.{Row}
 use Rattle.ghost_rows.specs.Timelines.{Migration}
 use Rattle.ghost_laws.specs.Holding.{Clustered}
@@ -55,7 +55,6 @@ use Rattle.ghost_laws.proofs.Keeping.{found_besides}
 use Rattle.ghost_laws.proofs.Running.{any_kept}
 use Rattle.copy_laws.proofs.Knowing.{Asks, asks_at}
 use Rattle.copy_laws.proofs.Rows.{after_none, not_of}
-use Rattle.copy_laws.proofs.Served.{writes_face}
 use Rattle.run_laws.specs.Kept.{IsKept}
 use Rattle.machine_laws.specs.Machines.{CourseStands, Stands, WorkStands, copier_asks, copier_busy}
 use Rattle.machine_laws.specs.Standings.{IsAbout, MayTake, Standing, is_called, is_polled, standing_of}

@@ -7,8 +7,9 @@ use Rattle.script_text.specs.declared.script.ScriptLine.{ScriptLine}
 use Rattle.plan_words.specs.PlanData.{PlanData}
 use Rattle.plan_words.specs.declared.runs.ActorRun.{ActorRun}
 use Rattle.migration_program.specs.Orders.{actors, clients_from, Found, first_ready, from_pass}
+use Rattle.turn_book.proofs.Clients.{left_here}
 use Rattle.whole_replay.specs.Places.{words_from}
-use Rattle.whole_replay.proofs.Lists.{left_here, left_none}
+use Rattle.whole_replay.proofs.Lists.{left_none}
 
 client_count : (first : ℕ) (scripts : List (List ScriptLine)) → length (clients_from first scripts) ≡ length scripts
 unfolding clients_from

@@ -6,8 +6,9 @@ use Rattle.std.proofs.lemmas.Bool.{and_parts, ltb-true, ltb-false}
 use Rattle.script_text.specs.declared.actor.Actor.{Actor}
 use Rattle.plan_words.specs.declared.runs.ActorRun.{ActorRun}
 use Rattle.migration_program.specs.Orders.{Found, first_ready}
+use Rattle.turn_book.proofs.Clients.{left_here}
 use Rattle.whole_replay.specs.Places.{words_of_runs, words_from, by_word}
-use Rattle.whole_replay.proofs.Lists.{left_here, left_none}
+use Rattle.whole_replay.proofs.Lists.{left_none}
 
 pub words_whole : (runs : List ActorRun) → words_from 0 runs ≡ words_of_runs runs
 unfolding words_from

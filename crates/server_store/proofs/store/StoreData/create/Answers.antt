@@ -1,4 +1,4 @@
-use Rattle.state_laws.proofs.Lawful.{lawful_table}
+use Rattle.history_laws.proofs.LawfulTables.{lawful_table}
 use Rattle.server_store.proofs.store.StoreData.create.Goals as goal
 
 pub create_table-requires-clause-orderly : goal.create_table-requires-clause-orderly
