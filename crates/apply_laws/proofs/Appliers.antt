@@ -39,6 +39,7 @@ use Rattle.plain_server.specs.Showing.{ReadEvent, behind_last, events_read, read
 use Rattle.plain_server.specs.States.{State}
 use Rattle.changelog_table.specs.ToolNames.{log_name}
 use Rattle.journal_words.specs.Journals.{opens}
+use Rattle.journal_words.proofs.Answers.{answer_here}
 use Rattle.event_applier.specs.declared.applier.Applier.{Applier}
 use Rattle.event_applier.specs.declared.applier.ApplyStep.{ApplyStep}
 use Rattle.event_applier.specs.declared.applier.ApplyStep.TheVariants.{Reading, Beginning, Applying, Committing}
@@ -81,7 +82,6 @@ use Rattle.ghost_laws.proofs.Tooling.{tool_refused}
 use Rattle.ghost_laws.proofs.Turns.{writes_fit}
 use Rattle.ghost_laws.proofs.Undone.{deeds_answer, undone_is_left}
 use Rattle.copy_laws.specs.Copying.{moment_of}
-use Rattle.copy_laws.proofs.Journals.{answer_here}
 use Rattle.copy_laws.proofs.Knowing.{Heard, IsBad, Undone, heard_as, undone_as}
 use Rattle.copy_laws.proofs.Knowing.Heard.{heard_so, lost_so}
 use Rattle.copy_laws.proofs.Knowing.Undone.{waits_so, ends_so}

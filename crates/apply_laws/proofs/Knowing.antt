@@ -19,8 +19,8 @@ use Rattle.event_applier.specs.Appliers.{after_answer, call_at, next, progress, 
 use Rattle.ghost_rows.specs.Timelines.{Migration}
 use Rattle.ghost_laws.specs.Doings.{planned}
 use Rattle.ghost_laws.specs.Reading.{own_changes}
-use Rattle.copy_laws.proofs.Journals.{answer_more}
 use Rattle.copy_laws.proofs.Knowing.{IsBad, IsGood, IsWait}
+use Rattle.journal_words.proofs.Answers.{answer_more}
 use Rattle.apply_laws.specs.Applying.{IsBatchTold, PartKnows, StepKnows, plan_at, plan_in, todo_of}
 
 -- THE NEXT CALL

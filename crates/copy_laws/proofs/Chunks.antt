@@ -22,8 +22,8 @@ use Rattle.ghost_rows.specs.Moments.{Row, rows_at}
 use Rattle.ghost_rows.specs.Timelines.{Migration}
 use Rattle.ghost_laws.specs.Tool.{CopyState}
 use Rattle.ghost_laws.specs.Tool.CopyState.{Waiting, Taking}
+use Rattle.journal_words.proofs.Answers.{answer_more}
 use Rattle.copy_laws.specs.Copying.{CopierKnows, IsChunkTold, StepKnows, copy_state, left_of, state_at_step, taking_of}
-use Rattle.copy_laws.proofs.Journals.{answer_more}
 use Rattle.copy_laws.proofs.Knowing.{IsWaiting, low_more, waiting_state}
 
 -- what is left, behind more turns

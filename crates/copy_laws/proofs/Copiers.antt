@@ -43,6 +43,7 @@ use Rattle.plain_server.specs.Reading.{end_in, keys_in}
 use Rattle.plain_server.specs.States.{State}
 use Rattle.changelog_table.specs.ToolNames.{ghost_name}
 use Rattle.journal_words.specs.Journals.{opens}
+use Rattle.journal_words.proofs.Answers.{answer_here}
 use Rattle.chunk_copier.specs.declared.copier.Chunk.{Chunk}
 use Rattle.chunk_copier.specs.declared.copier.Copier.{Copier}
 use Rattle.chunk_copier.specs.declared.copier.CopyRange.{CopyRange}
@@ -83,7 +84,6 @@ use Rattle.copy_laws.specs.Copying.{CopierKnows, IsChunkTold, StepKnows, copy_st
 use Rattle.copy_laws.specs.Laws.{CopierStands, CopiersKeep, IsCopierTurn}
 use Rattle.copy_laws.proofs.Rows.{after_none, span_keys_are, Counted, NewSeen, copied_says, copies_image, copy_is, found_all, next_within, not_of, refused_says, refuses_image, unfit_progress}
 use Rattle.copy_laws.proofs.Chunks.{keys_are, left_more, same_answer, state_more, taking_more, taking_state}
-use Rattle.copy_laws.proofs.Journals.{answer_here}
 use Rattle.copy_laws.proofs.Knowing.{Asks, Heard, IsBad, IsNoKeys, IsQuiet, IsWaiting, RestsBehind, Undone, asks_at, bad_took, behind_more, chunk_more, heard_as, low_more, quiet_took, rests_behind, took_at, step_more, undone_as, waiting_state}
 use Rattle.copy_laws.proofs.Knowing.Heard.{heard_so, lost_so}
 use Rattle.copy_laws.proofs.Knowing.Undone.{waits_so, ends_so}

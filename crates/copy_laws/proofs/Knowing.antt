@@ -21,8 +21,8 @@ use Rattle.history_laws.specs.Turns as turns
 use Rattle.ghost_laws.specs.Leaving.{is_lost, told_done, undone_hold, was_done}
 use Rattle.ghost_laws.specs.Tool.{CopyState}
 use Rattle.ghost_laws.specs.Tool.CopyState.{Waiting}
+use Rattle.journal_words.proofs.Answers.{answer_more}
 use Rattle.copy_laws.specs.Copying.{BehindTold, IsAnsweredAt, IsChunkTold, StepKnows, copy_state, left_of}
-use Rattle.copy_laws.proofs.Journals.{answer_more}
 
 -- WHAT STAYS KNOWN
 

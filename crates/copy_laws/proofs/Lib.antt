@@ -1,4 +1,3 @@
-pub mod Journals
 pub mod Served
 pub mod Knowing
 pub mod Chunks

@@ -27,10 +27,10 @@ use Rattle.event_applier.specs.Appliers as appliers
 use Rattle.ghost_rows.specs.Timelines.{Migration}
 use Rattle.copy_laws.specs.Copying.{CopierKnows, StepKnows as CopyKnows}
 use Rattle.copy_laws.proofs.Chunks.{same_answer}
-use Rattle.copy_laws.proofs.Journals.{answer_more}
 use Rattle.copy_laws.proofs.Knowing.{asks_at, low_more}
 use Rattle.apply_laws.specs.Applying.{ApplierKnows, StepKnows}
 use Rattle.apply_laws.proofs.Knowing.{same_told}
+use Rattle.journal_words.proofs.Answers.{answer_more}
 
 -- THE COPIER'S NEXT CALL BEHIND MORE TURNS
 

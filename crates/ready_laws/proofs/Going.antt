@@ -20,6 +20,7 @@ use Rattle.plain_server.specs.States.{State, has_work}
 use Rattle.plan_words.specs.PlanData.{PlanData}
 use Rattle.changelog_table.specs.ToolNames.{ghost_name}
 use Rattle.journal_words.specs.Journals.{state_at, IsFaithful}
+use Rattle.journal_words.proofs.Answers.{answer_more, answer_here}
 use Rattle.chunk_copier.specs.Copiers as copiers
 use Rattle.chunk_copier.specs.Copiers.{begun, after_copies, after_answer}
 use Rattle.chunk_copier.specs.declared.copier.Chunk.{Chunk}
@@ -41,7 +42,6 @@ use Rattle.cutover_core.specs.CutOvers.{is_bad, is_resting, locker_phase, locker
 use Rattle.migration_program.specs.Programs.{may_begin, tool_call, given, Follows}
 use Rattle.migration_program.specs.Setups.{Setup, Listing, Clearing, MakingLog, MakingGhost, Marking, Reaching, Ready, setup_call, setup_after}
 use Rattle.migration_program.specs.Tools.{Work, Course, SettingUp, Migrating, Tool, Moment, stopped, is_reverting, course_of, copy_range, moment}
-use Rattle.copy_laws.proofs.Journals.{answer_more, answer_here}
 use Rattle.machine_laws.specs.Forming.{IsFitting}
 use Rattle.machine_laws.specs.Machines.{CourseStands, PhaseHolds, held}
 use Rattle.machine_laws.specs.Standings.{Standing, free, standing_in, standing_of}

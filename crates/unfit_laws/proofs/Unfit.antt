@@ -22,6 +22,7 @@ use Rattle.plain_server.specs.States.{State}
 use Rattle.plan_words.specs.PlanData.{PlanData, new_map, old_schema}
 use Rattle.journal_words.specs.Histories.{history, is_alter}
 use Rattle.journal_words.specs.Journals.{state_at}
+use Rattle.journal_words.proofs.Answers.{answer_more}
 use Rattle.chunk_copier.specs.Copiers as copiers
 use Rattle.chunk_copier.specs.Copiers.{key_at}
 use Rattle.chunk_copier.specs.declared.copier.CopyStep.{CopyStep}
@@ -36,7 +37,6 @@ use Rattle.ghost_rows.specs.Moments.{Row}
 use Rattle.ghost_rows.specs.Timelines.{Migration}
 use Rattle.ghost_laws.specs.Holding.{Clustered}
 use Rattle.ghost_laws.proofs.Keys.{clustered}
-use Rattle.copy_laws.proofs.Journals.{answer_more}
 use Rattle.planning_laws.specs.Laws.{migration_of}
 use Rattle.run_laws.specs.Kept.{IsKept}
 use Rattle.runnable_laws.specs.Laws.{AlterablePlansAreRunnable}
