@@ -18,6 +18,6 @@ pub use listing::{ShownWaiter, ShownWaiters, TableName, TableNames};
 pub use need::Need;
 pub use outcome::{Cause, Numbers, Progress, Task, Verdict};
 pub use request::Request;
-pub use session::{HeldName, HeldNames, Limits, Session, Sessions, Waiting, Waits};
+pub use session::{HeldName, HeldNames, Limits, Session, Waiting, Waits};
 pub use transaction::{EndedTxn, Mark, Replies, Reply, TxnEnd, TxnLine, TxnLines};
 pub use work::{ColumnSets, Reach, Selection, StatementResult, Work};
