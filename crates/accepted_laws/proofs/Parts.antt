@@ -14,7 +14,7 @@ use Rattle.plan_document.specs.Openings.{OpeningData, opening_of}
 use Rattle.plan_document.specs.Clients.{clients_of}
 use Rattle.plan_document.specs.Orders.{OrderData, has_many_orders, few_orders, orders_of}
 use Rattle.plan_document.specs.Plans.{plan_of, keys_in, plan_at, document, read}
-use Rattle.plan_laws.proofs.Accepted.{past, keys_were}
+use Rattle.accepted_laws.proofs.PlanLaws.Accepted.{past, keys_were}
 
 -- what a plan was read of
 pub record IsReadPlan (plan : PlanData) : Type 0 where

@@ -18,7 +18,7 @@ use Rattle.script_reader.specs.Lines.{asked_of, of_statement, line_of, is_empty,
 use Rattle.script_reader.specs.Statements.{statement_of}
 use Rattle.script_reader.specs.Scripts.{names_one_of, open_behind, ended_before, unless_tool, fitting, fitting_line, at_line, numbered, next_line, lines_from, script_of}
 use Rattle.machine_laws.specs.Scripts.{LinesFit, WordFits, inside_behind}
-use Rattle.ready_laws.specs.Laws.{LinesEnd}
+use Rattle.course_laws.specs.ReadyLaws.Laws.{LinesEnd}
 
 -- what a line's text asks, where no fault was found
 abbrev is_some_line : Option ScriptWord → Bool

@@ -10,7 +10,7 @@ use Rattle.schema_rules.proofs.Steps.{bind_ok, ok_is, kept_out, some_is}
 use Rattle.schema_rules.specs.Limits.{is_tool_name, is_table_name, is_name_length}
 use Rattle.schema_text.specs.Laws.{ReadSchemasAreLawful}
 use Rattle.schema_text.specs.Reading.{schema_at}
-use Rattle.reread_laws.specs.Laws.{ReadSchemasAreDeclared}
+use Rattle.schema_laws.specs.RereadLaws.Laws.{ReadSchemasAreDeclared}
 use Rattle.plan_keys.specs.Limits.{TableData}
 use Rattle.plan_tables.specs.declared.fault.TableRefusal.{TableRefusal}
 use Rattle.plan_tables.specs.Rows.{next_number, put_texts}

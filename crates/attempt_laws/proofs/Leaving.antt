@@ -32,7 +32,7 @@ use Rattle.history_laws.proofs.Joined.{told_missed}
 use Rattle.history_laws.proofs.Journals.{opened_waits}
 use Rattle.history_laws.proofs.Moves.{renamed_other, renamed_old, gone_none, found_has}
 use Rattle.statement_laws.proofs.Tests.{same_bytes, turned_bytes}
-use Rattle.program_laws.proofs.Naming.{not_ghost, not_old}
+use Rattle.migration_program.proofs.ProgramLaws.Naming.{not_ghost, not_old}
 use Rattle.machine_laws.specs.Standings.{Standing, standing_of, IsAbout, is_called, is_polled}
 use Rattle.machine_laws.specs.Tabling.{schema_of}
 use Rattle.machine_laws.proofs.Marks.{ghost_not_old}

@@ -10,17 +10,17 @@ ghost use Rattle.plain_server.specs.Serving.{counting, forgets, goes_on, limit_i
 ghost use Rattle.desk_calls.specs.Rooms.{logs};
 
 use crate::room::make_room;
+use crate::row_log::Log;
 use event_codec::Events;
 use gho_values::{Duplicate, Names, Sequence};
 use plain_server::{Answer, Limits, Need, Request, Session, ShownWaiters, Waiting};
 use row_locks::{Lock, LockSet};
-use row_log::Log;
+use session_desk::session_locks::{blocker, is_exclusive, is_outside, names_in, waits_shown};
 use session_desk::{
     begin_wait, connect, count_polls, disconnect, end_wait, hold, holds_tables, is_in_transaction,
     is_live, is_of_tool, is_waiting, lock_tables, polls_of, rest, session_of, unlock_tables,
     waiting_of,
 };
-use session_locks::{blocker, is_exclusive, is_outside, names_in, waits_shown};
 use std::alloc::{AllocError, Global};
 use std::marker::Model;
 

@@ -5,10 +5,10 @@ ghost use Rattle.row_store.specs.Databases.{database};
 ghost use Rattle.plain_server.specs.States.{opened};
 ghost use Rattle.statement_laws.specs.Databases.{IsOrderly};
 
+use crate::server_store::Store;
 use paged_tables::Tables;
 use plain_server::Limits;
 use server_desk::Server;
-use server_store::Store;
 use std::alloc::Global;
 
 /// The final server, whose answers to every session are the plain server's.

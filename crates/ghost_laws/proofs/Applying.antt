@@ -21,9 +21,9 @@ use Rattle.plain_server.specs.declared.work.Work.TheVariants.{Copy, Replace, Del
 use Rattle.row_store.proofs.FoundRows.{put_new}
 use Rattle.ghost_laws.proofs.Keys.{reach_locked}
 use Rattle.ghost_laws.specs.Holding.{Clustered, is_locked}
-use Rattle.ghost_rows.proofs.Finding.{found_in}
-use Rattle.ghost_rows.specs.Changes.{deleting, replacing, updating}
-use Rattle.ghost_rows.specs.Moments.{rows_after, rows_after_all}
+use Rattle.ghost_laws.proofs.GhostRows.Finding.{found_in}
+use Rattle.ghost_laws.specs.GhostRows.Changes.{deleting, replacing, updating}
+use Rattle.ghost_laws.specs.GhostRows.Moments.{rows_after, rows_after_all}
 use Rattle.plain_server.specs.Answers.{refuses}
 use Rattle.plain_server.specs.Needing.{needs}
 use Rattle.plain_server.specs.Rows.{reaches, rows_met, same_row}

@@ -12,8 +12,8 @@ use Rattle.row_store.proofs.Orders.{Row}
 use Rattle.row_store.proofs.RowLaws.{key_is}
 use Rattle.row_store.proofs.TableLaws.{put_keeps, remove_keeps}
 use Rattle.row_store.proofs.FoundRows.{put_new}
-use Rattle.ghost_rows.proofs.TimelineLaws.{none_clashing}
-use Rattle.ghost_rows.specs.Moments.{Fits, rows_after}
+use Rattle.ghost_laws.proofs.GhostRows.TimelineLaws.{none_clashing}
+use Rattle.ghost_laws.specs.GhostRows.Moments.{Fits, rows_after}
 use Rattle.statement_laws.proofs.OneRow.{one_of_key, own_key, same_removal}
 use Rattle.plain_server.specs.Rows.{change_rows, same_row, stands, without_row}
 use Rattle.statement_laws.proofs.Orderly.{nulls}

@@ -12,8 +12,8 @@ use Rattle.row_store.proofs.Orders.{Row}
 use Rattle.ghost_laws.proofs.Changing.{same_change}
 use Rattle.ghost_laws.proofs.Telling.{tells_fit}
 use Rattle.ghost_laws.specs.Fitting.{EventsFit, IsFitting}
-use Rattle.ghost_rows.proofs.TimelineLaws.{change_keeps}
-use Rattle.ghost_rows.specs.Moments.{Fits, FitsAll, LogFits, rows_after, rows_at, rows_then}
+use Rattle.ghost_laws.proofs.GhostRows.TimelineLaws.{change_keeps}
+use Rattle.ghost_laws.specs.GhostRows.Moments.{Fits, FitsAll, LogFits, rows_after, rows_at, rows_then}
 use Rattle.history_laws.proofs.Tools.{sound_alike}
 use Rattle.plain_server.specs.Jobs.{Job, after_events, change_table, events_of, job_needs, job_says, result_in}
 use Rattle.plain_server.specs.Rows.{change_rows}

@@ -12,10 +12,10 @@ use Rattle.ghost_laws.proofs.Ending.{batch_ends}
 use Rattle.ghost_laws.specs.Doings.{changes_in, own_change, IsWhole, planned}
 use Rattle.ghost_laws.specs.Invariant.{GhostInvariant}
 use Rattle.ghost_laws.specs.Reading.{EventsTold, IsTold, own_changes}
-use Rattle.ghost_relation.specs.Views.{Progress}
-use Rattle.ghost_rows.specs.Moments.{Row, rows_after_all}
-use Rattle.ghost_rows.specs.Timelines.{IsPlanned, Migration}
-use Rattle.ghost_rows.specs.Views.{GhostRows}
+use Rattle.ghost_laws.specs.GhostRelation.Views.{Progress}
+use Rattle.ghost_laws.specs.GhostRows.Moments.{Row, rows_after_all}
+use Rattle.ghost_laws.specs.GhostRows.Timelines.{IsPlanned, Migration}
+use Rattle.ghost_laws.specs.GhostRows.Views.{GhostRows}
 use Rattle.history_laws.specs.Scenes.{SessionHold, Stored, no_hold}
 use Rattle.plain_server.specs.Showing.{ReadEvent, behind_last, read_from, events_given, events_read}
 use Rattle.plain_server.specs.States.{is_of}

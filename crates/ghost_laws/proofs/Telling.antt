@@ -18,11 +18,11 @@ use Rattle.row_store.proofs.Ascending.{all-filter, ascends-filter}
 use Rattle.plain_server.specs.declared.work.Work.{Work}
 use Rattle.plain_server.specs.declared.work.Work.TheVariants.{Refuse, Insert, Copy, Replace, Delete, Update, Select}
 use Rattle.ghost_laws.proofs.Changing.{found_stands, same_change, stands_found}
-use Rattle.ghost_rows.proofs.Committing.{fits_none}
-use Rattle.ghost_rows.proofs.Finishing.{all_found}
-use Rattle.ghost_rows.proofs.TimelineLaws.{change_keeps}
-use Rattle.ghost_rows.proofs.Writing.{fits_one, replacing_fits, taken_fit}
-use Rattle.ghost_rows.specs.Moments.{Fits, FitsAll, NoneClashes, rows_after}
+use Rattle.ghost_laws.proofs.GhostRows.Committing.{fits_none}
+use Rattle.ghost_laws.proofs.GhostRows.Finishing.{all_found}
+use Rattle.ghost_laws.proofs.GhostRows.TimelineLaws.{change_keeps}
+use Rattle.ghost_laws.proofs.GhostRows.Writing.{fits_one, replacing_fits, taken_fit}
+use Rattle.ghost_laws.specs.GhostRows.Moments.{Fits, FitsAll, NoneClashes, rows_after}
 use Rattle.statement_laws.proofs.OneRow.{same_removal}
 use Rattle.plain_server.specs.Answers.{refuses}
 use Rattle.plain_server.specs.Rows.{change_rows, reaches, rows_met, same_row, stands, without_row}

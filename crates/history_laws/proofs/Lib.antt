@@ -26,3 +26,4 @@ pub mod Linking
 pub mod Naming
 pub mod PlanJournals
 pub mod LawfulTables
+pub mod ServerLaws

@@ -38,7 +38,7 @@ use Rattle.cutover_core.specs.Attempts as cutovers
 use Rattle.cutover_core.specs.Attempts.{exchange, clears, is_free, unlocks}
 use Rattle.migration_program.specs.Setups.{Setup, Listing, Clearing, MakingLog, MakingGhost, Marking, Reaching, Ready, setup_call}
 use Rattle.migration_program.specs.Tools.{Course, SettingUp, Migrating, stopped, moment}
-use Rattle.program_laws.proofs.Keeping.{Keeps, always}
+use Rattle.migration_program.proofs.ProgramLaws.Keeping.{Keeps, always}
 use Rattle.machine_laws.specs.Forming.{IsFitting}
 use Rattle.machine_laws.specs.Laws.{has_keys}
 use Rattle.machine_laws.specs.Machines.{copier_asks}

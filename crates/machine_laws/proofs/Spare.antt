@@ -7,7 +7,7 @@ use Rattle.std.proofs.lemmas.List.Folds.{list_any-append}
 use Rattle.std.proofs.Math.Bool.{or-false}
 use Rattle.changelog_table.specs.ToolNames.{ghost_name, log_name, old_name}
 use Rattle.plan_words.specs.PlanData.{PlanData}
-use Rattle.program_laws.proofs.Naming.{is_known}
+use Rattle.migration_program.proofs.ProgramLaws.Naming.{is_known}
 use Rattle.history_laws.specs.Plans.{client_names}
 use Rattle.history_laws.specs.Turns.{AllOther}
 use Rattle.history_laws.specs.Scenes.{Scene, is_mine}

@@ -27,7 +27,7 @@ use Rattle.journal_words.specs.Clients.{Reached, client_asks, client_at, after_t
 use Rattle.journal_words.specs.Journals.{state_at, opens, may_lose}
 use Rattle.migration_program.specs.Programs.{given, IsGiven, Follows}
 use Rattle.migration_program.specs.Tools.{Course, SettingUp, Migrating, moment, is_reverting}
-use Rattle.program_laws.proofs.Given as online
+use Rattle.migration_program.proofs.ProgramLaws.Given as online
 use Rattle.history_laws.specs.Plans.{client_names, limits_of}
 use Rattle.history_laws.specs.Scenes.{NamesTable}
 use Rattle.history_laws.specs.Turns.{IsAllowed, IsTold, MayAsk, ToolAsks, AllOther, AtRest, RenamesSo, about, request_of, is_busy}

@@ -29,7 +29,7 @@ use Rattle.history_laws.proofs.Tooling.{AreApart}
 use Rattle.statement_laws.specs.Covering.{Apart}
 use Rattle.ghost_laws.specs.Leaving.{is_lost, unless_lost, was_done}
 use Rattle.ghost_laws.proofs.Leaving.{holds_of, same_so, stored_final}
-use Rattle.copy_laws.proofs.Served.{seen_of}
+use Rattle.migration_laws.proofs.CopyLaws.Served.{seen_of}
 
 -- WHAT A REQUEST NEEDED
 

@@ -22,8 +22,8 @@ use Rattle.history_laws.specs.Scenes.{Besides, Scene, SessionHold, no_hold}
 use Rattle.history_laws.specs.Holdings.{stored}
 use Rattle.history_laws.specs.Turns.{IsSceneRun, scene_state, told_at}
 use Rattle.history_laws.proofs.Moves.{behind_other, drop_moves, rename_moves}
-use Rattle.ghost_rows.specs.Moments.{Row}
-use Rattle.ghost_rows.specs.Timelines.{IsPlanned, Migration}
+use Rattle.ghost_laws.specs.GhostRows.Moments.{Row}
+use Rattle.ghost_laws.specs.GhostRows.Timelines.{IsPlanned, Migration}
 use Rattle.ghost_laws.specs.Holding.{Clustered}
 use Rattle.ghost_laws.specs.Invariant.{IsServed, NotOf}
 use Rattle.ghost_laws.specs.Running.{ApplyPlan, ToolMoment, ToolStands, ToolTurn}
@@ -33,7 +33,7 @@ use Rattle.ghost_laws.proofs.Leaving.{holds_of}
 use Rattle.ghost_laws.proofs.Running.{stands_over, turn_keeps}
 use Rattle.ghost_laws.proofs.Tooling.{client_commits, tool_moves, tool_rests}
 use Rattle.ghost_laws.proofs.Turns.{run_front, writes_fit}
-use Rattle.copy_laws.specs.Copying.{moment_of}
+use Rattle.migration_laws.specs.CopyLaws.Copying.{moment_of}
 use Rattle.migration_laws.specs.Away.{IsOther, IsOtherTurn, KeepsAway, OthersAway}
 use Rattle.migration_laws.specs.Laws.{OthersKeep}
 use Rattle.migration_laws.specs.Machines.{StandsAway}

@@ -6,14 +6,14 @@ use Rattle.plain_server.specs.declared.session.Limits.{Limits}
 use Rattle.changelog_table.specs.ToolNames.{ghost_name}
 use Rattle.history_laws.specs.Scenes.{Scene}
 use Rattle.history_laws.specs.Turns.{IsSceneRun, scene_state}
-use Rattle.ghost_rows.specs.Moments.{Row}
-use Rattle.ghost_rows.specs.Timelines.{IsPlanned, Migration}
+use Rattle.ghost_laws.specs.GhostRows.Moments.{Row}
+use Rattle.ghost_laws.specs.GhostRows.Timelines.{IsPlanned, Migration}
 use Rattle.ghost_laws.specs.Copies.{IsAltered}
 use Rattle.ghost_laws.specs.Holding.{Clustered}
 use Rattle.ghost_laws.specs.Running.{ApplyPlan}
 use Rattle.ghost_laws.specs.Tool.{CopyState}
-use Rattle.copy_laws.specs.Copying.{moment_of}
-use Rattle.apply_laws.specs.Finding.{FindsRows}
+use Rattle.migration_laws.specs.CopyLaws.Copying.{moment_of}
+use Rattle.migration_laws.specs.ApplyLaws.Finding.{FindsRows}
 use Rattle.migration_laws.specs.Away.{IsOtherTurn}
 use Rattle.migration_laws.specs.Machines.{IsMigrationEnd, IsMigrationStart, Machines, MigrationMove, MigrationRun, MigrationStands, MigrationTurn, StandsAway, Step, journal_behind, machines_behind}
 

@@ -5,8 +5,8 @@ ghost use Rattle.journal_words.specs.Journals.{opening};
 ghost use Rattle.accepted_laws.specs.Laws.{WasRead};
 
 use accepted_laws::laws::read_plans_are_serial;
+use accepted_laws::option_laws::read_options_allow;
 use final_server::{FinalServer, open_server};
-use option_laws::laws::read_options_allow;
 use paged_tables::Tables;
 use plain_server::Limits;
 use plan_words::Plan;

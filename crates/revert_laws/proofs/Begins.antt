@@ -21,13 +21,13 @@ use Rattle.migration_program.specs.Tools.{Course, Migrating, Work, is_reverting,
 use Rattle.history_laws.specs.Plans.{limits_of, scene_of}
 use Rattle.history_laws.specs.Scenes.{no_hold}
 use Rattle.statement_laws.proofs.Tests.{turned}
-use Rattle.ghost_rows.specs.Moments.{Row}
-use Rattle.ghost_rows.specs.Timelines.{Migration}
+use Rattle.ghost_laws.specs.GhostRows.Moments.{Row}
+use Rattle.ghost_laws.specs.GhostRows.Timelines.{Migration}
 use Rattle.ghost_laws.specs.Holding.{Clustered}
 use Rattle.ghost_laws.specs.Running.{ToolStands}
 use Rattle.ghost_laws.specs.Tool.{CopyState}
-use Rattle.apply_laws.specs.Applying.{plan_at}
-use Rattle.copy_laws.specs.Copying.{copy_state, moment_of}
+use Rattle.migration_laws.specs.ApplyLaws.Applying.{plan_at}
+use Rattle.migration_laws.specs.CopyLaws.Copying.{copy_state, moment_of}
 use Rattle.machine_laws.specs.Standings.{standing_of}
 use Rattle.machine_laws.proofs.Asking.{unless_called}
 use Rattle.machine_laws.proofs.Journals.{IsTogether, apply_called}
@@ -35,10 +35,10 @@ use Rattle.migration_laws.specs.Machines.{IsUnbusy, Machines, MigrationStands, h
 use Rattle.migration_laws.specs.Machines.MigrationMove.{applier_moves, copier_moves}
 use Rattle.migration_laws.proofs.Migrating.{moves_keep}
 use Rattle.migration_laws.proofs.Moving.{copied_state}
-use Rattle.unaltered_laws.proofs.Away.{IsKnownAsked}
-use Rattle.follow_turns.specs.Goes.{CopyWaits, Goes, machines_in}
-use Rattle.follow_turns.proofs.Seats.{SomeSeats, new_holds, some_seats}
-use Rattle.follow_turns.proofs.Goes.{rests_own}
+use Rattle.course_laws.proofs.UnalteredLaws.Away.{IsKnownAsked}
+use Rattle.follow_laws.specs.FollowTurns.Goes.{CopyWaits, Goes, machines_in}
+use Rattle.follow_laws.proofs.FollowTurns.Seats.{SomeSeats, new_holds, some_seats}
+use Rattle.follow_laws.proofs.FollowTurns.Goes.{rests_own}
 use Rattle.revert_laws.proofs.Stays.{StandsAt}
 use Rattle.revert_laws.proofs.Frozen.{CallsQuiet, Frozen, IsHarmless, IsQuiet, WaitsHarmless}
 

@@ -35,9 +35,9 @@ use Rattle.due_turns.specs.Laws.{IsKeptWith}
 use Rattle.due_turns.proofs.Coming.{Comes, Cuts, Gives, comes, Asks, Commands, Called, given_asks, operator_unstruck}
 use Rattle.due_turns.proofs.Keeping.{turns_kept}
 use Rattle.due_turns.proofs.Serving.{behind_more}
-use Rattle.due_calls.specs.Ranges.{ahead_of, IsTold}
-use Rattle.due_calls.proofs.Asking.{turns_may_be}
-use Rattle.due_calls.proofs.Telling.{ranges_ahead}
+use Rattle.due_turns.specs.DueCalls.Ranges.{ahead_of, IsTold}
+use Rattle.due_turns.proofs.DueCalls.Asking.{turns_may_be}
+use Rattle.due_turns.proofs.DueCalls.Telling.{ranges_ahead}
 use Rattle.run_turns.specs.Running.{IsDue, IsRun}
 use Rattle.run_turns.proofs.Planned.{due_planned}
 

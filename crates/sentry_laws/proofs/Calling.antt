@@ -7,7 +7,7 @@ use Rattle.plain_server.specs.declared.request.Request.TheVariants as requests
 use Rattle.cutover_core.specs.Attempts as cutovers
 use Rattle.sentry_laws.specs.Sentries.{scene, Fits, LockerMay, LockerServes, LocksServes, DropsServes, MayAnswer}
 use Rattle.sentry_laws.specs.Turning.{LockerCalls, OtherTurn}
-use Rattle.server_laws.specs.Others.{TurnOf}
+use Rattle.history_laws.specs.ServerLaws.Others.{TurnOf}
 use Rattle.sentry_laws.specs.Turns.{LeavesTables, CallLeaves, LockLeaves, DropLeaves, UnlockLeaves}
 use Rattle.sentry_laws.proofs.Serving.{takes_lock, drops_sentry, frees_lock, only_frees, waits_on, others_turn}
 use Rattle.plain_server.specs.declared.answer.Answer.{Answer}

@@ -12,7 +12,7 @@ use Rattle.row_store.specs.declared.renaming.Pair.{Pair}
 use Rattle.row_store.specs.declared.renaming.NotRenamed.TheVariants.{Stands}
 use Rattle.sentry_laws.specs.Sentries.{scene, OthersHold, OthersTurn, RenameWaits, FreesLock, OnlyFreesLock, TakesLock, DropsSentry}
 use Rattle.sentry_laws.specs.Turning.{IsRenamed}
-use Rattle.server_laws.specs.Others.{TurnOf, IsGrantedName, MayWrite, IsAlone, held_at}
+use Rattle.history_laws.specs.ServerLaws.Others.{TurnOf, IsGrantedName, MayWrite, IsAlone, held_at}
 use Rattle.sentry_laws.specs.Turns.{LocksAreTaken, LogsNothing, Defines}
 use Rattle.sentry_laws.proofs.Holding.{are_two, not_true}
 use Rattle.plain_server.specs.States.{State, names_in, waiters}

@@ -4,6 +4,7 @@
 mod finding;
 mod growing;
 mod names;
+pub mod session_locks;
 mod sessions;
 mod waits;
 

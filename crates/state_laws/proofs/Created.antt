@@ -15,7 +15,7 @@ use Rattle.statement_laws.specs.Covering.{IsOrderlyTable}
 use Rattle.statement_laws.specs.Databases.{ChangeCovered, WhereFound, EventsCovered}
 use Rattle.statement_laws.proofs.Finding.{change_if, found_after}
 use Rattle.statement_laws.proofs.Tests.{are_same}
-use Rattle.ghost_rows.specs.Moments.{Fits}
+use Rattle.ghost_laws.specs.GhostRows.Moments.{Fits}
 use Rattle.ghost_laws.specs.Fitting.{EventsFit, IsFitting}
 use Rattle.history_laws.proofs.Moves.{create_moves, drop_moves, gone_none, none_found}
 use Rattle.history_laws.specs.Holdings.{Face}

@@ -25,7 +25,7 @@ use Rattle.history_laws.proofs.Words.{names_left, names_last, quiet_covered}
 use Rattle.history_laws.proofs.Tooling.{copies_sound, names_two}
 use Rattle.ghost_laws.specs.Fitting.{EventsFit}
 use Rattle.ghost_laws.proofs.Fitting.{fitting_end, fitting_task, orderly_events}
-use Rattle.server_laws.proofs.Others.{some_changed}
+use Rattle.history_laws.proofs.ServerLaws.Others.{some_changed}
 use Rattle.state_laws.specs.Keeping.{AllStand, OwnFits}
 use Rattle.state_laws.specs.Granting.{grown}
 

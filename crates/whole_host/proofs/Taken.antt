@@ -13,7 +13,7 @@ use Rattle.migration_program.specs.Tools.{moment}
 use Rattle.migration_program.specs.Verdicts.{has_ended, verdict_of}
 use Rattle.machine_laws.specs.Laws.{TellsAlter, VerdictsTellTheAlter}
 use Rattle.accepted_laws.specs.Laws.{WasRead, ReadPlansAreRunnable}
-use Rattle.option_laws.specs.Laws.{ReadOptionsAllow}
+use Rattle.accepted_laws.specs.OptionLaws.Laws.{ReadOptionsAllow}
 use Rattle.whole_run.specs.Runs.{is_over}
 use Rattle.whole_host.specs.Promises.{EndsBy}
 

@@ -1,0 +1,6 @@
+//! The log: the events of the committed transactions, in the order of the commits.
+
+mod log;
+mod reading;
+
+pub use log::Log;
