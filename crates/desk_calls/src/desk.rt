@@ -60,8 +60,8 @@ fn need_of(alloc: Global, request: &Request, locks: LockSet) -> Result<Need, All
 }
 
 impl Desk {
-    /// The desk at its start, without a session. It takes no memory.
-    pub fn new(alloc: Global, limits: Limits) -> Desk
+    /// The desk at its start, without a session. Its log watches these tables. It takes no memory.
+    pub fn new(alloc: Global, limits: Limits, watched: Names) -> Desk
         requires clients { 1 ≤ limits.client_wait }
         requires tools { 1 ≤ limits.tool_wait }
         ensures { result ≡ opened limits [] }
@@ -70,7 +70,7 @@ impl Desk {
             alloc,
             limits,
             made: 0,
-            log: Log::new(alloc),
+            log: Log::new(alloc, watched),
             waiting: Vec::new(alloc),
             sessions: Vec::new(alloc),
         }

@@ -1,6 +1,7 @@
 //! The log: the events of the committed transactions, in the order of the commits.
 #![tactic(auto)]
 
+mod counting;
 mod log;
 mod reading;
 

@@ -10,7 +10,7 @@ use plain_server::Answer;
 use std::alloc::{AllocError, Global};
 
 /// Whether the event is of one of these tables.
-fn is_of(tables: &Names, event: &RowEvent) -> bool
+pub fn is_of(tables: &Names, event: &RowEvent) -> bool
     ensures { result ≡ is_of tables.now event.now }
 {
     tables.as_slice().iter().any(|table| event.table == *table)
