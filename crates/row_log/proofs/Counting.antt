@@ -1,6 +1,10 @@
 -- The counts of a log with one event more, and from a place on.
-use Rattle.std.proofs.Common.{◌≡◌, ℕ, ◌+◌, ◌-◌, ◌<◌, ◌≤◌, true, false, cond, List, [], ◌∷◌, ◌++◌, length, take, drop, get_or, refl, sym, ap, ◌∙◌, arith, ◌⊎◌, inl, inr, ⊎_elim, append-assoc}
+use Rattle.std.proofs.Common.{◌≡◌, ℕ, ◌+◌, ◌-◌, ◌<◌, ◌≤◌, true, false, cond, List, [], ◌∷◌, ◌++◌, length, take, drop, get_or, refl, sym, ap, ◌∙◌, arith, ◌⊎◌, ⊎_elim}
 use Rattle.std.specs.List.{count_by}
+use Rattle.std.specs.Prelude.{nat_eq}
+use Rattle.std.specs.Cmp.Lexicographic.{pointwise}
+use Rattle.std.proofs.lemmas.Bool.{cases_lt, and_parts, false≢true}
+use Rattle.std.proofs.lemmas.Slice.Eq.{bytes_eq-Decides}
 use Rattle.std.proofs.lemmas.List.{length_push, get_or_push, take-append-le, take_all, drop_all}
 use Rattle.std.proofs.lemmas.List.Sums.{sum_by_push, sum_by-take-drop}
 use Rattle.std.proofs.Math.ListN.{get_or-append}
@@ -16,7 +20,7 @@ counted watched events = count_by (is_of watched) events
 each_more : (watched : List (List ℕ)) (events : List RowEvent) (event : RowEvent) (before : List ℕ) (total : ℕ) → length before ≡ length events → ((place : ℕ) → place < length events → get_or before place 0 ≡ counted watched (take place events)) → total ≡ counted watched events
     → (place : ℕ) → place < length (events ++ event ∷ []) → get_or (before ++ total ∷ []) place 0 ≡ counted watched (take place (events ++ event ∷ []))
 each_more watched events event before total many each is place within =
-    let split : (place < length events) ⊎ (length events ≤ place) = grind arith in
+    let split : (place < length events) ⊎ (length events ≤ place) = cases_lt place (length events) in
     let here : place < length events + 1 = rw (length_push events event) at within in
     ⊎_elim
     (λ (below : place < length events).
@@ -61,3 +65,14 @@ counted_none counts before total = record {
   each = λ place within. absurd (omega (arith, within));
   total_is = total;
 }
+
+-- names that are equal one by one are the same names
+pub same_names : (these those : List (List ℕ)) → pointwise (pointwise nat_eq) these those ≡ true → these ≡ those
+same_names [] [] is = refl
+same_names [] (other ∷ others) is = absurd (false≢true is)
+same_names (name ∷ names) [] is = absurd (false≢true is)
+same_names (name ∷ names) (other ∷ others) is =
+    let parts = and_parts (pointwise nat_eq name other) (pointwise (pointwise nat_eq) names others) is in
+    ap (λ (n : List ℕ). n ∷ names) ((bytes_eq-Decides name other).0 parts.0) ∙ ap (λ (more : List (List ℕ)). other ∷ more) (same_names names others parts.1)
+
+pub ruleset steps = (counted_more, counted_behind, counted_past, counted_kept, counted_none, same_names)
