@@ -33,7 +33,7 @@ impl Model for Counts {
 
 impl Counts {
     /// The counts of a log without events. It takes no memory.
-    #[tactic(auto, using(crate::proofs::Counting::steps))]
+    #[tactic(auto, using(crate::proofs::WatchedCounts::steps))]
     pub(crate) fn new(alloc: Global, watched: Names) -> Counts
         ensures counted { IsCounted [] result }
         ensures watched { result.watched ≡ watched }
@@ -46,7 +46,7 @@ impl Counts {
     }
 
     /// Makes room for so many more events.
-    #[tactic(auto, using(crate::proofs::Counting::steps))]
+    #[tactic(auto, using(crate::proofs::WatchedCounts::steps))]
     pub(crate) fn reserve(&mut self, n: usize) -> Result<(), AllocError>
         ensures counted { (events : List Event) → IsCounted events self.old → IsCounted events self.new }
         ensures ok { OnOk result (n ≤ self.new.spare) }
@@ -56,7 +56,7 @@ impl Counts {
     }
 
     /// Counts one event more. It takes no memory.
-    #[tactic(auto, using(crate::proofs::Counting::steps))]
+    #[tactic(auto, using(crate::proofs::WatchedCounts::steps))]
     pub(crate) fn add(&mut self, event: &RowEvent)
         requires { 1 ≤ self.old.spare }
         ensures counted { (events : List Event) → IsCounted events self.old → IsCounted (events ++ event.now ∷ []) self.new }
@@ -69,7 +69,7 @@ impl Counts {
     }
 
     /// Whether these are the tables that are watched.
-    #[tactic(auto, using(crate::proofs::Counting::steps))]
+    #[tactic(auto, using(crate::proofs::WatchedCounts::steps))]
     pub(crate) fn watches(&self, tables: &Names) -> bool
         ensures { result ≡ true → self.now.watched ≡ tables.now }
     {
@@ -77,7 +77,7 @@ impl Counts {
     }
 
     /// How many events of the watched tables stand at the place or behind it.
-    #[tactic(auto, using(crate::proofs::Counting::steps))]
+    #[tactic(auto, using(crate::proofs::WatchedCounts::steps))]
     pub(crate) fn behind(&self, place: usize) -> u64
         ensures { (events : List Event) → IsCounted events self.now → result ≡ count_by (is_of self.now.watched) (drop place events) }
     {
