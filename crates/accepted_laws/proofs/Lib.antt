@@ -5,3 +5,5 @@ mod Parts
 mod Plans
 mod Scripts
 mod Tables
+pub mod PlanLaws
+pub mod OptionLaws

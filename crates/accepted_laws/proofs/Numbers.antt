@@ -19,7 +19,7 @@ use Rattle.plan_keys.specs.PlanKeys.{KeyData, TypedData, typed_of, in_range, few
 use Rattle.schema_rules.specs.Results.{◌>>=◌}
 use Rattle.toml.specs.Data.{Members}
 use Rattle.order_reader.specs.Numbers.{is_number, number_of, at_most, number_up_to}
-use Rattle.accepted_laws.proofs.Parts.{past}
+use Rattle.accepted_laws.proofs.PlanLaws.Accepted.{past}
 
 -- DIGITS
 

@@ -1,11 +1,10 @@
 -- A plan that is read, part by part.
-use Rattle.std.proofs.Common.{◌≡◌, ℕ, Bool, true, false, cond, List, length, Result, Ok, Err, ap, ◌∙◌}
+use Rattle.std.proofs.Common.{◌≡◌, ℕ, List, length, Ok, ap, ◌∙◌}
 use Rattle.std.specs.Prelude.{nat_lt}
 use Rattle.toml.specs.Data.{Members}
 use Rattle.schema_rules.proofs.Steps.{bind_ok, ok_is, kept_out}
 use Rattle.script_text.specs.declared.script.ScriptLine.{ScriptLine}
 use Rattle.plan_words.specs.PlanData.{PlanData}
-use Rattle.plan_keys.specs.declared.fault.KeyRefusal.{KeyRefusal}
 use Rattle.plan_keys.specs.declared.fault.KeyRefusal.TheVariants.{TooMany}
 use Rattle.plan_keys.specs.PlanKeys.{KeyData, keys_of}
 use Rattle.plan_document.specs.declared.limits.TheConstants.{PLAN_LIMIT}
@@ -15,6 +14,7 @@ use Rattle.plan_document.specs.Openings.{OpeningData, opening_of}
 use Rattle.plan_document.specs.Clients.{clients_of}
 use Rattle.plan_document.specs.Orders.{OrderData, has_many_orders, few_orders, orders_of}
 use Rattle.plan_document.specs.Plans.{plan_of, keys_in, plan_at, document, read}
+use Rattle.accepted_laws.proofs.PlanLaws.Accepted.{past, keys_were}
 
 -- what a plan was read of
 pub record IsReadPlan (plan : PlanData) : Type 0 where
@@ -28,15 +28,6 @@ pub record IsReadPlan (plan : PlanData) : Type 0 where
   pub orders : OrderData
   pub ordered : orders_of (length clients) keys.texts ≡ Ok orders
   pub same : plan_of keys opening clients orders ≡ plan
-
--- a test that refused nothing
-pub past : {A C : Type 0} (b : Bool) (code : C) (other : Result A C) (y : A) → cond b (Err code) other ≡ Ok y → other ≡ Ok y
-past true code other y is = absurd (cc)
-past false code other y is = is
-
-keys_were : {A : Type 0} (read : Result A KeyRefusal) (x : A) → of_keys read ≡ Ok x → read ≡ Ok x
-keys_were (Ok y) x is = cc
-keys_were (Err refusal) x is = absurd (cc)
 
 keys_are : (members : Members) (keys : KeyData) → keys_in members ≡ Ok keys → keys_of members ≡ Ok keys
 unfolding keys_in

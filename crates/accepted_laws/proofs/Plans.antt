@@ -31,7 +31,7 @@ use Rattle.plan_document.specs.Refusals.{of_alter, of_operator, of_script, of_ta
 use Rattle.plan_document.specs.Walks.{each_from}
 use Rattle.plan_document.proofs.Opened.{alter_was, opening_is}
 use Rattle.plan_tables.specs.Tables.{IsSound, tables_of}
-use Rattle.plan_laws.specs.PlanLaws.{IsAccepted, ReadPlansAreAccepted}
+use Rattle.accepted_laws.specs.PlanLaws.PlanLaws.{IsAccepted, ReadPlansAreAccepted}
 use Rattle.turn_reader.specs.Turns.{turns_of}
 use Rattle.plain_server.specs.Jobs.{table_of}
 use Rattle.changelog_table.specs.ToolNames.{ghost_name, log_name, old_name, is_tool_name}
@@ -39,8 +39,8 @@ use Rattle.journal_words.specs.Keeping.{words_of}
 use Rattle.history_laws.specs.Plans.{names_of, script_names}
 use Rattle.machine_laws.specs.Scripts.{LinesFit}
 use Rattle.machine_laws.specs.Tabling.{TableStands}
-use Rattle.ready_laws.specs.Laws.{LinesEnd, ScriptsEnd}
-use Rattle.runnable_laws.specs.Laws.{AlterablePlansAreRunnable, IsWorded}
+use Rattle.course_laws.specs.ReadyLaws.Laws.{LinesEnd, ScriptsEnd}
+use Rattle.course_laws.specs.RunnableLaws.Laws.{AlterablePlansAreRunnable, IsWorded}
 use Rattle.statement_laws.proofs.Tests.{nor_left, nor_right, turned_bytes}
 use Rattle.accepted_laws.specs.Laws.{ReadAttemptsDrain, ReadPlansAreAlterable, ReadPlansAreRunnable, ReadPlansAreSerial, ReadPlansAreWorded, ReadScriptsEnd, ReadTablesStand}
 use Rattle.accepted_laws.proofs.Commands.{operator_fits}

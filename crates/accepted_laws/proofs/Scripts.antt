@@ -18,7 +18,7 @@ use Rattle.script_reader.specs.Lines.{asked_of, of_statement, line_of, is_empty,
 use Rattle.script_reader.specs.Statements.{statement_of}
 use Rattle.script_reader.specs.Scripts.{names_one_of, open_behind, ended_before, unless_tool, fitting, fitting_line, at_line, numbered, next_line, lines_from, script_of}
 use Rattle.machine_laws.specs.Scripts.{LinesFit, WordFits, inside_behind}
-use Rattle.ready_laws.specs.Laws.{LinesEnd}
+use Rattle.course_laws.specs.ReadyLaws.Laws.{LinesEnd}
 
 -- what a line's text asks, where no fault was found
 abbrev is_some_line : Option ScriptWord → Bool
@@ -88,9 +88,6 @@ pub record AreLines (tools texts : List (List ℕ)) (is_open : Bool) (script : L
 was_read : {A : Type 0} (number : ℕ) (read : Result A ScriptCode) (x : A) → at_line number read ≡ Ok x → read ≡ Ok x
 was_read number (Ok y) x is = cc
 was_read number (Err code) x is = absurd cc
-
-or_false : (b : Bool) → (false || b) ≡ b
-or_false b = refl
 
 -- one line more in front
 more : (tools texts : List (List ℕ)) (text : List ℕ) (number : ℕ) (is_open behind : Bool) (asked : Option ScriptWord) (others : List ScriptLine) → is_line (text_words text) ≡ is_some_line asked → fitting tools texts is_open asked ≡ Ok behind → AreLines tools texts behind others

@@ -1,5 +1,5 @@
 -- The tables that are read, by their names.
-use Rattle.std.proofs.Common.{◌≡◌, ℕ, Bool, true, false, cond, List, [], ◌∷◌, ◌++◌, Some, Result, Ok, Err, refl, sym, subst}
+use Rattle.std.proofs.Common.{◌≡◌, ℕ, Bool, true, false, cond, List, [], ◌∷◌, ◌++◌, Some, Ok, refl, sym, subst}
 use Rattle.std.specs.List.{AllByRecursion}
 use Rattle.gho_values.specs.Laws.{StoresAgain}
 use Rattle.gho_schema.specs.declared.schema.Schema.{Schema}
@@ -10,16 +10,17 @@ use Rattle.schema_rules.proofs.Steps.{bind_ok, ok_is, kept_out, some_is}
 use Rattle.schema_rules.specs.Limits.{is_tool_name, is_table_name, is_name_length}
 use Rattle.schema_text.specs.Laws.{ReadSchemasAreLawful}
 use Rattle.schema_text.specs.Reading.{schema_at}
-use Rattle.reread_laws.specs.Laws.{ReadSchemasAreDeclared}
+use Rattle.schema_laws.specs.RereadLaws.Laws.{ReadSchemasAreDeclared}
 use Rattle.plan_keys.specs.Limits.{TableData}
 use Rattle.plan_tables.specs.declared.fault.TableRefusal.{TableRefusal}
 use Rattle.plan_tables.specs.Rows.{next_number, put_texts}
-use Rattle.plan_tables.specs.Tables.{of_rows, of_schema, newly_named, table_at, tables_from, tables_of, IsSound}
+use Rattle.plan_tables.specs.Tables.{of_schema, newly_named, table_at, tables_from, tables_of, IsSound}
 use Rattle.plan_tables.proofs.Sound as sound
-use Rattle.plan_tables.proofs.Sound.{keyed, schema_was, texts_kept}
+use Rattle.plan_tables.proofs.Sound.{schema_was, texts_kept, rows_were}
 use Rattle.statement_laws.specs.Covering.{IsOrderlyTable}
 use Rattle.statement_laws.proofs.Tests.{are_same}
-use Rattle.machine_laws.proofs.Staying.{lawful_table}
+use Rattle.plan_words.proofs.KeyedSchemas.{lawful_keyed}
+use Rattle.history_laws.proofs.LawfulTables.{lawful_table}
 use Rattle.accepted_laws.proofs.Names.{migrated_fits}
 
 -- what the laws of the crates below say
@@ -33,10 +34,6 @@ pub record Laws : Type 0 where
 abbrev IsNamedSo : List ℕ → TableRows → Type 0
 IsNamedSo migrated table = is_table_name (is_tool_name migrated table.schema.name) table.schema.name ≡ true
 
-rows_were : (number : ℕ) (read : Result TableRows ℕ) (table : TableRows) → of_rows number read ≡ Ok table → read ≡ Ok table
-rows_were number (Ok x) table is = cc
-rows_were number (Err row) table is = absurd (cc)
-
 table_named : Laws → (migrated : List ℕ) (number : ℕ) (tables : Database) (texts : TableData) (table : TableRows) → table_at migrated number tables texts ≡ Ok table → IsNamedSo migrated table
 unfolding table_at
 table_named laws migrated number tables texts table is =
@@ -47,7 +44,7 @@ table_named laws migrated number tables texts table is =
     let parts = kept_out (has_table schema.0.name tables) bare empty.0 _ empty.1 in
     let put : put_texts 1 bare texts.rows ≡ Ok table = subst (λ (t : TableRows). put_texts 1 t texts.rows ≡ Ok table) (sym parts.1) (rows_were number (put_texts 1 empty.0 texts.rows) table empty.2) in
     let all : sound.Laws = record { again = laws.again; put = laws.put } in
-    let kept = texts_kept all 1 bare table texts.rows (keyed schema.0 (laws.lawful migrated texts.create schema.0 was)) (record { rows_fit = tt; ascends = tt; apart = tt }) put in
+    let kept = texts_kept all 1 bare table texts.rows (lawful_keyed schema.0 (laws.lawful migrated texts.create schema.0 was)) (record { rows_fit = tt; ascends = tt; apart = tt }) put in
     subst (λ (s : Schema). is_table_name (is_tool_name migrated s.name) s.name ≡ true) (sym kept.schema_is) (laws.declared migrated texts.create schema.0 was).name
 
 tables_named : Laws → (migrated : List ℕ) (number : ℕ) (tables : Database) (texts : List TableData) (made : Database) → AllByRecursion (IsNamedSo migrated) tables → tables_from migrated number tables texts ≡ Ok made → AllByRecursion (IsNamedSo migrated) made

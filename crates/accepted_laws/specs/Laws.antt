@@ -6,8 +6,8 @@ use Rattle.plan_document.specs.Plans.{read}
 use Rattle.history_laws.specs.Plans.{IsSerialPlan}
 use Rattle.machine_laws.specs.Runnable.{IsRunnable}
 use Rattle.machine_laws.specs.Tabling.{TableStands}
-use Rattle.ready_laws.specs.Laws.{ScriptsEnd}
-use Rattle.runnable_laws.specs.Laws.{IsAlterable, IsWorded}
+use Rattle.course_laws.specs.ReadyLaws.Laws.{ScriptsEnd}
+use Rattle.course_laws.specs.RunnableLaws.Laws.{IsAlterable, IsWorded}
 
 -- *Was read*: the plan of some bytes, whose table's name is a text, as every `Name` is
 pub record WasRead (plan : PlanData) : Type 0 where

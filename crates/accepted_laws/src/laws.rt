@@ -2,13 +2,13 @@
 
 ghost use Rattle.accepted_laws.specs.Laws.{ReadPlansAreSerial, ReadTablesStand, ReadScriptsEnd, ReadPlansAreAlterable, ReadPlansAreWorded, ReadAttemptsDrain, ReadPlansAreRunnable};
 
+use crate::plan_laws::read_plans_are_accepted;
 use alter_laws::read_clauses_write_kinds;
+use course_laws::runnable_laws::alterable_plans_are_runnable;
 use gho_values::laws::stored_values_store_again;
-use plan_laws::laws::read_plans_are_accepted;
-use reread_laws::read_schemas_are_declared;
 use row_store::laws::put_keeps_tables;
-use runnable_laws::laws::alterable_plans_are_runnable;
 use schema_laws::read_schemas_are_lawful;
+use schema_laws::reread_laws::read_schemas_are_declared;
 
 /// The tables of a plan that is read are tables with clustered keys, the migrated one is one of them, and its ALTER is
 /// taken; its scripts name no table of the tool's.

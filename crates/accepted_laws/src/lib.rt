@@ -2,6 +2,8 @@
 #![tactic(auto)]
 
 pub mod laws;
+pub mod option_laws;
+pub mod plan_laws;
 mod reading;
 
 pub use reading::read_accepted_plan;

@@ -5,18 +5,18 @@ ghost use Rattle.plan_document.specs.Plans.{read};
 ghost use Rattle.plan_document.specs.Refusals.{Reads};
 ghost use Rattle.accepted_laws.specs.Laws.{WasRead};
 
-use plan_document::{PlanFault, read_any_plan};
+use plan_document::{PlanFault, read_plan};
 use plan_words::Plan;
 use schema_laws::read_schemas_are_lawful;
 use std::alloc::Global;
 
-/// The plan that these bytes are, whether or not it is run today: so the laws over journals speak of it.
+/// The plan that these bytes are: so the laws over journals speak of it.
 pub fn read_accepted_plan(alloc: Global, bytes: &[u8]) -> Result<Plan, PlanFault>
     ensures plan { Reads (λ plan. plan) result (read bytes.now) }
     ensures was_read { IfOk result WasRead }
 {
     read_schemas_are_lawful();
-    let plan = read_any_plan(alloc, bytes)?;
+    let plan = read_plan(alloc, bytes)?;
     let _name = plan.table().as_str();
     Ok(plan)
 }

@@ -7,14 +7,14 @@ use Rattle.plain_server.specs.declared.outcome.Task.TheVariants as tasks
 use Rattle.plan_words.specs.PlanData.{PlanData, Altered, altered_by}
 use Rattle.journal_words.specs.Journals.{state_at}
 use Rattle.ghost_laws.specs.Copies.{IsAltered}
-use Rattle.planning_laws.specs.Laws.{migration_of}
-use Rattle.cause_laws.specs.Laws.{SpentCutOversStand}
-use Rattle.chunk_laws.specs.Laws.{JournalsAreOnline}
-use Rattle.going_laws.specs.Laws.{SomeoneGoes}
+use Rattle.migration_laws.specs.PlanningLaws.Laws.{migration_of}
+use Rattle.attempt_laws.specs.CauseLaws.Laws.{SpentCutOversStand}
+use Rattle.course_laws.specs.ChunkLaws.Laws.{JournalsAreOnline}
+use Rattle.revert_laws.specs.GoingLaws.Laws.{SomeoneGoes}
 use Rattle.revert_laws.specs.Laws.{KeptJournalsAreSerial, RenamesFindTheAltered}
-use Rattle.runnable_laws.specs.Laws.{IsAlterable}
-use Rattle.unfit_laws.specs.Laws.{UnfitRowsStand}
-use Rattle.verdict_laws.specs.Laws.{PanicsStand, SpentTasksStand}
+use Rattle.course_laws.specs.RunnableLaws.Laws.{IsAlterable}
+use Rattle.revert_laws.specs.UnfitLaws.Laws.{UnfitRowsStand}
+use Rattle.attempt_laws.specs.VerdictLaws.Laws.{PanicsStand, SpentTasksStand}
 use Rattle.accepted_laws.specs.Laws.{ReadAttemptsDrain, ReadPlansAreAlterable, ReadPlansAreRunnable, ReadPlansAreSerial, ReadPlansAreWorded, ReadScriptsEnd}
 use Rattle.accepted_runs.specs.Laws.{AcceptedCausesStand, AcceptedRenamesFindTheAltered, AcceptedRunsAreOnline, AcceptedRunsAreSerial, AcceptedRunsGoOn}
 

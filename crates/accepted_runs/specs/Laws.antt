@@ -13,9 +13,9 @@ use Rattle.migration_program.specs.Online.{IsOnline}
 use Rattle.migration_program.specs.Orders.{actors, is_ready}
 use Rattle.migration_program.specs.Verdicts.{has_ended, verdict_of}
 use Rattle.ghost_laws.specs.Copies.{IsAltered}
-use Rattle.planning_laws.specs.Laws.{migration_of}
+use Rattle.migration_laws.specs.PlanningLaws.Laws.{migration_of}
 use Rattle.run_laws.specs.Kept.{IsKept}
-use Rattle.rename_laws.specs.Laws.{IsRename}
+use Rattle.revert_laws.specs.RenameLaws.Laws.{IsRename}
 use Rattle.accepted_laws.specs.Laws.{WasRead}
 
 -- *Accepted runs are serial*: clients' replies and the tables that are left are those of the ended transactions run one at a

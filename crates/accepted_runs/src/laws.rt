@@ -5,12 +5,12 @@ ghost use Rattle.accepted_runs.specs.Laws.{AcceptedRunsAreSerial, AcceptedRename
 use accepted_laws::laws::{
     read_plans_are_runnable, read_plans_are_serial, read_plans_are_worded, read_scripts_end,
 };
-use cause_laws::laws::spent_cut_overs_stand;
-use chunk_laws::laws::journals_are_online;
-use going_laws::laws::someone_goes;
+use attempt_laws::cause_laws::spent_cut_overs_stand;
+use attempt_laws::verdict_laws::{panics_stand, spent_tasks_stand};
+use course_laws::chunk_laws::journals_are_online;
+use revert_laws::going_laws::someone_goes;
 use revert_laws::laws::{kept_journals_are_serial, renames_find_the_altered};
-use unfit_laws::laws::unfit_rows_stand;
-use verdict_laws::laws::{panics_stand, spent_tasks_stand};
+use revert_laws::unfit_laws::unfit_rows_stand;
 
 /// Every run of every accepted plan is serial: in any order of turns, whatever is answered, refused, lost or reverted,
 /// clients' replies and the tables left are those of the ended transactions run one at a time in the order they ended, with

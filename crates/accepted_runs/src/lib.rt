@@ -1,4 +1,5 @@
 //! What is promised of every run of every accepted plan: each function's contract is a law.
 #![tactic(auto)]
 
+pub mod complete_laws;
 pub mod laws;

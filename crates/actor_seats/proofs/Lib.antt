@@ -1,3 +1,4 @@
 pub mod Alters
 pub mod Marking
 pub mod More
+pub mod ClientTurns

@@ -4,6 +4,7 @@
 
 mod actors;
 mod altering;
+pub mod client_turns;
 mod losses;
 mod seat;
 

@@ -15,10 +15,6 @@ use Rattle.alone_model.specs.declared.histories.Happening.TheVariants.{Txn, Alte
 use Rattle.alone_model.specs.declared.histories.InOrder.{InOrder}
 use Rattle.alone_model.proofs.Lawful.{altered_lawful}
 
-pub none_before : (all : Option InOrder) → with_replies [] all ≡ all
-none_before None = refl
-none_before (Some later) = refl
-
 behind : (front : List (List Reply)) (one : List Reply) (all : Option InOrder) → with_replies (front ++ one ∷ []) all ≡ with_replies front (with_replies (one ∷ []) all)
 behind front one None = refl
 behind front one (Some later) = ap (λ (all : List (List Reply)). Some (record { replies = all; tables = later.tables })) (append_assoc front (one ∷ []) later.replies)

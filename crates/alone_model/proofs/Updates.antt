@@ -12,10 +12,6 @@ use Rattle.plain_server.specs.Rows.{same_row, change_rows}
 use Rattle.plain_server.specs.Saying.{with_sets, clashes_besides, change_first, updates}
 use Rattle.alone_model.specs.Updating.{changes_behind}
 
-pub none_before : (all : Result (List Change) Answer) → changes_behind [] all ≡ all
-none_before (Ok others) = refl
-none_before (Err refusal) = refl
-
 behind_first : (front : List Change) (change : Change) (others : Result (List Change) Answer) → changes_behind (front ++ change ∷ []) others ≡ changes_behind front (change_first change others)
 behind_first front change (Ok others) = ap (λ (cs : List Change). Ok cs) (append_assoc front (change ∷ []) others)
 behind_first front change (Err refusal) = refl

@@ -5,7 +5,7 @@ use Rattle.alter_laws.specs.Laws.{IsClause}
 use Rattle.row_store.specs.Databases.{Database}
 use Rattle.plan_tables.specs.Tables.{IsSound}
 use Rattle.plan_words.specs.PlanData.{PlanData}
-use Rattle.plan_laws.specs.PlanLaws.{ReadPlansAreAccepted}
+use Rattle.accepted_laws.specs.PlanLaws.PlanLaws.{ReadPlansAreAccepted}
 use Rattle.accepted_laws.specs.Laws.{ReadPlansAreWorded, WasRead}
 use Rattle.alone_model.specs.Histories.{AreLawful}
 

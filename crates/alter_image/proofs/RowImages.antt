@@ -3,12 +3,12 @@ use Rattle.std.proofs.Common.{◌≡◌, ℕ, ◌+◌, ◌<◌, ◌≤◌, List,
 use Rattle.std.proofs.lemmas.List.{append-nil, drop_all}
 use Rattle.gho_values.specs.declared.value.Value.{Value}
 use Rattle.gho_values.specs.Storing.{stores}
+use Rattle.gho_schema.proofs.Loops.{from_here}
 use Rattle.alter_image.specs.declared.map.MapColumn.{MapColumn}
 use Rattle.alter_image.specs.declared.image_fault.UnfitAt.{UnfitAt}
 use Rattle.alter_image.specs.declared.image_fault.ImageFault.{ImageFault}
 use Rattle.alter_image.specs.declared.image_fault.ImageFault.TheVariants as faults
 use Rattle.alter_image.specs.Images.{source, before, image_from, Fits, Images}
-use Rattle.alter_image.proofs.Rest.{from_here}
 
 -- the values so far, and those that are still made
 abbrev pub with_front : List Value → Result (List Value) UnfitAt → Result (List Value) UnfitAt

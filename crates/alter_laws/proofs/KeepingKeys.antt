@@ -2,7 +2,7 @@
 use Rattle.std.proofs.Common.{◌≡◌, ℕ, zero, suc, Bool, true, false, not, ◌&&◌, ◌||◌, eqb, List, [], ◌∷◌, length, Option, Some, None, Ok, refl, sym, ap, subst, ◌∙◌}
 use Rattle.std.specs.List.{list_all, list_any, slice_get, AllByRecursion}
 use Rattle.std.specs.Ordering.{is_eq}
-use Rattle.std.proofs.lemmas.Bool.{eqb-true, and_parts, not-false}
+use Rattle.std.proofs.lemmas.Bool.{eqb-true, and_parts, not-false, or_right}
 use Rattle.gho_values.specs.declared.value.Value.{Value}
 use Rattle.gho_values.specs.Comparing.{compare_keys}
 use Rattle.gho_schema.specs.declared.schema.Index.{Index}
@@ -18,7 +18,7 @@ use Rattle.alter_schema.specs.declared.code.AlterCode.TheVariants as codes
 use Rattle.alter_schema.specs.declared.standing.Standing.{Standing}
 use Rattle.alter_schema.specs.Altering.{steps, is_origin, same_columns, keeps_key, result_reasons, map_of, result_of, altered}
 use Rattle.alter_schema.specs.Standing.{start}
-use Rattle.schema_rules.proofs.Steps.{bind_ok, unless_ok, none_first, ok_is, second_or}
+use Rattle.schema_rules.proofs.Steps.{bind_ok, unless_ok, none_first, ok_is}
 use Rattle.alter_laws.specs.Laws.{Altered, KeepsKeys, Stays, ImagesKeepKeys, ImagesStayApart, ClusteredKeysStay}
 use Rattle.alter_laws.proofs.Images.{key-same}
 use Rattle.alter_laws.proofs.Steps.{Kept, start-kept, steps-kept}
@@ -75,7 +75,7 @@ any-item test (x ∷ xs) e = any-cons test x xs (test x) refl (any-item test xs)
 pub any-at : (test : Index → Bool) (xs : List Index) (place : ℕ) (x : Index) → slice_get xs place ≡ Some x → test x ≡ true → list_any test xs ≡ true
 any-at test [] place x e h = absurd cc
 any-at test (y ∷ xs) zero x e h = let same : y ≡ x = cc in rw (same, h) refl
-any-at test (y ∷ xs) (suc place) x e h = second_or (test y) (list_any test xs) (any-at test xs place x e h)
+any-at test (y ∷ xs) (suc place) x e h = or_right (test y) (list_any test xs) (any-at test xs place x e h)
 
 abbrev pub clashes : List Value → List Value → Index → Bool
 clashes a b index = is_eq (compare_keys (key_of index.places a) (key_of index.places b)) && no_null (key_of index.places a)

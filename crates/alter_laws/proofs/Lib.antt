@@ -10,3 +10,4 @@ pub mod Places
 pub mod Steps
 pub mod TableNames
 pub mod Traces
+pub mod AlterRereadLaws

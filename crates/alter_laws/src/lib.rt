@@ -1,6 +1,7 @@
 //! What holds of all ALTERs that are taken: each function's contract is a law, and its body does nothing.
 #![tactic(auto)]
 
+pub mod alter_reread_laws;
 mod laws;
 
 pub use laws::{

@@ -2,13 +2,13 @@
 use Rattle.std.proofs.Common.{◌≡◌, ℕ, ◌+◌, ◌<◌, ◌≤◌, Bool, List, length, drop, get_or, Result, Ok, Err, refl, sym, ◌∙◌}
 use Rattle.std.proofs.lemmas.List.{drop_all}
 use Rattle.alter_image.specs.declared.clause.Clause.{Clause}
+use Rattle.gho_schema.proofs.Loops.{from_here}
 use Rattle.alter_schema.specs.declared.code.AlterCode.{AlterCode}
 use Rattle.alter_schema.specs.declared.code.AlterFault.{AlterFault}
 use Rattle.alter_schema.specs.declared.code.AlterFault.TheVariants as faults
 use Rattle.alter_schema.specs.declared.standing.Standing.{Standing}
 use Rattle.alter_schema.specs.Altering.{step, steps}
 use Rattle.alter_schema.specs.Codes.{Refuses}
-use Rattle.schema_rules.proofs.Loops.{from_here}
 
 module _ (approve : Bool) (standing : Standing) (clauses : List Clause) (i : ℕ) (clause : Clause) (total : Result Standing AlterCode) where
   pub goes_on : (next : Standing) → i < length clauses → clause ≡ get_or clauses i clause → step approve standing clause ≡ Ok next → steps approve standing (drop i clauses) ≡ total → steps approve next (drop (i + 1) clauses) ≡ total

@@ -30,7 +30,7 @@ use Rattle.history_laws.specs.Holdings.{face_in, face_of, names_of}
 use Rattle.history_laws.specs.Turns.{request_of}
 use Rattle.history_laws.proofs.Actors.{Placed, Commands, GoesOn, Begins, placed, others_differ}
 use Rattle.history_laws.proofs.Names.{as_held}
-use Rattle.server_laws.proofs.Others.{holds_parts}
+use Rattle.history_laws.proofs.ServerLaws.Others.{holds_parts}
 use Rattle.sentry_laws.proofs.Holding.{granted_each, granted_alone, weaker}
 use Rattle.statement_laws.proofs.Tests.{are_same, same_bytes}
 use Rattle.run_laws.specs.Counting.{AreApart}

@@ -2,10 +2,9 @@
 use Rattle.std.proofs.Common.{◌≡◌, ℕ, Bool, true, false, cond, not, ◌||◌, List, [], ◌∷◌, ◌++◌, Option, Some, None, Ok, Err, refl, sym, ap, ◌∙◌, subst}
 use Rattle.std.specs.Prelude.{is_some}
 use Rattle.std.specs.Option.{option_map}
-use Rattle.std.specs.Str.{bytes_eq}
 use Rattle.std.proofs.lemmas.Bool.{true≢false}
 use Rattle.gho_schema.specs.declared.schema.Schema.{Schema}
-use Rattle.row_store.specs.Databases.{TableRows, Database, find_table, has_table, is_named, name_table, with_name, without_table, rename_tables}
+use Rattle.row_store.specs.Databases.{TableRows, Database, find_table, has_table, is_named, with_name, rename_tables}
 use Rattle.script_text.specs.declared.actor.Side.{Side}
 use Rattle.script_text.specs.declared.actor.Side.TheVariants.{Before, After}
 use Rattle.plain_server.specs.declared.answer.Answer.{Answer}
@@ -15,14 +14,13 @@ use Rattle.plain_server.specs.declared.entry.Asked.TheVariants.{Call, Poll, Comm
 use Rattle.plain_server.specs.declared.entry.Entry.{Entry}
 use Rattle.plain_server.specs.declared.request.Request.{Request}
 use Rattle.plain_server.specs.declared.request.Request.TheVariants as requests
-use Rattle.plain_server.specs.declared.session.Session.{Session}
 use Rattle.plain_server.specs.declared.session.Waiting.{Waiting}
-use Rattle.plain_server.specs.Deeds.{created, dropped, renamed_or, defined, deed_unless, is_beyond, is_outside}
+use Rattle.plain_server.specs.Deeds.{created, dropped, renamed_or, defined, deed_unless, is_outside}
 use Rattle.plain_server.specs.Entries.{is_client, is_command}
 use Rattle.plain_server.specs.Locking.{need, blocker}
 use Rattle.plain_server.specs.Serving.{Served, does, done, without_waiting, called_unless, calls, is_over, polled_over, polled_unless, polled_of, polls, loses, leaves, serves}
 use Rattle.plain_server.specs.Showing.{tables_shown}
-use Rattle.plain_server.specs.States.{State, session_of, is_in_transaction, view, waiting_of, tables_named}
+use Rattle.plain_server.specs.States.{State, session_of, is_in_transaction, view, waiting_of}
 use Rattle.plan_words.specs.PlanData.{PlanData}
 use Rattle.changelog_table.specs.ToolNames.{ghost_name, old_name}
 use Rattle.journal_words.specs.Histories.{told_in}
@@ -32,15 +30,16 @@ use Rattle.history_laws.specs.Holdings.{face_in}
 use Rattle.history_laws.specs.Turns.{inner, missed_at, request_of}
 use Rattle.history_laws.proofs.Joined.{told_missed}
 use Rattle.history_laws.proofs.Journals.{opened_waits}
-use Rattle.history_laws.proofs.Moves.{renamed_other}
+use Rattle.history_laws.proofs.Moves.{renamed_other, renamed_old, gone_none, found_has}
 use Rattle.statement_laws.proofs.Tests.{same_bytes, turned_bytes}
-use Rattle.program_laws.proofs.Naming.{not_ghost, not_old}
+use Rattle.migration_program.proofs.ProgramLaws.Naming.{not_ghost, not_old}
 use Rattle.machine_laws.specs.Standings.{Standing, standing_of, IsAbout, is_called, is_polled}
 use Rattle.machine_laws.specs.Tabling.{schema_of}
 use Rattle.machine_laws.proofs.Marks.{ghost_not_old}
 use Rattle.machine_laws.proofs.Schemas.{new_found}
 use Rattle.machine_laws.proofs.Seated.{IsKnown, IsServed, IsOpen, is_open, state_more, own_waiting, own_given, own_missed}
 use Rattle.course_laws.proofs.Hearing.{IsFoundBy, opened_tables}
+use Rattle.course_laws.proofs.CopyAnswers.{not_outside}
 
 -- NAMES THAT STAND
 
@@ -56,25 +55,6 @@ stands_has name tables schema is = has_is name tables ∙ ap is_some is
 
 pub none_has : (name : List ℕ) (tables : Database) → schema_of name tables ≡ None → has_table name tables ≡ false
 none_has name tables is = has_is name tables ∙ ap is_some is
-
--- what a name that is renamed leaves
-renamed_old : (old new : List ℕ) (tables : Database) → bytes_eq new old ≡ false → find_table old (with_name old new tables) ≡ None
-renamed_old old new [] off = refl
-renamed_old old new (table ∷ tables) off = at (is_named old table) refl (renamed_old old new tables off) where
-  at : (b : Bool) → is_named old table ≡ b → find_table old (with_name old new tables) ≡ None → find_table old (cond b (name_table new table) table ∷ with_name old new tables) ≡ None
-  at true named rest = rw off rest
-  at false named rest = rw named rest
-
--- ... and one that is dropped
-gone_none : (name : List ℕ) (tables : Database) → find_table name (without_table name tables) ≡ None
-gone_none name [] = refl
-gone_none name (table ∷ tables) = at (is_named name table) refl (gone_none name tables) where
-  at : (b : Bool) → is_named name table ≡ b → find_table name (without_table name tables) ≡ None → find_table name (cond (not b) (table ∷ without_table name tables) (without_table name tables)) ≡ None
-  at true named rest = rest
-  at false named rest = rw named rest
-
-found_has : (name : List ℕ) (tables : Database) → find_table name tables ≡ None → has_table name tables ≡ false
-found_has name tables none = none_has name tables (ap (option_map (λ t. t.schema)) none)
 
 -- WHAT IS LEFT, BY THE ANSWER
 
@@ -122,10 +102,6 @@ ShowLeaves before answer after = Unit {0}
 
 abbrev Has : (Answer → Database → Type 0) → Served → Type 0
 Has P served = P served.answer served.after.tables
-
-not_outside : (found : Option Session) (request : Request) → (face_in found).locked ≡ [] → is_outside found request ≡ false
-not_outside None request none = refl
-not_outside (Some session) request none = ap (λ locked. is_beyond locked (tables_named request)) none
 
 create_done : (schema : Schema) (found : State) (number : ℕ) → is_outside (session_of number found.sessions) (requests.Create schema) ≡ false → Has (CreateLeaves schema found.tables) (done found number (requests.Create schema))
 unfolding done

@@ -6,3 +6,6 @@ pub mod RenamerAnswers
 pub mod InspectorAnswers
 pub mod SetupAnswers
 pub mod Standing
+pub mod VerdictLaws
+pub mod CauseLaws
+pub mod RenamedLaws

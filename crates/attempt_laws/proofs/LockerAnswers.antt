@@ -23,7 +23,7 @@ use Rattle.machine_laws.specs.Tabling.{schema_of, TablesStand}
 use Rattle.machine_laws.proofs.CuttingOver.{LockerAsks}
 use Rattle.machine_laws.proofs.Marks.{ghost_not_old}
 use Rattle.machine_laws.proofs.Schemas.{keeps_table}
-use Rattle.program_laws.proofs.Naming.{not_old}
+use Rattle.migration_program.proofs.ProgramLaws.Naming.{not_old}
 use Rattle.statement_laws.proofs.Tests.{turned_bytes}
 use Rattle.attempt_laws.proofs.Leaving.{AllStay, CreateLeaves, DropLeaves, Left, heard, lost, missed}
 use Rattle.attempt_laws.proofs.Stages.{IsFree, SentryAtMost, FreeTables, GuardedTables, TablesAt, StandsAt, most_stay, free_stay, guarded_stay, tables_stay, free_guards, guarded_in}

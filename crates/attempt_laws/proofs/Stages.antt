@@ -15,7 +15,7 @@ use Rattle.cutover_core.specs.declared.cutover.Phase.{Phase}
 use Rattle.cutover_core.specs.declared.cutover.Phase.TheVariants.{Resting, Attempting, Ending, Finishing, Finished}
 use Rattle.cutover_core.specs.declared.cutover.Stage.{Stage}
 use Rattle.cutover_core.specs.declared.cutover.Stage.TheVariants.{Guarding, Locking, Hinting, Draining, Drained, Showing, Dropping, Unlocking, Exchanging}
-use Rattle.cutover_core.specs.CutOvers.{sentry_alone, failed, drained, ended}
+use Rattle.cutover_core.specs.CutOvers.{sentry_alone, drained, ended}
 use Rattle.machine_laws.specs.Tabling.{schema_of, TablesStand}
 use Rattle.machine_laws.proofs.Schemas.{is_quiet}
 use Rattle.attempt_laws.proofs.Leaving.{AllStay}
@@ -193,13 +193,6 @@ module _ (plan : PlanData) (tables : Database) (inspects : Option Request) (hold
 
   pub fails : (stage : Stage) → At (Attempting stage) → At (Ending Looking)
   fails stage at = record { tables = inl (guarded_in plan tables stage at.tables); renamer = tt; asked = tt; hold = tt; left = tt; inspector = λ request some. at.inspector request some }
-
-  pub failed_at : (phase : Phase) → At phase → At (failed phase)
-  failed_at (Attempting stage) at = fails stage at
-  failed_at Resting at = at
-  failed_at (Ending clearing) at = at
-  failed_at (Finishing clearing) at = at
-  failed_at Finished at = at
 
   -- a revert
   pub ended_at : (phase : Phase) → At phase → At (ended phase)

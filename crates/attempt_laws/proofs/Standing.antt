@@ -41,7 +41,7 @@ use Rattle.cutover_core.specs.CutOvers.{is_wait, applier_turn, reverted}
 use Rattle.migration_program.specs.Programs.{tool_call, given, IsGiven, Follows}
 use Rattle.migration_program.specs.Setups.{Setup, Listing, Clearing, MakingLog, MakingGhost, Marking, Reaching, Ready, setup_call, setup_step}
 use Rattle.migration_program.specs.Tools.{Work, Course, SettingUp, Migrating, Tool, Moment, stopped, is_reverting, course_of, moment}
-use Rattle.program_laws.proofs.Machines.{CourseIsNamed, named}
+use Rattle.migration_program.proofs.ProgramLaws.Machines.{CourseIsNamed, named}
 use Rattle.history_laws.proofs.Actors.{same_actor_is}
 use Rattle.run_laws.proofs.Living.{Both, both_more, living_begin}
 use Rattle.history_laws.proofs.Actors.{sessions_begin}

@@ -21,7 +21,7 @@ use Rattle.plain_server.specs.Along.{gathered}
 use Rattle.plain_server.specs.Entries.{is_client, same_actor}
 use Rattle.plan_words.specs.PlanData.{PlanData}
 use Rattle.journal_words.specs.Clients.{Became, Nothing, Waits, Marked, Broken, Reached, after_turn, became, client_after, client_at, ends_with, is_inside, marked, new_client, number_of, script_of}
-use Rattle.journal_words.specs.Histories.{HistoryItem, about, adds, alters, asked_about, client_ends, ends_so, entry_adds, history, line_ends, renames_away, request_waiting, told_in, waits_behind, waits_in}
+use Rattle.journal_words.specs.Histories.{about, adds, alters, asked_about, client_ends, ends_so, entry_adds, history, line_ends, renames_away, request_waiting, told_in, waits_behind, waits_in}
 use Rattle.client_lines.specs.declared.renaming.Renaming.{Renaming}
 use Rattle.client_lines.specs.Pasts.{alter_text, history_line, item_text, past_text}
 use Rattle.client_lines.specs.Walks.{Walk, added_by, became_now, client_added, ended_text, ends_now, history_from, is_done, is_open, new_walk, nobody_renames, number_in, renames_at, renames_behind, renames_in, renaming_after, tool_added, walk_after, walk_at, walk_of, walks_after, with_renaming}
@@ -29,9 +29,6 @@ use Rattle.client_lines.proofs.Actors.{same_is}
 use Rattle.client_lines.proofs.Walking.{after_is, number_is, open_is, other_turn, own_turn}
 
 -- ---- what a client's turn ends
-
-lone : (item : HistoryItem) → flat_map item_text (item ∷ []) ≡ item_text item
-lone item = append-nil (item_text item)
 
 line_text : (number : ℕ) (client : Reached) (line : ScriptLine) (mark : Mark) (reply : Option Reply) (ended : Option TxnEnd) → flat_map item_text (ends_so number client line mark reply ended) ≡ cond (is_some ended) (past_text number (number_of client)) []
 line_text number client line mark reply None = refl

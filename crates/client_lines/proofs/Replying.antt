@@ -1,7 +1,6 @@
 -- Replies, as they are printed.
-use Rattle.std.proofs.Common.{◌≡◌, ◌∙◌, ℕ, ◌+◌, ◌-◌, ◌==◌, false, List, [], ◌∷◌, ◌++◌, Some, sym, ap, append-nil, append_assoc, arith}
-use Rattle.std.proofs.lemmas.Bool.Decides.{nat_tests}
-use Rattle.std.specs.List.{flat_map, slice_get}
+use Rattle.std.proofs.Common.{◌≡◌, ◌∙◌, ℕ, ◌+◌, ◌-◌, List, [], ◌∷◌, ◌++◌, Some, sym, ap, append-nil, append_assoc}
+use Rattle.std.specs.List.{flat_map}
 use Rattle.script_text.specs.declared.script.ScriptLine.{ScriptLine}
 use Rattle.plain_server.specs.declared.entry.Entry.{Entry}
 use Rattle.plan_words.specs.PlanData.{PlanData}
@@ -22,10 +21,3 @@ text_by_walk plan journal client script into line after is first then =
     then ∙ ap (λ xs. xs ++ flat_map numbered_text (replies_from client (new_walk script) journal)) first
     ∙ append_assoc into (client_line client) (flat_map numbered_text (replies_from client (new_walk script) journal))
     ∙ ap (λ (replies : List NumberedReply). into ++ (client_line client ++ flat_map numbered_text replies)) (sym (replies_found plan journal client script is))
-
--- the script of a client by its place
-pub script_at : (plan : PlanData) (client place : ℕ) (script : List ScriptLine) → client ≡ place + 1 → slice_get plan.clients place ≡ Some script → script_of client plan ≡ Some script
-script_at plan client place script is at =
-    let some : (client == 0) ≡ false = grind (arith, nat_tests) in
-    let behind : client - 1 ≡ place = omega (arith, is) in
-    rw some (ap (slice_get plan.clients) behind ∙ at)

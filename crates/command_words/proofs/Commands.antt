@@ -18,14 +18,6 @@ by_command P words none some = go (command words) refl
 pub escaped : (words : List Text) → list_any is_escape words ≡ true → None ≡ command words
 escaped words is = by_command (λ o. None ≡ o) words (λ none. refl) (λ c is_command. let plain : list_any is_escape words ≡ false = (form_taken words c is_command).plain in absurd (cc (sym is ∙ plain)))
 
--- words of no form are no command
-pub formless : (words : List Text) → is_some (command words) ≡ false → None ≡ command words
-formless words is = go (command words) is
-  where
-    go : (o : Option Command) → is_some o ≡ false → None ≡ o
-    go None is = refl
-    go (Some c) is = absurd (cc)
-
 -- words of a form are the command that the matches tell
 pub told_right : (words : List Text) (rows : Option (Text × List Row)) → rows ≡ subcommand_of program words → is_some (command words) ≡ true → told rows ≡ command words
 told_right words rows are is = ap told are ∙ go (command words) refl is

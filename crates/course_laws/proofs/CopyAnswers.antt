@@ -35,7 +35,7 @@ use Rattle.plan_words.specs.PlanData.{PlanData, old_schema, new_map}
 use Rattle.changelog_table.specs.ToolNames.{ghost_name}
 use Rattle.journal_words.specs.Journals.{opens, state_at}
 use Rattle.history_laws.specs.Holdings.{face_in}
-use Rattle.copy_laws.proofs.Rows.{copies_image}
+use Rattle.migration_laws.proofs.CopyLaws.Rows.{copies_image}
 use Rattle.machine_laws.specs.Keying.{IsMapped}
 use Rattle.machine_laws.specs.Standings.{Standing, standing_of, IsAbout, is_called, is_polled}
 use Rattle.machine_laws.specs.Tabling.{schema_of, ghost_schema, TablesStand}
@@ -115,7 +115,7 @@ module _ (again : StoresAgain) (seen : Database) (from into : List ℕ) (map : L
 
 -- WHAT IS DONE
 
-not_outside : (found : Option Session) (request : Request) → (face_in found).locked ≡ [] → is_outside found request ≡ false
+pub not_outside : (found : Option Session) (request : Request) → (face_in found).locked ≡ [] → is_outside found request ≡ false
 not_outside None request none = refl
 not_outside (Some session) request none = ap (λ locked. is_beyond locked (tables_named request)) none
 

@@ -2,3 +2,9 @@ pub mod CopyAnswers
 pub mod CourseTurns
 pub mod Hearing
 pub mod Owners
+pub mod RunnableLaws
+pub mod UnalteredLaws
+pub mod WaitsLaws
+pub mod MarkedLaws
+pub mod ReadyLaws
+pub mod ChunkLaws

@@ -66,10 +66,6 @@ kind_lives : (found : Option Session) → is_some found ≡ true → option_map 
 kind_lives None live none = false≢true live
 kind_lives (Some session) live none = cc
 
-kind_some : (found : Option Session) → (option_map (λ (s : Session). s.is_tool) found ≡ None → ⊥) → is_some found ≡ true
-kind_some None some = absurd (some refl)
-kind_some (Some session) some = refl
-
 -- WHO COMMANDS
 
 -- commands are the operator's

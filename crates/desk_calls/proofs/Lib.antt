@@ -1,3 +1,4 @@
 pub mod OpenEvents
 pub mod Polls
 pub mod Ready
+pub mod RowLog

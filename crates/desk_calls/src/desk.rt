@@ -10,17 +10,17 @@ ghost use Rattle.plain_server.specs.Serving.{counting, forgets, goes_on, limit_i
 ghost use Rattle.desk_calls.specs.Rooms.{logs};
 
 use crate::room::make_room;
+use crate::row_log::Log;
 use event_codec::Events;
 use gho_values::{Duplicate, Names, Sequence};
 use plain_server::{Answer, Limits, Need, Request, Session, ShownWaiters, Waiting};
 use row_locks::{Lock, LockSet};
-use row_log::Log;
+use session_desk::session_locks::{blocker, is_exclusive, is_outside, names_in, waits_shown};
 use session_desk::{
     begin_wait, connect, count_polls, disconnect, end_wait, hold, holds_tables, is_in_transaction,
     is_live, is_of_tool, is_waiting, lock_tables, polls_of, rest, session_of, unlock_tables,
     waiting_of,
 };
-use session_locks::{blocker, is_exclusive, is_outside, names_in, waits_shown};
 use std::alloc::{AllocError, Global};
 use std::marker::Model;
 
@@ -60,8 +60,8 @@ fn need_of(alloc: Global, request: &Request, locks: LockSet) -> Result<Need, All
 }
 
 impl Desk {
-    /// The desk at its start, without a session. It takes no memory.
-    pub fn new(alloc: Global, limits: Limits) -> Desk
+    /// The desk at its start, without a session. Its log watches these tables. It takes no memory.
+    pub fn new(alloc: Global, limits: Limits, watched: Names) -> Desk
         requires clients { 1 ≤ limits.client_wait }
         requires tools { 1 ≤ limits.tool_wait }
         ensures { result ≡ opened limits [] }
@@ -70,7 +70,7 @@ impl Desk {
             alloc,
             limits,
             made: 0,
-            log: Log::new(alloc),
+            log: Log::new(alloc, watched),
             waiting: Vec::new(alloc),
             sessions: Vec::new(alloc),
         }

@@ -4,5 +4,6 @@
 
 mod desk;
 mod room;
+pub mod row_log;
 
 pub use desk::Desk;

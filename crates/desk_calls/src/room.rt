@@ -3,8 +3,8 @@
 ghost use Rattle.std.specs.Prelude.{◌≡◌, ◌+◌, ◌≤◌, IfSome, OnOk};
 ghost use Rattle.desk_calls.specs.Rooms.{open_events};
 
+use crate::row_log::Log;
 use plain_server::Session;
-use row_log::Log;
 use std::alloc::AllocError;
 
 /// How many events the sessions wrote in their open transactions, and so many more; none where they are too many to count.

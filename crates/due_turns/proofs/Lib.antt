@@ -1,3 +1,4 @@
 pub mod Coming
 pub mod Serving
 pub mod Keeping
+pub mod DueCalls

@@ -1,4 +1,5 @@
 //! The turn that is due in a run: a loss between calls, or what is given to an actor; and that a journal with it is kept.
 #![tactic(auto)]
 
+pub mod due_calls;
 pub mod laws;

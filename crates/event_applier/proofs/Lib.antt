@@ -1,3 +1,2 @@
 pub mod RowKeys
 pub mod Walks
-pub mod Sets

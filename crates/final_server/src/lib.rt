@@ -2,5 +2,6 @@
 #![tactic(auto)]
 
 mod opening;
+pub mod server_store;
 
 pub use opening::{FinalServer, open_server};

@@ -10,18 +10,18 @@ use Rattle.row_store.specs.Databases.{TableRows, find_table}
 use Rattle.plan_words.specs.PlanData.{Altered, PlanData, altered_by, new_altered, new_map, new_schema, no_schema, old_schema}
 use Rattle.changelog_table.specs.ToolNames.{ghost_name}
 use Rattle.history_laws.specs.Plans.{IsSerialPlan}
-use Rattle.ghost_rows.specs.Timelines.{IsPlanned, Migration}
+use Rattle.ghost_laws.specs.GhostRows.Timelines.{IsPlanned, Migration}
 use Rattle.ghost_laws.specs.Holding.{Clustered}
 use Rattle.ghost_laws.proofs.Keys.{clustered}
-use Rattle.planning_laws.specs.Laws.{migration_of}
-use Rattle.planning_laws.proofs.Planned.{alters_planned, was_ok}
-use Rattle.apply_laws.proofs.Stated.{alters_find_rows}
+use Rattle.migration_laws.specs.PlanningLaws.Laws.{migration_of}
+use Rattle.migration_laws.proofs.PlanningLaws.Planned.{alters_planned, was_ok}
+use Rattle.migration_laws.proofs.ApplyLaws.Stated.{alters_find_rows}
 use Rattle.machine_laws.specs.Runnable.{IsRunnable}
-use Rattle.runnable_laws.specs.Laws.{AlterablePlansAreRunnable, IsAlterable}
-use Rattle.runnable_laws.proofs.Runnable.{named}
-use Rattle.follow_turns.specs.Goes.{IsOf}
-use Rattle.follow_turns.specs.Laws.{IsMigrationOf}
-use Rattle.follow_turns.proofs.Follows.{marks_are_altered}
+use Rattle.course_laws.specs.RunnableLaws.Laws.{AlterablePlansAreRunnable, IsAlterable}
+use Rattle.course_laws.proofs.RunnableLaws.Runnable.{named}
+use Rattle.follow_laws.specs.FollowTurns.Goes.{IsOf}
+use Rattle.follow_laws.specs.FollowTurns.Laws.{IsMigrationOf}
+use Rattle.follow_laws.proofs.FollowTurns.Follows.{marks_are_altered}
 use Rattle.follow_laws.specs.Laws.{FollowersAlter}
 use Rattle.follow_laws.proofs.Starts.{followers_go}
 

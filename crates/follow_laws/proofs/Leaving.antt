@@ -12,8 +12,8 @@ use Rattle.journal_words.specs.Journals.{may_lose, opens}
 use Rattle.history_laws.specs.Scenes.{Besides, Scene, SessionHold, Stored, no_hold}
 use Rattle.history_laws.specs.Holdings.{stored}
 use Rattle.history_laws.specs.Turns.{IsSceneRun, about, scene_state, told_at}
-use Rattle.ghost_rows.specs.Moments.{Row}
-use Rattle.ghost_rows.specs.Timelines.{Migration}
+use Rattle.ghost_laws.specs.GhostRows.Moments.{Row}
+use Rattle.ghost_laws.specs.GhostRows.Timelines.{Migration}
 use Rattle.ghost_laws.specs.Invariant.{NotOf}
 use Rattle.ghost_laws.proofs.Keeping.{TableStands, found_besides, table_commits, table_moves}
 use Rattle.ghost_laws.proofs.Leaving.{holds_of}

@@ -3,3 +3,9 @@ pub mod Leaving
 pub mod Said
 pub mod Starts
 pub mod Follows
+pub mod FollowTurns
+pub mod HintLaws
+pub mod HoldLaws
+pub mod LockerTurns
+pub mod InspectorTurns
+pub mod BatchTurns

@@ -21,8 +21,8 @@ use Rattle.ghost_laws.specs.Leaving.{DeedLeaves, deed_answer, is_lost, was_done,
 use Rattle.ghost_laws.proofs.Leaving.{deeds_are_done, holds_of}
 use Rattle.ghost_laws.proofs.Turns.{along_next, run_front}
 use Rattle.ghost_laws.proofs.Undone.{deeds_answer}
-use Rattle.copy_laws.proofs.Served.{Deeded, deeded}
-use Rattle.copy_laws.proofs.Served.Deeded.{outside_so, within_so}
+use Rattle.migration_laws.proofs.CopyLaws.Served.{Deeded, deeded}
+use Rattle.migration_laws.proofs.CopyLaws.Served.Deeded.{outside_so, within_so}
 use Rattle.machine_laws.proofs.Schemas.{new_found}
 use Rattle.statement_laws.proofs.Tests.{same_bytes}
 

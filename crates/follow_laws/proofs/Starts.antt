@@ -32,19 +32,19 @@ use Rattle.cutover_core.specs.CutOvers.{is_bad}
 use Rattle.migration_program.specs.Programs.{IsGiven, given, tool_asks, tool_call}
 use Rattle.migration_program.specs.Setups.{Setup, Listing, Clearing, MakingLog, MakingGhost, Marking, Reaching, Ready, clearing, listed, setup_call, setup_step}
 use Rattle.migration_program.specs.Tools.{Course, Migrating, SettingUp, Work, course_of, is_reverting, moment, new_work}
-use Rattle.program_laws.proofs.Naming.{not_first, not_ghost, not_log}
+use Rattle.migration_program.proofs.ProgramLaws.Naming.{not_first, not_ghost, not_log}
 use Rattle.history_laws.specs.Plans.{limits_of, scene_of}
 use Rattle.history_laws.specs.Scenes.{Stored, no_hold}
 use Rattle.history_laws.specs.Holdings.{face_of, stored}
 use Rattle.history_laws.specs.Turns.{ClientAsks, IsSceneRun, about, told_at}
 use Rattle.history_laws.proofs.Journals.{journal_holds}
-use Rattle.ghost_rows.specs.Moments.{Row, rows_at}
-use Rattle.ghost_rows.specs.Timelines.{Migration}
+use Rattle.ghost_laws.specs.GhostRows.Moments.{Row, rows_at}
+use Rattle.ghost_laws.specs.GhostRows.Timelines.{Migration}
 use Rattle.ghost_laws.specs.Copies.{range_of}
 use Rattle.ghost_laws.specs.Holding.{Clustered}
 use Rattle.ghost_laws.specs.Tool.CopyState.{Waiting}
 use Rattle.ghost_laws.proofs.Keeping.{TableStands, table_opens}
-use Rattle.copy_laws.specs.Copying.{copy_state}
+use Rattle.migration_laws.specs.CopyLaws.Copying.{copy_state}
 use Rattle.run_laws.specs.Kept.{IsKept}
 use Rattle.machine_laws.specs.Machines.{CourseStands, SetupStands}
 use Rattle.machine_laws.specs.Standings.{MayTake, Standing, free, is_polled, standing_in, standing_of}
@@ -60,23 +60,23 @@ use Rattle.migration_laws.proofs.Leaves.{WritesAway}
 use Rattle.migration_laws.proofs.Migrating.{starts}
 use Rattle.migration_laws.proofs.Others.{LeavesName}
 use Rattle.statement_laws.proofs.Tests.{turned_bytes}
-use Rattle.unaltered_laws.specs.Laws.{IsUnaltered}
-use Rattle.unaltered_laws.proofs.Asking.{AskedAs}
-use Rattle.unaltered_laws.proofs.Away.{IsKnownAsked, all_asked, unaltered_front}
-use Rattle.follow_turns.specs.Goes.{Seats, machines_in}
-use Rattle.follow_turns.specs.Laws.{GoesSomehow, IsMigrationOf}
-use Rattle.follow_turns.proofs.Asked.{about_called, asked_as, gave, waits_with}
-use Rattle.follow_turns.proofs.Follows.{followers_go_on, kept_front, kept_run, kept_scene}
-use Rattle.follow_turns.proofs.Others.{client_name, ghost_named}
-use Rattle.follow_turns.proofs.Reverting.{going_front}
-use Rattle.follow_turns.proofs.Seats.{new_holds}
+use Rattle.course_laws.specs.UnalteredLaws.Laws.{IsUnaltered}
+use Rattle.course_laws.proofs.UnalteredLaws.Asking.{AskedAs}
+use Rattle.course_laws.proofs.UnalteredLaws.Away.{IsKnownAsked, all_asked, unaltered_front}
+use Rattle.follow_laws.specs.FollowTurns.Goes.{Seats, machines_in}
+use Rattle.follow_laws.specs.FollowTurns.Laws.{GoesSomehow, IsMigrationOf}
+use Rattle.follow_laws.proofs.FollowTurns.Asked.{about_called, asked_as, gave, waits_with}
+use Rattle.follow_laws.proofs.FollowTurns.Follows.{followers_go_on, kept_front, kept_run, kept_scene}
+use Rattle.follow_laws.proofs.FollowTurns.Others.{client_name, ghost_named}
+use Rattle.follow_laws.proofs.FollowTurns.Reverting.{going_front}
+use Rattle.follow_laws.proofs.FollowTurns.Seats.{new_holds}
 use Rattle.follow_laws.specs.Laws.{FollowersGo}
 use Rattle.follow_laws.proofs.Courses.{SetupTo, begins_again, rests_so, setup_turn, steps_on}
 use Rattle.follow_laws.proofs.Leaving.{Left, NoneWrote, left}
 use Rattle.follow_laws.proofs.Said.{EndsSaid, ends_said, log_said, made_said}
 
 -- the position that was asked for is in the log
-abbrev NotedIn : Setup → ℕ → Type 0
+abbrev pub NotedIn : Setup → ℕ → Type 0
 NotedIn (Reaching position) end = position ≤ end
 NotedIn setup end = Unit {0}
 
@@ -88,7 +88,7 @@ record SetupGoes (plan : PlanData) (m : Migration) (rows : List Row) (journal : 
   empty : past_ghost setup ≡ true → find_table m.new.name (state_at plan journal).tables ≡ Some (record { schema = m.new; rows = [] })
   noted : NotedIn setup (length (state_at plan journal).log)
 
-grows : (setup : Setup) (end later : ℕ) → end ≤ later → NotedIn setup end → NotedIn setup later
+pub grows : (setup : Setup) (end later : ℕ) → end ≤ later → NotedIn setup end → NotedIn setup later
 grows (Reaching position) end later more noted = omega (arith, more, noted)
 grows Listing end later more noted = tt
 grows (Clearing some) end later more noted = tt

@@ -6,15 +6,15 @@ use Rattle.plan_words.specs.PlanData.{PlanData}
 use Rattle.journal_words.specs.Journals.{state_at}
 use Rattle.migration_program.specs.Tools.{Migrating, Work, is_reverting, moment}
 use Rattle.history_laws.specs.Plans.{IsSerialPlan}
-use Rattle.ghost_rows.specs.Moments.{Row}
-use Rattle.ghost_rows.specs.Timelines.{Migration}
+use Rattle.ghost_laws.specs.GhostRows.Moments.{Row}
+use Rattle.ghost_laws.specs.GhostRows.Timelines.{Migration}
 use Rattle.ghost_laws.specs.Copies.{IsAltered}
 use Rattle.ghost_laws.specs.Holding.{Clustered}
-use Rattle.planning_laws.specs.Laws.{migration_of}
+use Rattle.migration_laws.specs.PlanningLaws.Laws.{migration_of}
 use Rattle.run_laws.specs.Kept.{IsKept}
-use Rattle.runnable_laws.specs.Laws.{IsAlterable, IsWorded}
-use Rattle.unaltered_laws.specs.Laws.{IsUnaltered}
-use Rattle.follow_turns.specs.Laws.{GoesSomehow, IsMark, IsMigrationOf}
+use Rattle.course_laws.specs.RunnableLaws.Laws.{IsAlterable, IsWorded}
+use Rattle.course_laws.specs.UnalteredLaws.Laws.{IsUnaltered}
+use Rattle.follow_laws.specs.FollowTurns.Laws.{GoesSomehow, IsMark, IsMigrationOf}
 
 -- *Followers go*: from the opening tables on, over whatever turns follow the program, once the setup is over the migration goes,
 -- until something is reverted or the RENAME is done.

@@ -2,8 +2,8 @@
 
 ghost use Rattle.follow_laws.specs.Laws.{FollowersAlter, FollowersGo};
 
+use course_laws::runnable_laws::alterable_plans_are_runnable;
 use gho_values::laws::stored_values_store_again;
-use runnable_laws::laws::alterable_plans_are_runnable;
 
 /// From the opening on, once the setup is over the migration goes.
 pub fn followers_go()

@@ -21,9 +21,9 @@ use Rattle.plain_server.specs.declared.work.Work.TheVariants.{Copy, Replace, Del
 use Rattle.row_store.proofs.FoundRows.{put_new}
 use Rattle.ghost_laws.proofs.Keys.{reach_locked}
 use Rattle.ghost_laws.specs.Holding.{Clustered, is_locked}
-use Rattle.ghost_rows.proofs.Finding.{found_in}
-use Rattle.ghost_rows.specs.Changes.{deleting, replacing, updating}
-use Rattle.ghost_rows.specs.Moments.{rows_after, rows_after_all}
+use Rattle.ghost_laws.proofs.GhostRows.Finding.{found_in}
+use Rattle.ghost_laws.specs.GhostRows.Changes.{deleting, replacing, updating}
+use Rattle.ghost_laws.specs.GhostRows.Moments.{rows_after, rows_after_all}
 use Rattle.plain_server.specs.Answers.{refuses}
 use Rattle.plain_server.specs.Needing.{needs}
 use Rattle.plain_server.specs.Rows.{reaches, rows_met, same_row}
@@ -63,11 +63,6 @@ deleting_list (Some row) = refl
 pub delete_told : (schema : Schema) (at : Clustered schema) (key : Row) (rows : List Row) → no_null key ≡ true → Ascends (key_places schema) rows → (tells schema rows (Delete (at_key schema at key))).changes ≡ deleting (find (is_at (key_places schema) key) rows)
 unfolding tells
 delete_told schema at key rows full ascends = ap (map changes.Delete) (key_met schema at key rows full ascends) ∙ deleting_list (find (is_at (key_places schema) key) rows)
-
--- *CopyRow*
-copy_by : (row : Row) (b : Bool) → (cond b (only (answers.Ok 0)) (record { answer = answers.Ok 1; changes = changes.Write row ∷ [] })).changes ≡ cond b [] (changes.Write row ∷ [])
-copy_by row true = refl
-copy_by row false = refl
 
 -- whether a row clashes, by the two words for it
 clash_by : (schema : Schema) (row first : Row) (rows : List Row) (b : Bool) (found : Option Row) → cond (b && true) (Some first) (find (λ other. clash schema.uniques row other && true) rows) ≡ found

@@ -12,10 +12,10 @@ use Rattle.row_store.proofs.Orders.{Row}
 use Rattle.row_store.proofs.RowLaws.{key_is}
 use Rattle.row_store.proofs.TableLaws.{put_keeps, remove_keeps}
 use Rattle.row_store.proofs.FoundRows.{put_new}
-use Rattle.ghost_rows.proofs.TimelineLaws.{change_keeps, none_clashing}
-use Rattle.ghost_rows.specs.Moments.{Fits, FitsAll, rows_after, rows_after_all}
+use Rattle.ghost_laws.proofs.GhostRows.TimelineLaws.{none_clashing}
+use Rattle.ghost_laws.specs.GhostRows.Moments.{Fits, rows_after}
 use Rattle.statement_laws.proofs.OneRow.{one_of_key, own_key, same_removal}
-use Rattle.plain_server.specs.Rows.{change_all, change_rows, same_row, stands, without_row}
+use Rattle.plain_server.specs.Rows.{change_rows, same_row, stands, without_row}
 use Rattle.statement_laws.proofs.Orderly.{nulls}
 use Rattle.statement_laws.proofs.Standing.{one_row, same_itself}
 use Rattle.statement_laws.proofs.Tests.{or_true}
@@ -68,10 +68,3 @@ same_change schema has (Update before after) rows is fits =
     ap (with_row places after) (sym gone) ∙ sym (put_new places after left new.0)
 same_change schema has (Delete row) rows is fits =
     let places : List ℕ = key_places schema in sym (same_removal places row rows is.ascends (found_stands (is_at places (key_of places row)) row rows fits))
-
-pub same_changes : (schema : Schema) → HasClusteredKey schema → (changes : List Change) (rows : List Row) → IsTable schema rows → FitsAll schema rows changes → change_all (key_places schema) changes rows ≡ rows_after_all (key_places schema) changes rows
-unfolding change_all rows_after_all FitsAll
-same_changes schema has [] rows is fits = refl
-same_changes schema has (change ∷ changes) rows is fits =
-    ap (change_all (key_places schema) changes) (same_change schema has change rows is fits.0)
-    ∙ same_changes schema has changes (rows_after (key_places schema) change rows) (change_keeps schema has change rows is fits.0) fits.1

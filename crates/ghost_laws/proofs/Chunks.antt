@@ -26,9 +26,9 @@ use Rattle.ghost_laws.proofs.Joining.{IsCopied}
 use Rattle.ghost_laws.proofs.Keys.{among_any, full_key}
 use Rattle.ghost_laws.proofs.Ranges.{less_then, tied}
 use Rattle.ghost_laws.specs.Holding.{Clustered}
-use Rattle.ghost_rows.proofs.Finding.{found_at, found_in}
-use Rattle.ghost_rows.specs.Moments.{Row, rows_at}
-use Rattle.ghost_rows.specs.Timelines.{IsPlanned, Migration}
+use Rattle.ghost_laws.proofs.GhostRows.Finding.{found_at, found_in}
+use Rattle.ghost_laws.specs.GhostRows.Moments.{Row, rows_at}
+use Rattle.ghost_laws.specs.GhostRows.Timelines.{IsPlanned, Migration}
 use Rattle.plain_server.specs.Chunks.{keys_of, last_of}
 use Rattle.plain_server.specs.Needing.{lock_on}
 use Rattle.plain_server.specs.Rows.{lies_under}

@@ -8,9 +8,9 @@ use Rattle.history_laws.specs.Scenes.{Scene, SessionHold, Stored}
 use Rattle.history_laws.specs.Holdings.{face_of}
 use Rattle.history_laws.specs.Turns.{IsSceneRun, scene_state}
 use Rattle.statement_laws.proofs.Tests.{turned}
-use Rattle.ghost_rows.proofs.TimelineLaws.{each_table}
-use Rattle.ghost_rows.specs.Moments.{Row}
-use Rattle.ghost_rows.specs.Timelines.{IsPlanned, Migration}
+use Rattle.ghost_laws.proofs.GhostRows.TimelineLaws.{each_table}
+use Rattle.ghost_laws.specs.GhostRows.Moments.{Row}
+use Rattle.ghost_laws.specs.GhostRows.Timelines.{IsPlanned, Migration}
 use Rattle.ghost_laws.specs.Copies.{IsAltered, IsCopyEnd, IsCopyStart, IsInScene, SceneTurns, range_of, rows_now}
 use Rattle.ghost_laws.specs.Holding.{Clustered}
 use Rattle.ghost_laws.specs.Invariant.{IsServed}

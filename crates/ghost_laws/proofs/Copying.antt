@@ -32,13 +32,13 @@ use Rattle.ghost_laws.specs.Invariant.{GhostInvariant, IsServed}
 use Rattle.ghost_laws.specs.Joined.{AreGranted, IsJoined}
 use Rattle.ghost_laws.specs.Statements.{DoesWork}
 use Rattle.ghost_laws.specs.Tool.{SomeRow, HoldsSpan}
-use Rattle.ghost_relation.specs.Views.{Progress}
-use Rattle.ghost_rows.proofs.Finishing.{all_found}
-use Rattle.ghost_rows.proofs.Overlays.{beside_elsewhere}
-use Rattle.ghost_rows.specs.Moments.{Row, rows_after_all, rows_at}
-use Rattle.ghost_rows.specs.Timelines.{IsPlanned, Migration}
-use Rattle.ghost_rows.specs.UnderWay.{IsUnderWay}
-use Rattle.ghost_rows.specs.Views.{chunk_view, GhostRows, ghost_row, is_among, is_done, is_done_in, view_of}
+use Rattle.ghost_laws.specs.GhostRelation.Views.{Progress}
+use Rattle.ghost_laws.proofs.GhostRows.Finishing.{all_found}
+use Rattle.ghost_laws.proofs.GhostRows.Overlays.{beside_elsewhere}
+use Rattle.ghost_laws.specs.GhostRows.Moments.{Row, rows_after_all, rows_at}
+use Rattle.ghost_laws.specs.GhostRows.Timelines.{IsPlanned, Migration}
+use Rattle.ghost_laws.specs.GhostRows.UnderWay.{IsUnderWay}
+use Rattle.ghost_laws.specs.GhostRows.Views.{chunk_view, GhostRows, ghost_row, is_among, is_done, is_done_in, view_of}
 use Rattle.history_laws.proofs.Kept.{apart-turn}
 use Rattle.history_laws.specs.Scenes.{Besides, SessionHold, Stored, no_hold}
 use Rattle.plain_server.specs.Chunks.{keys_of}

@@ -13,12 +13,12 @@ use Rattle.row_store.specs.RowLists.{is_at}
 use Rattle.row_store.proofs.Orders.{Row}
 use Rattle.ghost_laws.proofs.Keys.{locked_apart, row_locked}
 use Rattle.ghost_laws.specs.Holding.{is_locked}
-use Rattle.ghost_rows.proofs.Finding.{found_in}
-use Rattle.ghost_rows.proofs.TimelineLaws.{change_keeps}
-use Rattle.ghost_rows.specs.Changes.{NamesHeld, NoneRemoved, new_key, old_key, removed_row}
-use Rattle.ghost_rows.specs.Disjoint.{AllDisjoint, AreDisjoint, Disjoint}
-use Rattle.ghost_rows.specs.Moments.{Fits, FitsAll, rows_after}
-use Rattle.ghost_rows.specs.Views.{is_among}
+use Rattle.ghost_laws.proofs.GhostRows.Finding.{found_in}
+use Rattle.ghost_laws.proofs.GhostRows.TimelineLaws.{change_keeps}
+use Rattle.ghost_laws.specs.GhostRows.Changes.{NamesHeld, NoneRemoved, new_key, old_key, removed_row}
+use Rattle.ghost_laws.specs.GhostRows.Disjoint.{AllDisjoint, AreDisjoint, Disjoint}
+use Rattle.ghost_laws.specs.GhostRows.Moments.{Fits, FitsAll, rows_after}
+use Rattle.ghost_laws.specs.GhostRows.Views.{is_among}
 use Rattle.history_laws.proofs.Kept.{apart-turn}
 use Rattle.plain_server.specs.Needing.{points}
 use Rattle.statement_laws.proofs.Covers.{not_under}

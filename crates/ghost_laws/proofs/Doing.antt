@@ -23,11 +23,11 @@ use Rattle.ghost_laws.specs.Given.{IsGiven}
 use Rattle.ghost_laws.specs.Holding.{is_locked}
 use Rattle.ghost_laws.specs.Invariant.{GhostInvariant, IsServed}
 use Rattle.ghost_laws.specs.Statements.{DoesWork}
-use Rattle.ghost_relation.specs.Views.{Progress}
-use Rattle.ghost_rows.proofs.Finding.{is_same}
-use Rattle.ghost_rows.specs.Moments.{Row}
-use Rattle.ghost_rows.specs.Timelines.{IsDue, IsPlanned, Migration, changes_key, kept}
-use Rattle.ghost_rows.specs.Views.{is_key, GhostRows, ghost_row, view_of}
+use Rattle.ghost_laws.specs.GhostRelation.Views.{Progress}
+use Rattle.ghost_laws.proofs.GhostRows.Finding.{is_same}
+use Rattle.ghost_laws.specs.GhostRows.Moments.{Row}
+use Rattle.ghost_laws.specs.GhostRows.Timelines.{IsDue, IsPlanned, Migration, changes_key, kept}
+use Rattle.ghost_laws.specs.GhostRows.Views.{is_key, GhostRows, ghost_row, view_of}
 use Rattle.history_laws.specs.Scenes.{Besides, SessionHold, Stored}
 use Rattle.plain_server.specs.Answers.{refuses}
 use Rattle.plain_server.specs.Jobs.{Job}

@@ -15,17 +15,17 @@ use Rattle.ghost_laws.proofs.Keys.{locked_more}
 use Rattle.ghost_laws.specs.Doings.{OthersOnly}
 use Rattle.ghost_laws.specs.Holding.{is_locked}
 use Rattle.ghost_laws.specs.Joined.{AreGranted, IsJoined}
-use Rattle.ghost_relation.specs.Views.{Progress}
-use Rattle.ghost_rows.proofs.Chunking.{all_done, chunk_begins}
-use Rattle.ghost_rows.proofs.Committing.{batch_goes_on, log_goes_on}
-use Rattle.ghost_rows.proofs.Resting.{batch_goes_back, event_rests, places_go_back}
-use Rattle.ghost_rows.proofs.Steps.{chunk_commits_on, chunk_is_to_repeat, chunk_rolls_back_on, under_way_timeline, with_done}
-use Rattle.ghost_rows.proofs.TimelineLaws.{step}
-use Rattle.ghost_rows.proofs.Writing.{covered_by}
-use Rattle.ghost_rows.specs.Moments.{LogFits, Row, rows_after_all, rows_at}
-use Rattle.ghost_rows.specs.Timelines.{IsPlanned, Migration}
-use Rattle.ghost_rows.specs.UnderWay.{IsUnderWay}
-use Rattle.ghost_rows.specs.Views.{GhostRows, is_among, is_done, is_done_in}
+use Rattle.ghost_laws.specs.GhostRelation.Views.{Progress}
+use Rattle.ghost_laws.proofs.GhostRows.Chunking.{all_done, chunk_begins}
+use Rattle.ghost_laws.proofs.GhostRows.Committing.{batch_goes_on, log_goes_on}
+use Rattle.ghost_laws.proofs.GhostRows.Resting.{batch_goes_back, event_rests, places_go_back}
+use Rattle.ghost_laws.proofs.GhostRows.Steps.{chunk_commits_on, chunk_is_to_repeat, chunk_rolls_back_on, under_way_timeline, with_done}
+use Rattle.ghost_laws.proofs.GhostRows.TimelineLaws.{step}
+use Rattle.ghost_laws.proofs.GhostRows.Writing.{covered_by}
+use Rattle.ghost_laws.specs.GhostRows.Moments.{LogFits, Row, rows_after_all, rows_at}
+use Rattle.ghost_laws.specs.GhostRows.Timelines.{IsPlanned, Migration}
+use Rattle.ghost_laws.specs.GhostRows.UnderWay.{IsUnderWay}
+use Rattle.ghost_laws.specs.GhostRows.Views.{GhostRows, is_among, is_done, is_done_in}
 use Rattle.history_laws.proofs.Kept.{apart-turn, none_apart}
 use Rattle.statement_laws.proofs.Finding.{covered_more}
 use Rattle.statement_laws.specs.Agreeing.{Within}

@@ -9,30 +9,21 @@ use Rattle.event_codec.specs.declared.event.Change.{Change}
 use Rattle.row_locks.specs.declared.lock.Lock.{Lock}
 use Rattle.row_store.specs.Databases.{TableRows, Database, find_table, with_change}
 use Rattle.row_store.proofs.Orders.{Row}
-use Rattle.script_text.specs.declared.script.ScriptWord.{ScriptWord}
-use Rattle.script_text.specs.declared.script.ScriptWord.TheVariants as words
-use Rattle.script_text.specs.declared.actor.Side.TheVariants.{Before, After}
-use Rattle.plain_server.specs.declared.transaction.Mark.{Mark}
-use Rattle.plain_server.specs.declared.transaction.Mark.TheVariants as marks
-use Rattle.plain_server.specs.declared.transaction.TxnLine.{TxnLine}
 use Rattle.ghost_laws.proofs.Changing.{same_change}
 use Rattle.ghost_laws.proofs.Telling.{tells_fit}
 use Rattle.ghost_laws.specs.Fitting.{EventsFit, IsFitting}
-use Rattle.ghost_rows.proofs.TimelineLaws.{change_keeps}
-use Rattle.ghost_rows.specs.Moments.{Fits, FitsAll, LogFits, rows_after, rows_at, rows_then}
+use Rattle.ghost_laws.proofs.GhostRows.TimelineLaws.{change_keeps}
+use Rattle.ghost_laws.specs.GhostRows.Moments.{Fits, FitsAll, LogFits, rows_after, rows_at, rows_then}
 use Rattle.history_laws.proofs.Tools.{sound_alike}
-use Rattle.plain_server.specs.Alone.{Ran, line_events, lines_run, nothing_ran}
-use Rattle.plain_server.specs.Jobs.{Job, after_events, change_table, events_of, job_needs, job_of, job_says, result_in}
+use Rattle.plain_server.specs.Jobs.{Job, after_events, change_table, events_of, job_needs, job_says, result_in}
 use Rattle.plain_server.specs.Rows.{change_rows}
 use Rattle.plain_server.specs.Saying.{tells}
 use Rattle.statement_laws.proofs.Finding.{NamesWithin, agree_events, agree_itself, agree_then, agree_within, change_if, found_after, says_alike}
-use Rattle.statement_laws.proofs.Stables.{one_more, stable_end, statement_sound}
 use Rattle.statement_laws.proofs.Tests.{are_same, same_bytes}
 use Rattle.statement_laws.specs.Agreeing.{Agree, Within}
 use Rattle.statement_laws.specs.Covering.{IsOrderlyTable, IsSound}
 use Rattle.statement_laws.specs.Databases.{IsOrderly, TaskSound, WhereFound}
 use Rattle.statement_laws.specs.Laws.{SaysAlike}
-use Rattle.statement_laws.specs.Stability.{RunSo, Stable}
 
 -- an event of a table that goes with its rows leaves an orderly table
 orderly_change : (change : Change) (table : TableRows) → IsOrderlyTable table → Fits table.schema table.rows change → IsOrderlyTable (change_table change table)
@@ -91,42 +82,9 @@ says_fit tables task sound is = fit_in task tables (find_table task.table tables
 
 -- ---- a client's lines
 
-line_fit : (tables : Database) (word : ScriptWord) (mark : Mark) → IsOrderly tables → EventsFit tables (line_events tables word mark)
-unfolding EventsFit
-line_fit tables (words.Do statement) marks.Answered is = says_fit tables (job_of statement) (statement_sound tables statement is) is
-line_fit tables (words.Do statement) (marks.Lost After) is = says_fit tables (job_of statement) (statement_sound tables statement is) is
-line_fit tables (words.Do statement) (marks.Lost Before) is = tt
-line_fit tables (words.Do statement) marks.TimedOut is = tt
-line_fit tables words.Begin marks.Answered is = tt
-line_fit tables words.Begin marks.TimedOut is = tt
-line_fit tables words.Begin (marks.Lost Before) is = tt
-line_fit tables words.Begin (marks.Lost After) is = tt
-line_fit tables words.Commit marks.Answered is = tt
-line_fit tables words.Commit marks.TimedOut is = tt
-line_fit tables words.Commit (marks.Lost Before) is = tt
-line_fit tables words.Commit (marks.Lost After) is = tt
-line_fit tables words.Rollback marks.Answered is = tt
-line_fit tables words.Rollback marks.TimedOut is = tt
-line_fit tables words.Rollback (marks.Lost Before) is = tt
-line_fit tables words.Rollback (marks.Lost After) is = tt
-
--- *What lines write goes with the tables on which they run.*
-pub lines_fit : (tables : Database) (ran : Ran) (lines : List TxnLine) → IsOrderly tables → EventsFit tables ran.writes → EventsFit tables (lines_run tables ran lines).writes
-unfolding lines_run
-lines_fit tables ran [] is fits = fits
-lines_fit tables ran (line ∷ lines) is fits =
-    lines_fit tables (one_more tables ran line) lines is
-    (fit_more tables ran.writes (line_events (after_events tables ran.writes) line.word line.mark) fits (line_fit (after_events tables ran.writes) line.word line.mark (orderly_events tables ran.writes is fits)))
-
 nothing_fits : (tables : Database) → EventsFit tables []
 unfolding EventsFit
 nothing_fits tables = tt
-
--- *A client's own writes go with the committed tables*, whatever was committed since they were written.
-pub commit_fits : (names : List (List ℕ)) (locks : List Lock) (lines : List TxnLine) (ran : Ran) (tables : Database) → IsOrderly tables → Stable names locks lines ran tables → EventsFit tables ran.writes
-commit_fits names locks lines ran tables is stable =
-    let run : RunSo lines ran tables = stable_end names locks lines ran tables is stable in
-    subst (λ (r : Ran). EventsFit tables r.writes) run.runs (lines_fit tables nothing_ran lines is (nothing_fits tables))
 
 -- ---- the tool's tasks
 

@@ -24,22 +24,22 @@ use Rattle.ghost_laws.proofs.Keys.{clustered, full_key, locked_more, row_locked}
 use Rattle.ghost_laws.proofs.Telling.{tells_fit}
 use Rattle.ghost_laws.specs.Holding.{Clustered, is_locked}
 use Rattle.ghost_laws.specs.Joined.{AreGranted, IsJoined}
-use Rattle.ghost_relation.specs.Applying.{AppliedAt}
-use Rattle.ghost_relation.specs.Views.{Progress}
-use Rattle.ghost_rows.proofs.Applying.{delete_applies, replace_applies, update_applies}
-use Rattle.ghost_rows.proofs.Copying.{among_more}
-use Rattle.ghost_rows.proofs.Finding.{found_in}
-use Rattle.ghost_rows.proofs.Replacing.{after_both, deleted}
-use Rattle.ghost_rows.proofs.Resting.{copy_rests, half_goes_on}
-use Rattle.ghost_rows.proofs.Steps.{left_key, misses, under_way_timeline, view_table}
-use Rattle.ghost_rows.proofs.TimelineLaws.{each_table, keys_stay}
-use Rattle.ghost_rows.proofs.Writing.{copy_goes_on, event_goes_on}
-use Rattle.ghost_rows.specs.Changes.{NamesHeld, deleting, new_key, old_key, row_left, updating}
-use Rattle.ghost_rows.specs.Disjoint.{AllDisjoint, Disjoint}
-use Rattle.ghost_rows.specs.Moments.{Fits, Row, rows_after_all, rows_at}
-use Rattle.ghost_rows.specs.Timelines.{IsDue, IsPlanned, Migration, changes_key, kept, timeline_of}
-use Rattle.ghost_rows.specs.UnderWay.{IsUnderWay}
-use Rattle.ghost_rows.specs.Views.{is_key, chunk_view, GhostRows, ghost_row, is_among, view_of}
+use Rattle.ghost_laws.specs.GhostRelation.Applying.{AppliedAt}
+use Rattle.ghost_laws.specs.GhostRelation.Views.{Progress}
+use Rattle.ghost_laws.proofs.GhostRows.Applying.{delete_applies, replace_applies, update_applies}
+use Rattle.ghost_laws.proofs.GhostRows.Copying.{among_more}
+use Rattle.ghost_laws.proofs.GhostRows.Finding.{found_in}
+use Rattle.ghost_laws.proofs.GhostRows.Replacing.{after_both, deleted}
+use Rattle.ghost_laws.proofs.GhostRows.Resting.{copy_rests, half_goes_on}
+use Rattle.ghost_laws.proofs.GhostRows.Steps.{left_key, misses, under_way_timeline, view_table}
+use Rattle.ghost_laws.proofs.GhostRows.TimelineLaws.{each_table, keys_stay}
+use Rattle.ghost_laws.proofs.GhostRows.Writing.{copy_goes_on, event_goes_on}
+use Rattle.ghost_laws.specs.GhostRows.Changes.{NamesHeld, deleting, new_key, old_key, row_left, updating}
+use Rattle.ghost_laws.specs.GhostRows.Disjoint.{AllDisjoint, Disjoint}
+use Rattle.ghost_laws.specs.GhostRows.Moments.{Fits, Row, rows_after_all, rows_at}
+use Rattle.ghost_laws.specs.GhostRows.Timelines.{IsDue, IsPlanned, Migration, changes_key, kept, timeline_of}
+use Rattle.ghost_laws.specs.GhostRows.UnderWay.{IsUnderWay}
+use Rattle.ghost_laws.specs.GhostRows.Views.{is_key, chunk_view, GhostRows, ghost_row, is_among, view_of}
 use Rattle.plain_server.specs.Answers.{refuses}
 use Rattle.plain_server.specs.Needing.{needs, points, points_of}
 use Rattle.plain_server.specs.Saying.{TableResult, displaced, only, tells}

@@ -13,11 +13,11 @@ use Rattle.ghost_laws.proofs.Fitting.{events_lead, found_behind}
 use Rattle.ghost_laws.specs.Fitting.{EventsFit}
 use Rattle.ghost_laws.specs.Invariant.{GhostInvariant, IsServed, NotOf}
 use Rattle.ghost_laws.specs.Joined.{IsJoined}
-use Rattle.ghost_relation.specs.Views.{Progress}
-use Rattle.ghost_rows.proofs.Finishing.{log_fits-append}
-use Rattle.ghost_rows.specs.Moments.{LogFits, Row, rows_after, rows_after_all, rows_at, rows_then}
-use Rattle.ghost_rows.specs.Timelines.{IsPlanned, Migration}
-use Rattle.ghost_rows.specs.Views.{GhostRows, is_among, is_done, is_done_in}
+use Rattle.ghost_laws.specs.GhostRelation.Views.{Progress}
+use Rattle.ghost_laws.proofs.GhostRows.Finishing.{log_fits-append}
+use Rattle.ghost_laws.specs.GhostRows.Moments.{LogFits, Row, rows_after, rows_after_all, rows_at, rows_then}
+use Rattle.ghost_laws.specs.GhostRows.Timelines.{IsPlanned, Migration}
+use Rattle.ghost_laws.specs.GhostRows.Views.{GhostRows, is_among, is_done, is_done_in}
 use Rattle.history_laws.specs.Scenes.{Besides, SessionHold, Stored, no_hold}
 use Rattle.plain_server.specs.Jobs.{after_events, change_table, events_of}
 use Rattle.statement_laws.proofs.Finding.{change_if, found_after}

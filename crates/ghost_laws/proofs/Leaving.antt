@@ -31,7 +31,7 @@ use Rattle.history_laws.proofs.Names.{OneIn, opened_one}
 use Rattle.history_laws.proofs.Serves.{granted}
 use Rattle.history_laws.proofs.Turning.{holds_besides}
 use Rattle.history_laws.proofs.Tooling.{AreApart, final}
-use Rattle.server_laws.proofs.Others.{at_wait}
+use Rattle.history_laws.proofs.ServerLaws.Others.{at_wait}
 use Rattle.ghost_laws.specs.Laws.{DeedsAreDone}
 use Rattle.ghost_laws.specs.Leaving.{DeedLeaves, is_lost, unless_lost, was_done, where_done, with_grant}
 

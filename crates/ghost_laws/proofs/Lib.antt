@@ -27,3 +27,5 @@ pub mod Granting
 pub mod Running
 pub mod Copies
 pub mod Undone
+pub mod GhostRelation
+pub mod GhostRows

@@ -5,8 +5,8 @@ use Rattle.gho_schema.specs.Clustering.{clustered_place}
 use Rattle.gho_schema.specs.Rows.{key_of, key_places}
 use Rattle.plain_server.specs.Answers.{refuses}
 use Rattle.plain_server.specs.Saying.{only, tells}
-use Rattle.ghost_rows.specs.Moments.{Row}
-use Rattle.ghost_rows.specs.Views.{view_of}
+use Rattle.ghost_laws.specs.GhostRows.Moments.{Row}
+use Rattle.ghost_laws.specs.GhostRows.Views.{view_of}
 use Rattle.ghost_laws.specs.Holding.{Clustered}
 use Rattle.ghost_laws.specs.Laws.{CommitsFit, RowIsRemoved, RowIsChanged, UnfitRowIsMissed, RefusedRowIsRemoved}
 use Rattle.ghost_laws.specs.Statements.{DoesWork, delete_at, update_at, unfit_at}

@@ -12,12 +12,12 @@ use Rattle.ghost_laws.proofs.Ending.{batch_ends}
 use Rattle.ghost_laws.specs.Doings.{changes_in, own_change, IsWhole, planned}
 use Rattle.ghost_laws.specs.Invariant.{GhostInvariant}
 use Rattle.ghost_laws.specs.Reading.{EventsTold, IsTold, own_changes}
-use Rattle.ghost_relation.specs.Views.{Progress}
-use Rattle.ghost_rows.specs.Moments.{Row, rows_after_all}
-use Rattle.ghost_rows.specs.Timelines.{IsPlanned, Migration}
-use Rattle.ghost_rows.specs.Views.{GhostRows}
+use Rattle.ghost_laws.specs.GhostRelation.Views.{Progress}
+use Rattle.ghost_laws.specs.GhostRows.Moments.{Row, rows_after_all}
+use Rattle.ghost_laws.specs.GhostRows.Timelines.{IsPlanned, Migration}
+use Rattle.ghost_laws.specs.GhostRows.Views.{GhostRows}
 use Rattle.history_laws.specs.Scenes.{SessionHold, Stored, no_hold}
-use Rattle.plain_server.specs.Showing.{ReadEvent, behind_last, read_from}
+use Rattle.plain_server.specs.Showing.{ReadEvent, behind_last, read_from, events_given, events_read}
 use Rattle.plain_server.specs.States.{is_of}
 use Rattle.statement_laws.proofs.Tests.{are_one, are_same}
 
@@ -117,7 +117,7 @@ short_told name tables log (event ∷ part) place named is (suc n) less =
     short_by name tables log n place event part (read_from tables (place + 1) part) (is_of tables event) refl named is less (short_told name tables log part (place + 1) named (next_part log place event part is))
 
 -- as many or fewer
-taken_length : (n : ℕ) (given : List ReadEvent) → length (take n given) ≤ n
+pub taken_length : (n : ℕ) (given : List ReadEvent) → length (take n given) ≤ n
 taken_length zero given = omega arith
 taken_length (suc n) [] = omega arith
 taken_length (suc n) (read ∷ given) = let less : length (take n given) ≤ n = taken_length n given in omega (arith, less)
@@ -151,3 +151,7 @@ position_moves m rows done taken progress ghost copier applier now hold next pla
       chunk = there.chunk;
       differ = there.differ;
     }
+
+pub read_is : (position limit : ℕ) (tables : List (List ℕ)) (log : List RowEvent) → events_read position limit tables log ≡ events_given limit (length log) (take limit (read_from tables position (drop position log)))
+unfolding events_read
+read_is position limit tables log = refl

@@ -15,9 +15,9 @@ use Rattle.plain_server.specs.Saying.{TableResult, result_or_refusal, tells, upd
 use Rattle.event_applier.specs.Appliers.{Doing}
 use Rattle.event_applier.specs.Appliers.Doing.{Putting, Removing, Changing}
 use Rattle.history_laws.specs.Scenes.{SessionHold, Stored}
-use Rattle.ghost_rows.specs.Moments.{Row, rows_at}
-use Rattle.ghost_rows.specs.Timelines.{IsPlanned, Migration}
-use Rattle.ghost_rows.specs.Views.{view_of}
+use Rattle.ghost_laws.specs.GhostRows.Moments.{Row, rows_at}
+use Rattle.ghost_laws.specs.GhostRows.Timelines.{IsPlanned, Migration}
+use Rattle.ghost_laws.specs.GhostRows.Views.{view_of}
 use Rattle.ghost_laws.specs.Holding.{Clustered}
 use Rattle.ghost_laws.specs.Doings.{planned}
 use Rattle.ghost_laws.specs.Invariant.{IsServed}

@@ -18,13 +18,13 @@ use Rattle.ghost_laws.specs.Fitting.{EventsFit}
 use Rattle.ghost_laws.specs.Invariant.{GhostInvariant, IsServed}
 use Rattle.ghost_laws.specs.Joined.{IsJoined}
 use Rattle.ghost_laws.specs.Tool.{start_places, no_ghost}
-use Rattle.ghost_relation.specs.Views.{Progress}
-use Rattle.ghost_rows.proofs.Finishing.{ghost_is_altered}
-use Rattle.ghost_rows.proofs.Steps.{migration_starts}
-use Rattle.ghost_rows.specs.Moments.{LogFits, Row, rows_at}
-use Rattle.ghost_rows.specs.Timelines.{IsPlanned, Migration}
-use Rattle.ghost_rows.specs.UnderWay.{IsUnderWay}
-use Rattle.ghost_rows.specs.Views.{chunk_view, GhostRows, is_done, is_left, view_of}
+use Rattle.ghost_laws.specs.GhostRelation.Views.{Progress}
+use Rattle.ghost_laws.proofs.GhostRows.Finishing.{ghost_is_altered}
+use Rattle.ghost_laws.proofs.GhostRows.Steps.{migration_starts}
+use Rattle.ghost_laws.specs.GhostRows.Moments.{LogFits, Row, rows_at}
+use Rattle.ghost_laws.specs.GhostRows.Timelines.{IsPlanned, Migration}
+use Rattle.ghost_laws.specs.GhostRows.UnderWay.{IsUnderWay}
+use Rattle.ghost_laws.specs.GhostRows.Views.{chunk_view, GhostRows, is_done, is_left, view_of}
 use Rattle.history_laws.proofs.Kept.{none_apart}
 use Rattle.history_laws.specs.Scenes.{Besides, SessionHold, Stored, no_hold}
 use Rattle.plain_server.specs.Jobs.{Job, after_events, events_of, job_needs, job_says}

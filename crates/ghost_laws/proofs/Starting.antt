@@ -23,10 +23,10 @@ use Rattle.ghost_laws.specs.Holding.{Clustered}
 use Rattle.ghost_laws.specs.Tool.{start_places, no_ghost, SomeRow, ApplyState, HoldsSpan, InChunk, ToolInvariant, half_in}
 use Rattle.ghost_laws.specs.Tool.ApplyState.{Idle}
 use Rattle.ghost_laws.specs.Tool.CopyState.{Taking, Waiting}
-use Rattle.ghost_relation.specs.Views.{Progress}
-use Rattle.ghost_rows.specs.Moments.{LogFits, Row, rows_at}
-use Rattle.ghost_rows.specs.Timelines.{IsPlanned, Migration}
-use Rattle.ghost_rows.specs.Views.{GhostRows, is_among, is_left}
+use Rattle.ghost_laws.specs.GhostRelation.Views.{Progress}
+use Rattle.ghost_laws.specs.GhostRows.Moments.{LogFits, Row, rows_at}
+use Rattle.ghost_laws.specs.GhostRows.Timelines.{IsPlanned, Migration}
+use Rattle.ghost_laws.specs.GhostRows.Views.{GhostRows, is_among, is_left}
 use Rattle.history_laws.specs.Scenes.{SessionHold, Stored, no_hold}
 use Rattle.plain_server.specs.Chunks.{keys_of, last_of}
 use Rattle.statement_laws.proofs.Tests.{or_true}

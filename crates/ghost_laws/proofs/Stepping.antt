@@ -1,14 +1,10 @@
 -- One law for each statement of the copier and of the applier, on the server.
-use Rattle.std.proofs.Common.{◌≡◌, ℕ, ◌+◌, ◌<◌, Bool, true, false, List, [], ◌∷◌, ◌++◌, Some, None, Ok, refl, sym, ap, ◌∙◌, subst, ◌⊎◌}
+use Rattle.std.proofs.Common.{◌≡◌, ℕ, ◌+◌, ◌<◌, Bool, true, false, List, [], ◌∷◌, ◌++◌, Some, None, Ok, refl, ap, ◌∙◌, subst, ◌⊎◌}
 use Rattle.std.specs.Prelude.{◌==◌}
-use Rattle.std.proofs.lemmas.Bool.{true≢false}
 use Rattle.std.proofs.lemmas.List.{append-nil}
-use Rattle.std.specs.List.{list_any}
-use Rattle.std.specs.Str.{bytes_eq}
 use Rattle.gho_schema.specs.Rows.{key_of, key_places}
 use Rattle.gho_schema.specs.Tables.{no_null}
 use Rattle.alter_image.specs.Images.{image}
-use Rattle.event_codec.specs.declared.event.RowEvent.{RowEvent}
 use Rattle.event_codec.specs.declared.event.Change.{Change}
 use Rattle.event_codec.specs.declared.event.Change.TheVariants.{Update, Delete}
 use Rattle.plain_server.specs.declared.work.StatementResult.{StatementResult}
@@ -21,22 +17,20 @@ use Rattle.ghost_laws.proofs.Joining.{IsCopied, IsGrant, copy_joins, delete_join
 use Rattle.ghost_laws.proofs.Saying.{Says, applier_keeps, applier_says, copier_keeps, copier_says}
 use Rattle.ghost_laws.specs.Given.{IsGiven}
 use Rattle.ghost_laws.specs.Holding.{is_locked}
-use Rattle.ghost_laws.specs.Invariant.{GhostInvariant, IsServed, NotOf}
+use Rattle.ghost_laws.specs.Invariant.{GhostInvariant, IsServed}
 use Rattle.ghost_laws.specs.Statements.{DoesWork}
-use Rattle.ghost_relation.specs.Views.{Progress}
-use Rattle.ghost_rows.specs.Changes.{new_key, old_key, row_left}
-use Rattle.ghost_rows.specs.Moments.{Row}
-use Rattle.ghost_rows.specs.Timelines.{IsDue, IsPlanned, Migration, changes_key, kept}
-use Rattle.ghost_rows.specs.Views.{is_key, chunk_view, GhostRows, ghost_row, is_among, view_of}
+use Rattle.ghost_laws.specs.GhostRelation.Views.{Progress}
+use Rattle.ghost_laws.specs.GhostRows.Changes.{new_key, old_key, row_left}
+use Rattle.ghost_laws.specs.GhostRows.Moments.{Row}
+use Rattle.ghost_laws.specs.GhostRows.Timelines.{IsDue, IsPlanned, Migration, changes_key, kept}
+use Rattle.ghost_laws.specs.GhostRows.Views.{is_key, chunk_view, GhostRows, ghost_row, is_among, view_of}
 use Rattle.history_laws.proofs.Kept.{apart-turn}
 use Rattle.history_laws.specs.Scenes.{Besides, SessionHold, Stored}
 use Rattle.plain_server.specs.Answers.{refuses}
 use Rattle.plain_server.specs.Jobs.{Job, after_events, events_of}
 use Rattle.plain_server.specs.Saying.{only, tells}
-use Rattle.statement_laws.proofs.Tests.{are_same}
 use Rattle.statement_laws.specs.Agreeing.{Within}
 use Rattle.statement_laws.specs.Covering.{Apart, IsSound}
-use Rattle.statement_laws.specs.Databases.{EventsCovered}
 
 pub given_grant : (m : Migration) (rows : List Row) (done half : Row → Bool) (taken : List Row) (progress : Progress Row) (ghost : GhostRows) (copier applier : ℕ) (now : Stored) (hold : ℕ → SessionHold) (own : SessionHold) (task : Job) (work : Work) → IsServed now hold → GhostInvariant m rows done half taken progress ghost copier applier now hold
     → (copier == applier) ≡ false → DoesWork m task work → IsGiven now hold applier task own → IsSound m.new.columns work → IsGrant m (hold applier).locks own.locks (hold copier).locks ghost work
@@ -131,17 +125,6 @@ span_keeps m rows done half taken progress ghost copier applier now hold holds o
     }
 
 -- ---- a client's writes are of no table that it hasn't named
-
-not_named : (name table : List ℕ) (names : List (List ℕ)) (b : Bool) → bytes_eq table name ≡ b → list_any (bytes_eq table) names ≡ true → list_any (bytes_eq name) names ≡ false → b ≡ false
-not_named name table names true same named free =
-    let one : table ≡ name = are_same table name same in
-    absurd (true≢false (sym (subst (λ (n : List ℕ). list_any (bytes_eq n) names ≡ true) one named) ∙ free))
-not_named name table names false same named free = refl
-
-pub not_of : (name : List ℕ) (names : List (List ℕ)) (locks : List Lock) (tables : _) (writes : List RowEvent) → EventsCovered names locks tables writes → list_any (bytes_eq name) names ≡ false → NotOf name writes
-not_of name names locks tables [] covered free = tt
-not_of name names locks tables (event ∷ writes) covered free =
-    (not_named name event.table names (bytes_eq event.table name) refl covered.0.named free, not_of name names locks tables writes covered.1 free)
 
 -- *a batch's UPDATE of a row that has no image*, where the new table has no row of its key
 pub unfit_keeps : (m : Migration) (rows : List Row) (done : Row → Bool) (taken : List Row) (progress : Progress Row) (ghost : GhostRows) (copier applier : ℕ) (now : Stored) (hold holds : ℕ → SessionHold) (own : SessionHold) (task : Job) (before row : Row) (fault : _) (planned : IsPlanned m rows) → IsServed now hold

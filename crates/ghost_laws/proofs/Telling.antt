@@ -1,11 +1,9 @@
 -- What a statement changes goes with the rows, change by change.
-use Rattle.std.proofs.Common.{◌≡◌, ℕ, Bool, true, false, not, ◌||◌, List, [], ◌∷◌, map, find, filter, cond, Option, Some, Result, Ok, Err, Less, Equal, refl, sym, ap, ◌∙◌, subst}
+use Rattle.std.proofs.Common.{◌≡◌, ℕ, Bool, true, false, not, ◌||◌, List, [], ◌∷◌, map, find, filter, cond, Option, Some, Result, Ok, Err, Less, refl, sym, ap, ◌∙◌, subst}
 use Rattle.std.proofs.lemmas.Bool.{true≢false}
-use Rattle.std.proofs.lemmas.Cmp.{tied_itself}
 use Rattle.std.specs.List.{AllByRecursion, list_any}
 use Rattle.gho_values.specs.declared.value.Value.{Value}
 use Rattle.gho_values.specs.Comparing.{compare_keys}
-use Rattle.gho_values.proofs.Orders.{keys_total}
 use Rattle.gho_schema.specs.declared.schema.Schema.{Schema}
 use Rattle.gho_schema.specs.Rows.{key_of, key_places}
 use Rattle.gho_schema.specs.Tables.{IsRow, IsTable, Ascends, clash}
@@ -20,17 +18,17 @@ use Rattle.row_store.proofs.Ascending.{all-filter, ascends-filter}
 use Rattle.plain_server.specs.declared.work.Work.{Work}
 use Rattle.plain_server.specs.declared.work.Work.TheVariants.{Refuse, Insert, Copy, Replace, Delete, Update, Select}
 use Rattle.ghost_laws.proofs.Changing.{found_stands, same_change, stands_found}
-use Rattle.ghost_rows.proofs.Committing.{fits_none}
-use Rattle.ghost_rows.proofs.Finishing.{all_found}
-use Rattle.ghost_rows.proofs.TimelineLaws.{change_keeps}
-use Rattle.ghost_rows.proofs.Writing.{fits_one, replacing_fits, taken_fit}
-use Rattle.ghost_rows.specs.Moments.{Fits, FitsAll, NoneClashes, rows_after}
+use Rattle.ghost_laws.proofs.GhostRows.Committing.{fits_none}
+use Rattle.ghost_laws.proofs.GhostRows.Finishing.{all_found}
+use Rattle.ghost_laws.proofs.GhostRows.TimelineLaws.{change_keeps}
+use Rattle.ghost_laws.proofs.GhostRows.Writing.{fits_one, replacing_fits, taken_fit}
+use Rattle.ghost_laws.specs.GhostRows.Moments.{Fits, FitsAll, NoneClashes, rows_after}
 use Rattle.statement_laws.proofs.OneRow.{same_removal}
 use Rattle.plain_server.specs.Answers.{refuses}
 use Rattle.plain_server.specs.Rows.{change_rows, reaches, rows_met, same_row, stands, without_row}
 use Rattle.plain_server.specs.Saying.{change_first, clashes_besides, only, result_or_refusal, tells, updated, updates, with_sets}
 use Rattle.statement_laws.proofs.Orderly.{none_besides, with_sets_row}
-use Rattle.statement_laws.proofs.Standing.{one_row, stands-filter, stands-put}
+use Rattle.statement_laws.proofs.Standing.{stands-filter, stands-put, other_row}
 use Rattle.statement_laws.proofs.Tests.{or_true}
 use Rattle.statement_laws.specs.Covering.{IsSound, SetsFit}
 
@@ -68,14 +66,6 @@ either_way schema rows true c still later one two = one
 either_way schema rows false true still later one two = tt
 either_way schema rows false false still later one two = two refl
 
--- rows behind another in order aren't it
-not_same : (places : List ℕ) (row other : Row) (b : Bool) → same_row row other ≡ b → compare_keys (key_of places row) (key_of places other) ≡ Less → b ≡ false
-not_same places row other true same less =
-    let one : row ≡ other = one_row row other same in
-    let tied : compare_keys (key_of places row) (key_of places other) ≡ Equal = ap (λ (r : Row). compare_keys (key_of places row) (key_of places r)) (sym one) ∙ tied_itself keys_total (key_of places row) in
-    absurd (let no : Less ≡ Equal = sym less ∙ tied in cc)
-not_same places row other false same less = refl
-
 -- they stand behind the change of that one
 still_stands : (places : List ℕ) (old new other : Row) (rows : List Row) → same_row old other ≡ false → stands other rows ≡ true → stands other (change_rows places (changes.Update old new) rows) ≡ true
 unfolding change_rows
@@ -86,7 +76,7 @@ all_stand : (places : List ℕ) (old new : Row) (met rows : List Row) → AllByR
     → AllByRecursion (λ other. stands other (change_rows places (changes.Update old new) rows) ≡ true) met
 all_stand places old new [] rows less stood = tt
 all_stand places old new (other ∷ met) rows less stood =
-    (still_stands places old new other rows (not_same places old other (same_row old other) refl less.0) stood.0, all_stand places old new met rows less.1 stood.1)
+    (still_stands places old new other rows (other_row places old other (same_row old other) refl less.0) stood.0, all_stand places old new met rows less.1 stood.1)
 
 update_fits : (schema : Schema) → (old new : Row) (rows : List Row) → IsTable schema rows → stands old rows ≡ true → IsRow schema.columns new → clashes_besides schema new old rows ≡ false → Fits schema rows (changes.Update old new)
 update_fits schema old new rows is stood fits none =

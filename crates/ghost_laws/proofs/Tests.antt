@@ -17,7 +17,7 @@ use Rattle.alter_image.specs.declared.map.Origin.TheVariants.{Old, Added}
 use Rattle.alter_image.specs.Images.{source}
 use Rattle.row_store.proofs.Orders.{Row, is_Equal}
 use Rattle.ghost_laws.proofs.Texts.{given}
-use Rattle.ghost_rows.specs.Timelines.{changes_key, kept_keys, old_place, old_places}
+use Rattle.ghost_laws.specs.GhostRows.Timelines.{changes_key, kept_keys, old_place, old_places}
 use Rattle.statement_laws.proofs.Standing.{both_ways}
 
 -- the values given for the columns at these places

@@ -36,10 +36,10 @@ use Rattle.ghost_laws.specs.Tool.{AfterRemoval, AfterStatement, ApplyStands, App
 use Rattle.ghost_laws.specs.Tool.AfterRemoval.{gone_half, gone_whole}
 use Rattle.ghost_laws.specs.Tool.ApplyState.{Half, Idle, Whole}
 use Rattle.ghost_laws.specs.Tool.CopyState.{Taking, Waiting}
-use Rattle.ghost_relation.specs.Views.{Progress}
-use Rattle.ghost_rows.specs.Moments.{Row, rows_after_all, rows_at}
-use Rattle.ghost_rows.specs.Timelines.{IsPlanned, Migration}
-use Rattle.ghost_rows.specs.Views.{chunk_view, GhostRows, ghost_row, is_among, view_of}
+use Rattle.ghost_laws.specs.GhostRelation.Views.{Progress}
+use Rattle.ghost_laws.specs.GhostRows.Moments.{Row, rows_after_all, rows_at}
+use Rattle.ghost_laws.specs.GhostRows.Timelines.{IsPlanned, Migration}
+use Rattle.ghost_laws.specs.GhostRows.Views.{chunk_view, GhostRows, ghost_row, is_among, view_of}
 use Rattle.history_laws.specs.Scenes.{Besides, SessionHold, Stored, no_hold}
 use Rattle.plain_server.specs.Answers.{refuses}
 use Rattle.plain_server.specs.Chunks.{keys_of}

@@ -39,8 +39,8 @@ use Rattle.history_laws.proofs.Held.{hold_in, holding_face, rests_face, locking_
 use Rattle.history_laws.proofs.Journals.{state_more, journal_holds, found_live, stored_opened}
 use Rattle.history_laws.proofs.Tooling.{copies_sound, names_two}
 use Rattle.history_laws.proofs.Words.{names_left, names_last}
-use Rattle.server_laws.proofs.Agreements.{along_front, others_agree_law}
-use Rattle.server_laws.proofs.Others.{at_wait, entry_faces}
+use Rattle.history_laws.proofs.ServerLaws.Agreements.{along_front, others_agree_law}
+use Rattle.history_laws.proofs.ServerLaws.Others.{at_wait, entry_faces}
 use Rattle.ghost_laws.specs.Fitting.{IsFitting}
 use Rattle.ghost_laws.specs.Laws.{WritesFit}
 use Rattle.ghost_laws.proofs.Fitting.{fitting_begin, fitting_others, fitting_task, fitting_end, orderly_events}

@@ -25,7 +25,7 @@ use Rattle.history_laws.proofs.Faces.{faces_opened, opened_live}
 use Rattle.history_laws.proofs.Journals.{state_more, found_live, no_command, stored_opened}
 use Rattle.history_laws.proofs.Tooling.{final}
 use Rattle.history_laws.proofs.Waiting.{IsDone, done_answers}
-use Rattle.server_laws.proofs.Others.{at_wait}
+use Rattle.history_laws.proofs.ServerLaws.Others.{at_wait}
 use Rattle.ghost_laws.specs.Laws.{CutsAreLeft, DeedsAnswer, UndoneIsLeft}
 use Rattle.ghost_laws.specs.Leaving.{deed_answer, told_done, undone_hold, unless_lost, was_done, where_done}
 use Rattle.ghost_laws.proofs.Leaving.{There, changed_so, hold_found, holds_of, resting_hold, rests_so, same_so, stored_final}

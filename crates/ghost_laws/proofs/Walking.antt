@@ -9,11 +9,11 @@ use Rattle.ghost_laws.proofs.Joining.{table_stands}
 use Rattle.ghost_laws.proofs.Saying.{step_keeps}
 use Rattle.ghost_laws.specs.Doings.{changes_in, own_change, NextDue, OthersOnly, planned}
 use Rattle.ghost_laws.specs.Invariant.{GhostInvariant}
-use Rattle.ghost_relation.specs.Views.{Progress}
-use Rattle.ghost_rows.proofs.TimelineLaws.{step}
-use Rattle.ghost_rows.specs.Moments.{Row}
-use Rattle.ghost_rows.specs.Timelines.{EventAt, IsDue, IsPlanned, Migration, kept}
-use Rattle.ghost_rows.specs.Views.{GhostRows}
+use Rattle.ghost_laws.specs.GhostRelation.Views.{Progress}
+use Rattle.ghost_laws.proofs.GhostRows.TimelineLaws.{step}
+use Rattle.ghost_laws.specs.GhostRows.Moments.{Row}
+use Rattle.ghost_laws.specs.GhostRows.Timelines.{EventAt, IsDue, IsPlanned, Migration, kept}
+use Rattle.ghost_laws.specs.GhostRows.Views.{GhostRows}
 use Rattle.history_laws.specs.Scenes.{SessionHold, Stored}
 
 -- one place more

@@ -12,8 +12,8 @@ use Rattle.plain_server.specs.Chunks.{keys_of, last_of}
 use Rattle.history_laws.specs.Scenes.{Scene, no_hold}
 use Rattle.history_laws.specs.Holdings.{face_of, stored}
 use Rattle.history_laws.specs.Turns.{scene_state}
-use Rattle.ghost_rows.specs.Moments.{Row, rows_at, LogFits}
-use Rattle.ghost_rows.specs.Timelines.{Migration}
+use Rattle.ghost_laws.specs.GhostRows.Moments.{Row, rows_at, LogFits}
+use Rattle.ghost_laws.specs.GhostRows.Timelines.{Migration}
 use Rattle.ghost_laws.specs.Holding.{Clustered}
 use Rattle.ghost_laws.specs.Running.{ToolMoment, ToolTurn}
 use Rattle.ghost_laws.specs.Running.ApplyPlan.{Resting}

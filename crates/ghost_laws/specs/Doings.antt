@@ -7,8 +7,8 @@ use Rattle.event_codec.specs.declared.event.Change.{Change}
 use Rattle.event_codec.specs.declared.event.Change.TheVariants.{Write, Update, Delete}
 use Rattle.event_applier.specs.Appliers.{Doing}
 use Rattle.event_applier.specs.Appliers.Doing.{Putting, Removing, Changing}
-use Rattle.ghost_rows.specs.Moments.{Row}
-use Rattle.ghost_rows.specs.Timelines.{Migration, changes_key, kept}
+use Rattle.ghost_laws.specs.GhostRows.Moments.{Row}
+use Rattle.ghost_laws.specs.GhostRows.Timelines.{Migration, changes_key, kept}
 
 -- the event's change, where it is of the table of this name
 abbrev pub own_change : List ℕ → Option RowEvent → List Change

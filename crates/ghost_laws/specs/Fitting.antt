@@ -3,7 +3,7 @@ use Rattle.std.specs.Prelude.{ℕ, List, [], ◌∷◌}
 use Rattle.event_codec.specs.declared.event.RowEvent.{RowEvent}
 use Rattle.row_locks.specs.declared.lock.Lock.{Lock}
 use Rattle.row_store.specs.Databases.{Database, find_table, with_change}
-use Rattle.ghost_rows.specs.Moments.{Fits}
+use Rattle.ghost_laws.specs.GhostRows.Moments.{Fits}
 use Rattle.plain_server.specs.Jobs.{change_table}
 use Rattle.statement_laws.specs.Agreeing.{Agree}
 use Rattle.statement_laws.specs.Databases.{IsOrderly, WhereFound}

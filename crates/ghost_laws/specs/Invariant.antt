@@ -7,10 +7,10 @@ use Rattle.event_codec.specs.declared.event.RowEvent.{RowEvent}
 use Rattle.row_store.specs.Databases.{find_table}
 use Rattle.ghost_laws.specs.Fitting.{EventsFit}
 use Rattle.ghost_laws.specs.Joined.{IsJoined}
-use Rattle.ghost_relation.specs.Views.{Progress}
-use Rattle.ghost_rows.specs.Moments.{Row, rows_at}
-use Rattle.ghost_rows.specs.Timelines.{Migration}
-use Rattle.ghost_rows.specs.Views.{GhostRows}
+use Rattle.ghost_laws.specs.GhostRelation.Views.{Progress}
+use Rattle.ghost_laws.specs.GhostRows.Moments.{Row, rows_at}
+use Rattle.ghost_laws.specs.GhostRows.Timelines.{Migration}
+use Rattle.ghost_laws.specs.GhostRows.Views.{GhostRows}
 use Rattle.history_laws.specs.Scenes.{SessionHold, Stored}
 use Rattle.plain_server.specs.Jobs.{events_of}
 use Rattle.statement_laws.specs.Covering.{Apart}

@@ -3,11 +3,11 @@ use Rattle.std.specs.Prelude.{◌≡◌, Bool, true, List}
 use Rattle.event_codec.specs.declared.event.RowEvent.{RowEvent}
 use Rattle.row_locks.specs.declared.lock.Lock.{Lock}
 use Rattle.ghost_laws.specs.Holding.{is_locked}
-use Rattle.ghost_relation.specs.Views.{Progress}
-use Rattle.ghost_rows.specs.Moments.{Row}
-use Rattle.ghost_rows.specs.Timelines.{Migration}
-use Rattle.ghost_rows.specs.UnderWay.{IsUnderWay}
-use Rattle.ghost_rows.specs.Views.{GhostRows, is_among}
+use Rattle.ghost_laws.specs.GhostRelation.Views.{Progress}
+use Rattle.ghost_laws.specs.GhostRows.Moments.{Row}
+use Rattle.ghost_laws.specs.GhostRows.Timelines.{Migration}
+use Rattle.ghost_laws.specs.GhostRows.UnderWay.{IsUnderWay}
+use Rattle.ghost_laws.specs.GhostRows.Views.{GhostRows, is_among}
 use Rattle.statement_laws.specs.Covering.{Apart, Covered}
 
 -- *Granted*: the applier holds the first locks, the copier the others, and none of them conflicts. The applier's keys are

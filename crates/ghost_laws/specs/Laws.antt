@@ -43,11 +43,11 @@ use Rattle.plain_server.specs.declared.request.Request.{Request}
 use Rattle.plain_server.specs.Deeds.{deed}
 use Rattle.plain_server.specs.Entries.{is_cut}
 use Rattle.ghost_laws.specs.Leaving.{DeedLeaves, deed_answer, is_lost, told_done, undone_hold, was_done, where_done}
-use Rattle.ghost_relation.specs.Views.{Progress}
-use Rattle.ghost_rows.specs.Moments.{Row, rows_after, rows_at, Fits, LogFits}
-use Rattle.ghost_rows.specs.Timelines.{Migration, IsPlanned}
-use Rattle.ghost_rows.specs.Views.{GhostRows, view_of, chunk_view, ghost_row, is_among}
-use Rattle.ghost_rows.specs.Disjoint.{AreDisjoint}
+use Rattle.ghost_laws.specs.GhostRelation.Views.{Progress}
+use Rattle.ghost_laws.specs.GhostRows.Moments.{Row, rows_after, rows_at, Fits, LogFits}
+use Rattle.ghost_laws.specs.GhostRows.Timelines.{Migration, IsPlanned}
+use Rattle.ghost_laws.specs.GhostRows.Views.{GhostRows, view_of, chunk_view, ghost_row, is_among}
+use Rattle.ghost_laws.specs.GhostRows.Disjoint.{AreDisjoint}
 use Rattle.ghost_laws.specs.Holding.{Clustered, is_locked}
 use Rattle.ghost_laws.specs.Fitting.{EventsFit}
 use Rattle.ghost_laws.specs.Invariant.{IsServed, NotOf}

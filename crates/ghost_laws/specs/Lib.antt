@@ -11,3 +11,5 @@ pub mod Running
 pub mod Copies
 pub mod Leaving
 pub mod Laws
+pub mod GhostRelation
+pub mod GhostRows

@@ -19,10 +19,10 @@ use Rattle.statement_laws.specs.Agreeing.{Within}
 use Rattle.statement_laws.specs.Covering.{Apart}
 use Rattle.statement_laws.specs.Databases.{TaskSound}
 use Rattle.history_laws.specs.Scenes.{Stored, SessionHold, no_hold, Besides}
-use Rattle.ghost_relation.specs.Views.{Progress}
-use Rattle.ghost_rows.specs.Moments.{Row, rows_at}
-use Rattle.ghost_rows.specs.Timelines.{Migration}
-use Rattle.ghost_rows.specs.Views.{GhostRows}
+use Rattle.ghost_laws.specs.GhostRelation.Views.{Progress}
+use Rattle.ghost_laws.specs.GhostRows.Moments.{Row, rows_at}
+use Rattle.ghost_laws.specs.GhostRows.Timelines.{Migration}
+use Rattle.ghost_laws.specs.GhostRows.Views.{GhostRows}
 use Rattle.ghost_laws.specs.Holding.{Clustered}
 use Rattle.ghost_laws.specs.Invariant.{IsServed, NotOf}
 use Rattle.ghost_laws.specs.Given.{IsGiven}

@@ -16,10 +16,10 @@ use Rattle.event_applier.specs.Appliers.Doing.{Putting}
 use Rattle.ghost_laws.specs.Doings.{IsHalf, IsWhole}
 use Rattle.ghost_laws.specs.Holding.{Clustered, is_locked}
 use Rattle.ghost_laws.specs.Invariant.{GhostInvariant}
-use Rattle.ghost_relation.specs.Views.{Progress}
-use Rattle.ghost_rows.specs.Moments.{Row, rows_after_all, rows_at}
-use Rattle.ghost_rows.specs.Timelines.{Migration}
-use Rattle.ghost_rows.specs.Views.{is_key, GhostRows, is_done, is_done_in}
+use Rattle.ghost_laws.specs.GhostRelation.Views.{Progress}
+use Rattle.ghost_laws.specs.GhostRows.Moments.{Row, rows_after_all, rows_at}
+use Rattle.ghost_laws.specs.GhostRows.Timelines.{Migration}
+use Rattle.ghost_laws.specs.GhostRows.Views.{is_key, GhostRows, is_done, is_done_in}
 use Rattle.history_laws.specs.Scenes.{SessionHold, Stored, no_hold}
 use Rattle.plain_server.specs.Chunks.{keys_of}
 use Rattle.plain_server.specs.Needing.{lock_on}

@@ -130,9 +130,6 @@ above_less false most session n is = omega arith
 above_own : (most session n : ℕ) → named_more_if false most session < n → (session == n) ≡ false
 above_own most session n is = grind (arith, nat_tests)
 
-same_if : (a b : ℕ) → a ≡ b → (a == b) ≡ true
-same_if a b is = grind (arith, nat_tests)
-
 less_differs : (most session n : ℕ) → n ≤ most → most < session → (session == n) ≡ false
 less_differs most session n is more = grind (arith, nat_tests)
 

@@ -15,7 +15,7 @@ use Rattle.statement_laws.specs.Covering.{Apart}
 use Rattle.history_laws.specs.Scenes.{Besides}
 use Rattle.history_laws.specs.Holdings.{no_face, face_in, face_of}
 use Rattle.std.specs.Prelude.{is_some}
-use Rattle.plain_server.specs.States.{connected, State, locks_held, new_session, session_of, with_session}
+use Rattle.plain_server.specs.States.{connected, State, locks_held, new_session, session_of, with_session, writes_of, is_in_transaction}
 use Rattle.journal_words.specs.Journals.{opens_if}
 use Rattle.statement_laws.proofs.Tests.{same_number, are_one}
 
@@ -67,7 +67,7 @@ pub faces_without : (number : ℕ) (sessions : List Session) → Besides number 
 faces_without number sessions = record { there = λ n differ. ap face_in (gone_there number n sessions differ); here = ap face_in (gone_here number sessions) }
 
 -- a session that connects
-joined : (tool : Bool) (number other : ℕ) (sessions : List Session) → face_of (sessions ++ new_session number tool ∷ []) other ≡ face_of sessions other
+pub joined : (tool : Bool) (number other : ℕ) (sessions : List Session) → face_of (sessions ++ new_session number tool ∷ []) other ≡ face_of sessions other
 joined tool number other [] = at (number == other) where
   at : (b : Bool) → face_in (cond b (Some (new_session number tool)) None) ≡ no_face
   at true = refl
@@ -136,3 +136,12 @@ set_none held number (x ∷ set) lock is (inr one) = let both = none_of (refuser
 -- locks that are granted are apart from what others hold
 pub granted_apart : (sessions : List Session) (number : ℕ) (set : List Lock) → refuser_of_set (locks_held sessions) number set ≡ None → (n : ℕ) → (n == number) ≡ false → Apart set (face_of sessions n).hold.locks
 granted_apart sessions number set is n differ lock other one two = conflict_both_ways lock other ∙ lock_apart sessions number n lock other (set_none (locks_held sessions) number set lock is one) differ two
+
+-- what a session has, by its face
+pub writes_face : (found : Option Session) → writes_of found ≡ (face_in found).hold.writes
+writes_face None = refl
+writes_face (Some session) = refl
+
+pub busy_face : (found : Option Session) → is_in_transaction found ≡ (face_in found).busy
+busy_face None = refl
+busy_face (Some session) = refl

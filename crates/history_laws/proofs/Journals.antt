@@ -184,9 +184,6 @@ fate_by own scene side state number asked = fate_if own scene state number asked
 abbrev pub TurnsSo : Bool → Scene → Option Side → State → ℕ → Asked → (ℕ → Going) → List PlainItem → Type 0
 TurnsSo own scene side state number asked going past = Turned scene (stored (leaves side state number asked)) (face_of (leaves side state number asked).sessions) number (fate_by own scene side state number asked) going past
 
-waits_word : (scene : Scene) (waiting : Option Waiting) → AsksWord scene (request_of waiting) → AsksWord scene (request_of waiting)
-waits_word scene waiting asks = asks
-
 client_polled : (scene : Scene) (state : State) (number : ℕ) (going : ℕ → Going) (past : List PlainItem) (work : AtWork scene state number going past) → OneIn state.sessions → (waiting : Option Waiting) → AsksWord scene (request_of waiting)
     → Turned scene (stored (polled_of waiting state number).after) (face_of (polled_of waiting state number).after.sessions) number (word_asked (is_busy number state) (request_of waiting) (polled_of waiting state number).answer) going past
 client_polled scene state number going past work one None asks = turned_still scene (stored state) (face_of state.sessions) (face_of state.sessions) number going past (λ n. refl) work.holds

@@ -4,6 +4,7 @@ use Rattle.std.proofs.lemmas.Bool.{false≢true, true≢false}
 use Rattle.std.specs.List.{AllByRecursion, list_any}
 use Rattle.std.specs.Option.{option_to_list}
 use Rattle.std.specs.Str.{bytes_eq}
+use Rattle.std.proofs.lemmas.Cmp.{nat_list_eq_equiv}
 use Rattle.event_codec.specs.declared.event.RowEvent.{RowEvent}
 use Rattle.event_codec.specs.declared.event.Change.{Change}
 use Rattle.row_store.specs.Databases.{TableRows, Database, find_table, is_named, with_change}
@@ -71,12 +72,6 @@ left_alike scene a b alike = left_same scene.mine scene.mine a b (λ name is. is
 pub left_found : (scene : Scene) (tables : Database) → FoundAlike scene.mine tables (tables_left scene.mine tables)
 left_found scene tables = record { each = λ name is. sym (found_left scene.mine name tables ∙ ap (λ (b : Bool). where_among b (find_table name tables)) is) }
 
-turned_test : (a b : List ℕ) → bytes_eq a b ≡ bytes_eq b a
-turned_test a b = at (bytes_eq a b) refl where
-  at : (t : Bool) → bytes_eq a b ≡ t → t ≡ bytes_eq b a
-  at true same = sym (ap (bytes_eq b) (are_same a b same) ∙ same_bytes b)
-  at false off = sym (turned_bytes a b off)
-
 -- a change of a table, before and after the others are left out
 change_left : (names : List (List ℕ)) (event : List ℕ) (change : Change) (tables : Database) → tables_left names (with_change event (change_table change) tables) ≡ with_change event (change_table change) (tables_left names tables)
 unfolding tables_left
@@ -96,7 +91,7 @@ change_left (first ∷ names) event change tables =
       by table false true is = absurd (false≢true is)
 
       both : (table : TableRows) → find_table first tables ≡ Some table → bytes_eq event first ≡ is_named event table
-      both table is = turned_test event first ∙ ap (λ (n : List ℕ). bytes_eq n event) (sym (are_same table.schema.name first (found_named first tables table is)))
+      both table is = nat_list_eq_equiv.symm event first ∙ ap (λ (n : List ℕ). bytes_eq n event) (sym (are_same table.schema.name first (found_named first tables table is)))
 
       at : (found : Option TableRows) → find_table first tables ≡ found → option_to_list (change_if (bytes_eq event first) change found) ++ with_change event (change_table change) (tables_left names tables) ≡ with_change event (change_table change) (option_to_list found ++ tables_left names tables)
       at None is = ap (λ (o : Option TableRows). option_to_list o ++ with_change event (change_table change) (tables_left names tables)) (none (bytes_eq event first))

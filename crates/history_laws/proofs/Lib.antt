@@ -25,3 +25,5 @@ pub mod Hearing
 pub mod Linking
 pub mod Naming
 pub mod PlanJournals
+pub mod LawfulTables
+pub mod ServerLaws

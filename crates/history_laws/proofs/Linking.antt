@@ -13,7 +13,6 @@ use Rattle.script_text.specs.declared.script.ScriptLine.{ScriptLine}
 use Rattle.script_text.specs.declared.script.ScriptWord.{ScriptWord}
 use Rattle.script_text.specs.declared.script.ScriptWord.TheVariants as words
 use Rattle.std.proofs.lemmas.List.{map-append}
-use Rattle.std.proofs.Common.{◌⊎◌, inl, inr}
 use Rattle.row_store.specs.Databases.{Database}
 use Rattle.plain_server.specs.Along.{gathered-more}
 use Rattle.plain_server.specs.declared.answer.Answer.{Answer}
@@ -471,12 +470,6 @@ module _ (plan : PlanData) (whole journal : List Entry) (entry : Entry) (going :
   }
 
   -- WHAT THE TURN MAY ASK
-
-  scene_kind : is_client_session whole entry.session ≡ is_client entry.actor ⊎ (is_command entry.asked ≡ true)
-  scene_kind = by (is_command entry.asked) refl where
-    by : (b : Bool) → is_command entry.asked ≡ b → (is_client_session whole entry.session ≡ is_client entry.actor) ⊎ (is_command entry.asked ≡ true)
-    by false call = inl (known.kind call)
-    by true command = inr command
 
   open_busy : is_busy entry.session open_now ≡ is_in_transaction (session_of entry.session now.sessions)
   open_busy = face_busy entry.session open_now ∙ ap (λ (f : Face). f.busy) (faces_opened (is_command entry.asked) (not (is_client entry.actor)) entry.session entry.session now) ∙ sym (face_busy entry.session now)

@@ -1,5 +1,5 @@
 -- CREATE, DROP and RENAME: the other names' tables stay, and orderly tables stay orderly.
-use Rattle.std.proofs.Common.{◌≡◌, ℕ, Bool, true, false, not, ◌||◌, List, [], ◌∷◌, ◌++◌, cond, Option, Some, None, Ok, Err, refl, sym, ap, ◌∙◌, subst}
+use Rattle.std.proofs.Common.{◌≡◌, ℕ, Bool, true, false, not, ◌||◌, List, [], ◌∷◌, ◌++◌, cond, Option, Some, None, Ok, Err, refl, sym, ap, ◌∙◌, subst, Result}
 use Rattle.std.proofs.lemmas.Bool.{true≢false}
 use Rattle.std.specs.List.{list_any}
 use Rattle.std.specs.Str.{bytes_eq}
@@ -8,9 +8,11 @@ use Rattle.gho_schema.specs.declared.schema.Schema.{Schema}
 use Rattle.row_store.specs.Databases.{TableRows, Database, find_table, has_table, is_named, without_table, with_name, name_table, rename_tables}
 use Rattle.row_store.specs.declared.renaming.Pair.{Pair}
 use Rattle.row_store.specs.declared.renaming.NotRenamed.TheVariants as reasons
+use Rattle.row_store.specs.declared.renaming.NotRenamed.{NotRenamed}
 use Rattle.statement_laws.specs.Covering.{IsOrderlyTable}
 use Rattle.statement_laws.specs.Databases.{WhereFound, IsOrderly}
 use Rattle.plain_server.specs.States.{pair_names}
+use Rattle.plain_server.specs.Deeds.{renamed_or}
 use Rattle.statement_laws.proofs.Tests.{same_bytes, are_same, turned_bytes, nor_left, nor_right}
 
 -- whole tables of these names changed
@@ -50,7 +52,7 @@ gone_other name other (table ∷ tables) off = at (is_named name table) refl (go
   at true same rest = rw (named_other table.schema.name name other same off) rest
   at false same rest = ap (λ (o : Option TableRows). cond (is_named other table) (Some table) o) rest
 
-gone_none : (name : List ℕ) (tables : Database) → find_table name (without_table name tables) ≡ None
+pub gone_none : (name : List ℕ) (tables : Database) → find_table name (without_table name tables) ≡ None
 gone_none name [] = refl
 gone_none name (table ∷ tables) = at (is_named name table) refl (gone_none name tables) where
   at : (b : Bool) → is_named name table ≡ b → find_table name (without_table name tables) ≡ None → find_table name (cond (not b) (table ∷ without_table name tables) (without_table name tables)) ≡ None
@@ -81,7 +83,7 @@ renamed_new old new (table ∷ tables) none = at (is_named old table) (renamed_n
   at true rest = rw (same_bytes new) refl
   at false rest = rw (nor_left (is_named new table) (has_table new tables) none) rest
 
-renamed_old : (old new : List ℕ) (tables : Database) → bytes_eq new old ≡ false → find_table old (with_name old new tables) ≡ None
+pub renamed_old : (old new : List ℕ) (tables : Database) → bytes_eq new old ≡ false → find_table old (with_name old new tables) ≡ None
 renamed_old old new [] off = refl
 renamed_old old new (table ∷ tables) off = at (is_named old table) refl (renamed_old old new tables off) where
   at : (b : Bool) → is_named old table ≡ b → find_table old (with_name old new tables) ≡ None → find_table old (cond b (name_table new table) table ∷ with_name old new tables) ≡ None
@@ -125,3 +127,18 @@ rename_moves (pair ∷ pairs) tables after is = at (has_table pair.new tables) (
             moved.others name (nor_right (bytes_eq name pair.new) (list_any (bytes_eq name) (pair_names pairs)) more) ∙ renamed_other pair.old pair.new name tables one two;
         orderly = λ all. moved.orderly (renamed_orderly pair.old pair.new tables none all);
       }
+
+pub found_has : (name : List ℕ) (tables : Database) → find_table name tables ≡ None → has_table name tables ≡ false
+found_has name [] none = refl
+found_has name (table ∷ tables) none = by (is_named name table) none (found_has name tables) where
+  by : (b : Bool) → cond b (Some table) (find_table name tables) ≡ None → (find_table name tables ≡ None → has_table name tables ≡ false) → (b || has_table name tables) ≡ false
+  by true none rest = absurd cc
+  by false none rest = rest none
+
+pub none_found : (name : List ℕ) (tables : Database) → has_table name tables ≡ false → find_table name tables ≡ None
+none_found name [] none = refl
+none_found name (table ∷ tables) none = rw (nor_left (is_named name table) (has_table name tables) none) (none_found name tables (nor_right (is_named name table) (has_table name tables) none))
+
+pub renamed_ok : (result : Result Database NotRenamed) (tables : Database) → renamed_or result ≡ Ok tables → result ≡ Ok tables
+renamed_ok (Ok renamed) tables is = let same : renamed ≡ tables = cc in ap Ok same
+renamed_ok (Err reason) tables is = absurd cc

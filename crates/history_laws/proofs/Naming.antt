@@ -138,13 +138,6 @@ migrated_no_tool table = rw (apart (codes "_gho") refl, apart (codes "_ghc") ref
 
 -- WHAT NEVER STANDS
 
-all_found : (P : List ℕ → Type 0) (names : List (List ℕ)) (name : List ℕ) → AllByRecursion P names → list_any (bytes_eq name) names ≡ true → P name
-all_found P [] name all is = absurd (false≢true is)
-all_found P (first ∷ names) name all is = at (bytes_eq name first) refl is (all_found P names name all.1) where
-  at : (b : Bool) → bytes_eq name first ≡ b → (b || list_any (bytes_eq name) names) ≡ true → (list_any (bytes_eq name) names ≡ true → P name) → P name
-  at true same is rest = subst P (sym (are_same name first same)) all.0
-  at false differ is rest = rest is
-
 -- a table that stands, and is no leftover, is a client table
 stands_named : (table : List ℕ) (tables : Database) (name : List ℕ) → is_tool_name table name ≡ false → list_any (bytes_eq name) (map (λ t. t.schema.name) (filter (λ t. not (is_tool_name table t.schema.name)) tables)) ≡ false → find_table name tables ≡ None
 stands_named table [] name no_tool off = refl

@@ -76,10 +76,6 @@ marked_items : (number : ℕ) (client : Reached) (line : ScriptLine) (mark : Mar
 marked_items number client line mark reply None = refl
 marked_items number client line mark reply (Some ended) = refl
 
--- the client, by its script that is left
-abbrev pub with_left : Reached → List ScriptLine → Reached
-with_left client left = record client { left = left }
-
 marked_alike : (number : ℕ) (client : Reached) (line : ScriptLine) (lines : List ScriptLine) → client.left ≡ line ∷ lines → (mark : Mark) (reply : Option Reply)
     → Alike number client (Marked mark reply) (fate_so (ends_with (is_inside client.lines) line.word mark) line.word mark (option_to_list reply)) None
 marked_alike number client line lines left mark reply = record {
@@ -184,15 +180,6 @@ pub data HeardSo (side : Option Side) (asked : Asked) (answer : Answer) (missed 
   Heard : side ≡ None → IsLineAnswer answer → HeardSo side asked answer missed
   CutOff : side ≡ None → asked ≡ Cut → HeardSo side asked answer missed
   LostAt : (lost : Side) → (asked ≡ Cut → ⊥) → side ≡ Some lost → answer ≡ answers.Lost → Missed lost missed → HeardSo side asked answer missed
-
-never_lost : (asked : Asked) (old : Option Request) → waits_behind asked answers.Lost old ≡ None
-never_lost (Call request) old = refl
-never_lost Poll old = refl
-never_lost (Command word) old = refl
-never_lost Cut old = refl
-
-cut_behind : (answer : Answer) (old : Option Request) → waits_behind Cut answer old ≡ None
-cut_behind answer old = refl
 
 pub not_waiting : (client : Reached) (old : Option Request) (P : Type 0) → LineWaits client old → client.waits ≡ true → ((line : ScriptLine) (lines : List ScriptLine) → client.left ≡ line ∷ lines → old ≡ Some (word_asks line.word) → P) → P
 not_waiting client old P (Free free none) held f = absurd (true≢false (sym held ∙ free))

@@ -62,9 +62,6 @@ granted state number need one is =
 
 -- EXCLUSIVE NAMES AFTER A DEED
 
-none_free : (state : State) (number : ℕ) → Free (names_held state.sessions) number []
-none_free state number new other p q differ may = absurd p
-
 defined_one : (tables : Result Database ℕ) (state : State) (number : ℕ) → OneIn state.sessions → OneIn (does (defined tables) state number).after.sessions
 defined_one (Ok tables) state number one = one
 defined_one (Err refusal) state number one = one

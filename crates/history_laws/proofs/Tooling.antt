@@ -96,10 +96,6 @@ copied_sound None (Some table) is = tt
 copied_sound (Some (Err at)) (Some table) is = tt
 copied_sound (Some (Ok values)) (Some table) is = refused_or table.schema.columns (IsRow table.schema.columns) (new_row table.schema None values) Copy (new_is table.schema None values is.defaults) (λ row fits. fits)
 
-refused_sound : (found : Option TableRows) → WhereFound (λ (table : TableRows). Unit {0}) found
-refused_sound None = tt
-refused_sound (Some table) = tt
-
 copy_sound : (from : Option TableRows) (columns : List MapColumn) (key : List Value) (found : Option TableRows) → WhereFound IsOrderlyTable found → WhereFound (λ table. IsSound table.schema.columns (copy_from from columns key table.schema)) found
 copy_sound None columns key None is = tt
 copy_sound None columns key (Some table) is = tt
@@ -238,9 +234,6 @@ tool_do scene state number going past work statement seen same off apart busy lo
       (face_of (final lost number (cond b (goes_on number (need_of_word seen (words.Do statement)) (says seen statement).events state) (commits number (says seen statement).events state))).sessions) number Still going past
   at true = tool_goes_on scene state number going past work (need_of_word seen (words.Do statement)) (says seen statement).events lost apart fine
   at false = tool_commits scene state number going past work (need_of_word seen (words.Do statement)) (says seen statement).events lost apart fine
-
-no_locks_apart : (state : State) (number : ℕ) → AreApart state number []
-no_locks_apart state number n differ lock other one two = absurd one
 
 abbrev pub ToolWord : Scene → ScriptWord → Type 0
 ToolWord scene (words.Do statement) = is_mine scene (table_of statement) ≡ false

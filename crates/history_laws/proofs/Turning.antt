@@ -107,13 +107,6 @@ turned_breaks scene now old new number going past ended client holds faces never
       turn : (n : ℕ) → (n == number) ≡ false → (number == n) ≡ false
       turn n is = grind (arith, nat_tests)
 
--- the tool's turns: no line, and nothing happens
-still_same : (number : ℕ) (going : ℕ → Going) (n : ℕ) → goings_after number Still going n ≡ going n
-still_same number going n = at (n == number) where
-  at : (b : Bool) → cond b (going n) (going n) ≡ going n
-  at true = refl
-  at false = refl
-
 still_besides : (number : ℕ) (going : ℕ → Going) → Besides number going going (going number)
 still_besides number going = record { there = λ n differ. refl; here = refl }
 

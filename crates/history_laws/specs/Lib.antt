@@ -4,3 +4,4 @@ pub mod Turns
 pub mod Holdings
 pub mod Laws
 pub mod Plans
+pub mod ServerLaws

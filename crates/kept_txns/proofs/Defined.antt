@@ -19,8 +19,8 @@ use Rattle.history_laws.proofs.Moves.{create_moves, drop_moves, rename_moves}
 use Rattle.server_data.specs.Fitting.{NoneOf}
 use Rattle.txn_session.specs.Premises.{IsOf}
 use Rattle.txn_session.specs.Rooms.{puts_of, puts_in}
-use Rattle.txn_laws.specs.Laws.{HasEvents}
-use Rattle.txn_laws.proofs.Moved.{outlasts_creations, outlasts_drops, outlasts_renames}
+use Rattle.kept_txns.specs.TxnLaws.Laws.{HasEvents}
+use Rattle.kept_txns.proofs.TxnLaws.Moved.{outlasts_creations, outlasts_drops, outlasts_renames}
 use Rattle.open_txns.specs.declared.txns.OpenTxn.{OpenTxn}
 use Rattle.open_txns.specs.Open.{puts_open}
 use Rattle.kept_txns.specs.Kept.{IsKept}

@@ -9,8 +9,8 @@ use Rattle.server_data.specs.Fitting.{EventsFit}
 use Rattle.txn_session.specs.Premises.{IsOf}
 use Rattle.txn_session.specs.Rooms.{puts_in}
 use Rattle.txn_session.specs.Stored.{StoredTxn}
-use Rattle.txn_laws.specs.Laws.{HasEvents}
-use Rattle.txn_laws.proofs.Kept.{outlasts}
+use Rattle.kept_txns.specs.TxnLaws.Laws.{HasEvents}
+use Rattle.kept_txns.proofs.TxnLaws.Kept.{outlasts}
 use Rattle.open_txns.specs.declared.txns.OpenTxn.{OpenTxn}
 use Rattle.open_txns.specs.Open.{txn_of, others, written_of}
 use Rattle.open_txns.proofs.Changed.{others_each}

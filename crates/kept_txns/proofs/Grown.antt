@@ -20,8 +20,8 @@ use Rattle.txn_session.specs.Premises.{HasSchema, IsOf}
 use Rattle.txn_session.specs.Rooms.{puts_in}
 use Rattle.txn_session.specs.Shown.{find_writes}
 use Rattle.txn_session.specs.Stored.{StoredTxn, TableChanges, HasRoom, events_in, schemas, schemas_with}
-use Rattle.txn_laws.specs.Laws.{HasEvents}
-use Rattle.txn_laws.proofs.Kept.{begins, grows}
+use Rattle.kept_txns.specs.TxnLaws.Laws.{HasEvents}
+use Rattle.kept_txns.proofs.TxnLaws.Kept.{begins, grows}
 use Rattle.open_txns.specs.declared.txns.OpenTxn.{OpenTxn}
 use Rattle.open_txns.specs.Open.{txn_of, with_txn, written_of, puts_open, IsOpened, IsReserved, IsChanged, Takes}
 use Rattle.open_txns.proofs.Changed.{changed_each, changed_puts, changed_there, opened_each, opened_puts, opened_there}

@@ -3,3 +3,4 @@ pub mod Each
 pub mod Ended
 pub mod Grown
 pub mod Rooms
+pub mod TxnLaws

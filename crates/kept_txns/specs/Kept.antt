@@ -9,7 +9,7 @@ use Rattle.txn_session.specs.Rooms.{puts_in}
 use Rattle.txn_session.specs.Stored.{StoredTxn, TableChanges, events_in}
 use Rattle.open_txns.specs.declared.txns.OpenTxn.{OpenTxn}
 use Rattle.open_txns.specs.Open.{txn_of, written_of, puts_open, OneEach, Takes}
-use Rattle.txn_laws.specs.Laws.{HasEvents}
+use Rattle.kept_txns.specs.TxnLaws.Laws.{HasEvents}
 
 -- *Kept*: the committed tables are orderly, each session has at most one open transaction, each is one of the database and
 -- has an event of each table to which it wrote, and each table has room for what all open commits put.

@@ -17,9 +17,9 @@ use Rattle.event_applier.specs.declared.applier.Batch.{Batch}
 use Rattle.event_applier.specs.declared.applier.Part.{Part}
 use Rattle.event_applier.specs.declared.applier.Part.TheVariants.{Whole, Removal, Return}
 use Rattle.event_applier.specs.Appliers.{planned, batch_of, moved, read_batch, after_statements, after_part, took, nothing_planned, progress, progress_at}
+use Rattle.journal_words.proofs.Answers.{answer_more, answer_here}
 use Rattle.machine_laws.specs.Standings.{Standing, answered}
 use Rattle.machine_laws.specs.Machines.{Stands, applier_asks, applier_busy, IsBatch, BatchKnown, ApplierStands}
-use Rattle.copy_laws.proofs.Journals.{answer_more, answer_here}
 
 -- EARLIER ANSWERS STAY
 

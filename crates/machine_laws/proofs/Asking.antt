@@ -42,10 +42,10 @@ use Rattle.migration_program.specs.Programs.{waits}
 use Rattle.history_laws.specs.Holdings.{face_in, face_of, names_of}
 use Rattle.history_laws.specs.Turns.{request_of}
 use Rattle.history_laws.proofs.Waiting.{none_waits}
+use Rattle.history_laws.proofs.Faces.{busy_face}
 use Rattle.machine_laws.specs.Standings.{free, standing_in}
 use Rattle.machine_laws.specs.Machines.{waits_so, inspector_asks, copier_asks, applier_asks, BatchKnown, both_names, held, PhaseHolds, renaming}
 use Rattle.machine_laws.proofs.CuttingOver.{LockerAsks}
-use Rattle.copy_laws.proofs.Served.{busy_face}
 
 pub some_request : (P : Request → Type 0) (a b : Request) → Some a ≡ Some b → P a → P b
 some_request P a b same is = let one : a ≡ b = cc in subst P one is

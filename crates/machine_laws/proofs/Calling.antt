@@ -40,6 +40,7 @@ use Rattle.migration_program.specs.Programs.{in_transaction, tool_call, tool_ask
 use Rattle.migration_program.specs.Tools.{Work, Course, SettingUp, Migrating, Moment, is_reverting, moment}
 use Rattle.history_laws.specs.Turns.{request_of}
 use Rattle.history_laws.proofs.Journals.{opened_waits}
+use Rattle.history_laws.proofs.Faces.{busy_face}
 use Rattle.machine_laws.specs.Standings.{Standing, free, standing, standing_of, MayTake, opened_for}
 use Rattle.machine_laws.specs.Machines.{inspector_asks, copier_asks, copier_busy, applier_asks, applier_busy, ApplierStands, held, renaming, CourseStands}
 use Rattle.machine_laws.specs.Scripts.{WordFits, LinesFit}
@@ -50,7 +51,6 @@ use Rattle.machine_laws.proofs.Asking.{some_request, unlocked_holds, locked_hold
 use Rattle.machine_laws.proofs.Clients.{ClientStands, Next, calls_line, polls_line, client_next, line_comes}
 use Rattle.machine_laws.proofs.ClientJournals.{ClientsTogether, all_clients}
 use Rattle.machine_laws.proofs.Journals.{IsTogether, all_together, Asking, calls_so, polls_so, asking, apply_called}
-use Rattle.copy_laws.proofs.Served.{busy_face}
 
 -- *Answers tell standings*
 pub served_along : (plan : PlanData) (before journal : List Entry) → Along (λ some entry. IsAnswered (state_at plan some) entry) before journal → Along IsSeated before journal → Along (IsServed plan) before journal

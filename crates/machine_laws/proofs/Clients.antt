@@ -1,5 +1,5 @@
 -- How far a client is in its script, and what its session has on the server.
-use Rattle.std.proofs.Common.{◌≡◌, ℕ, zero, suc, ◌-◌, Bool, true, false, cond, List, [], ◌∷◌, ◌++◌, Option, Some, None, refl, sym, ap, ◌∙◌, subst}
+use Rattle.std.proofs.Common.{◌≡◌, ℕ, zero, suc, ◌-◌, Bool, true, false, cond, List, [], ◌∷◌, Option, Some, None, refl, sym, ap, ◌∙◌, subst}
 use Rattle.std.specs.Prelude.{◌==◌, unwrap_or}
 use Rattle.std.specs.List.{AllByRecursion, slice_get}
 use Rattle.std.proofs.lemmas.Bool.{true≢false}
@@ -19,10 +19,10 @@ use Rattle.plain_server.specs.declared.request.Request.{Request}
 use Rattle.plain_server.specs.declared.transaction.Mark.{Mark}
 use Rattle.plain_server.specs.declared.transaction.Mark.TheVariants as marks
 use Rattle.plain_server.specs.declared.transaction.Reply.{Reply}
-use Rattle.plain_server.specs.declared.transaction.TxnLine.{TxnLine}
 use Rattle.plain_server.specs.Conditions.{ComesWell}
 use Rattle.plan_words.specs.PlanData.{PlanData}
 use Rattle.journal_words.specs.Clients.{Reached, Waits, Marked, became_of, became_in, is_inside, ends_with, closes, behind_transaction, left_behind, kept_unless, with_line, marked, client_after, after_turn, script_of, client_at, new_client, client_asks, line_asks, word_asks}
+use Rattle.journal_words.proofs.Lines.{inside_more}
 use Rattle.machine_laws.specs.Standings.{Standing, free, answered, serves_to, IsAbout, is_called, is_polled}
 use Rattle.machine_laws.specs.Scripts.{WordFits, inside_behind, LinesFit, ScriptsFit}
 use Rattle.history_laws.proofs.Linking.{client_more}
@@ -36,10 +36,6 @@ pub record ClientStands (client : Reached) (standing : Standing) : Type 0 where
   pub left : client.is_lost ≡ false → LinesFit (is_inside client.lines) client.left
 
 -- A LINE THAT GOT A MARK
-
-inside_more : (lines : List TxnLine) (line : TxnLine) → is_inside (lines ++ line ∷ []) ≡ true
-inside_more [] line = refl
-inside_more (first ∷ lines) line = refl
 
 -- what is open behind a line that was answered
 inside_answered : (client : Reached) (word : ScriptWord) → is_inside (kept_unless (ends_with (is_inside client.lines) word marks.Answered) (with_line client word marks.Answered)) ≡ inside_behind (is_inside client.lines) word

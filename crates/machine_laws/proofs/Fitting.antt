@@ -29,7 +29,7 @@ use Rattle.plain_server.specs.Serving.{does, done, called_unless, calls, is_over
 use Rattle.history_laws.specs.Turns.{request_of}
 use Rattle.history_laws.proofs.Names.{as_held}
 use Rattle.history_laws.proofs.Replies.{IsReply, line_replies_so, copied_replies}
-use Rattle.server_laws.proofs.Others.{holds_parts}
+use Rattle.history_laws.proofs.ServerLaws.Others.{holds_parts}
 use Rattle.statement_laws.proofs.Tests.{same_bytes, are_same, or_true}
 use Rattle.machine_laws.specs.Standings.{needs_names, gives, is_refusable, serves_to}
 

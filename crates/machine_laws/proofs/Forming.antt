@@ -38,7 +38,7 @@ use Rattle.cutover_core.specs.Attempts as cutovers
 use Rattle.cutover_core.specs.Attempts.{exchange, clears, is_free, unlocks}
 use Rattle.migration_program.specs.Setups.{Setup, Listing, Clearing, MakingLog, MakingGhost, Marking, Reaching, Ready, setup_call}
 use Rattle.migration_program.specs.Tools.{Course, SettingUp, Migrating, stopped, moment}
-use Rattle.program_laws.proofs.Keeping.{Keeps, always}
+use Rattle.migration_program.proofs.ProgramLaws.Keeping.{Keeps, always}
 use Rattle.machine_laws.specs.Forming.{IsFitting}
 use Rattle.machine_laws.specs.Laws.{has_keys}
 use Rattle.machine_laws.specs.Machines.{copier_asks}
@@ -146,13 +146,13 @@ abbrev pub CourseBatched : PlanData → Course → Type 0
 CourseBatched plan (SettingUp setup tries) = Unit {0}
 CourseBatched plan (Migrating work) = work.applier.batch ≡ plan.options.dml_batch_size
 
-read_batch_same : (applier : Applier) (batch : Batch) → (appliers.read_batch applier batch).batch ≡ applier.batch
+pub read_batch_same : (applier : Applier) (batch : Batch) → (appliers.read_batch applier batch).batch ≡ applier.batch
 read_batch_same applier batch = by (batch.statements == 0) where
   by : (none : Bool) → (cond none (appliers.moved applier batch) (record applier { step = applying.Beginning batch })).batch ≡ applier.batch
   by true = refl
   by false = refl
 
-took_at : (turn : ℕ) (applier : Applier) (step : ApplyStep) (answer : Answer) → (appliers.after_answer turn applier step answer).batch ≡ applier.batch
+pub took_at : (turn : ℕ) (applier : Applier) (step : ApplyStep) (answer : Answer) → (appliers.after_answer turn applier step answer).batch ≡ applier.batch
 took_at turn applier applying.Reading (answers.Events events next) = read_batch_same applier (appliers.batch_of turn applier events next)
 took_at turn applier (applying.Beginning batch) (answers.Ok count) = refl
 took_at turn applier (applying.Applying batch done part) (answers.Ok count) = refl
@@ -160,7 +160,7 @@ took_at turn applier (applying.Applying batch done part) (answers.Refused number
 took_at turn applier (applying.Committing batch) (answers.Ok count) = refl
 took_at turn applier step answer = refl
 
-took_batch : (turn : ℕ) (applier : Applier) (answer : Answer) → (appliers.took turn applier answer).batch ≡ applier.batch
+pub took_batch : (turn : ℕ) (applier : Applier) (answer : Answer) → (appliers.took turn applier answer).batch ≡ applier.batch
 unfolding appliers.took
 took_batch turn applier answers.Lost = refl
 took_batch turn applier (answers.TimedOut waited) = refl

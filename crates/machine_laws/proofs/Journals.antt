@@ -32,7 +32,7 @@ use Rattle.cutover_core.specs.Attempts as cutovers
 use Rattle.cutover_core.specs.Attempts.{exchange}
 use Rattle.cutover_core.specs.CutOvers.{is_resting, is_done}
 use Rattle.migration_program.specs.Operators.{is_throttled}
-use Rattle.migration_program.specs.Programs.{waits, calls, commands, tool_call, tool_asks, copy_call, apply_call, may_read, may_begin, rolls_back, given, IsFollowed, IsGiven, Follows}
+use Rattle.migration_program.specs.Programs.{waits, calls, tool_call, tool_asks, copy_call, apply_call, may_read, may_begin, rolls_back, given, IsFollowed, IsGiven, Follows}
 use Rattle.migration_program.specs.Tools.{Work, Course, SettingUp, Migrating, Tool, Moment, is_reverting, actor_took, asked_took, took, after_turn, moment}
 use Rattle.statement_laws.proofs.Tests.{same_bytes, or_true}
 use Rattle.machine_laws.specs.Standings.{Standing, free, standing_in, standing_of, answered, answers_to, IsAbout, is_called, is_polled}
@@ -95,10 +95,6 @@ client_commands plan journal client word is = by (client_at plan journal client)
   by false waits [] is = cc
   by false true (line ∷ lines) is = cc
   by false false (line ∷ lines) is = cc
-
-operator_asks : (word : Option OperatorWord) (asked : Asked) → commands word ≡ Some asked → (asked ≡ Poll → ⊥) × ((request : Request) → asked ≡ Call request → ⊥)
-operator_asks None asked is = absurd cc
-operator_asks (Some word) asked is = ((λ same. cc), (λ request same. cc))
 
 pub apply_called : (plan : PlanData) (journal : List Entry) (work : Work) (request : Request) → apply_call plan (moment plan journal).server journal (moment plan journal).tool work ≡ Some request → request ≡ appliers.next journal work.applier
 apply_called plan journal work request is = by (is_done work.cutover.phase) (appliers.starts work.applier && not (may_read plan (moment plan journal).server (moment plan journal).tool work)) is where

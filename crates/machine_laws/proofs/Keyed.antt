@@ -28,6 +28,7 @@ use Rattle.changelog_table.specs.ToolNames.{ghost_name}
 use Rattle.journal_words.specs.Journals.{state_at, IsFaithful}
 use Rattle.journal_words.specs.Keeping.{words_of}
 use Rattle.journal_words.specs.Sessions.{live_session}
+use Rattle.journal_words.proofs.Answers.{answer_more, answer_here}
 use Rattle.chunk_copier.specs.declared.copier.Chunk.{Chunk}
 use Rattle.chunk_copier.specs.declared.copier.Copier.{Copier}
 use Rattle.chunk_copier.specs.declared.copier.CopyRange.{CopyRange}
@@ -60,7 +61,6 @@ use Rattle.machine_laws.proofs.Journals.{IsRun, all_runs, Asking, calls_so, poll
 use Rattle.machine_laws.proofs.Polling.{AllWaits, waits_more, waits_begin}
 use Rattle.machine_laws.proofs.Tabling.{IsTabled, tabled_more, tabled_begins, back_quiet, next_uncopied}
 use Rattle.machine_laws.proofs.Answering.{own_keys}
-use Rattle.copy_laws.proofs.Journals.{answer_more, answer_here}
 use Rattle.sentry_laws.proofs.Inductions.{moment_more}
 
 -- WHAT STAYS KNOWN

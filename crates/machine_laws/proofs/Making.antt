@@ -23,7 +23,7 @@ use Rattle.cutover_core.specs.CutOvers.{is_resting}
 use Rattle.migration_program.specs.Operators.{is_throttled}
 use Rattle.migration_program.specs.Programs.{in_transaction, calls, commands, waits, tool_call, tool_asks, copy_call, apply_call, may_begin, rolls_back, given}
 use Rattle.migration_program.specs.Tools.{Work, Course, SettingUp, Migrating, Moment, is_reverting, moment}
-use Rattle.program_laws.proofs.Machines.{CourseIsNamed, named}
+use Rattle.migration_program.proofs.ProgramLaws.Machines.{CourseIsNamed, named}
 use Rattle.machine_laws.specs.Standings.{opened_for}
 use Rattle.machine_laws.specs.Forming.{IsFitting}
 use Rattle.machine_laws.specs.Laws.{has_keys, IsCalledWell, GivenCallsMayBeMade}

@@ -50,7 +50,7 @@ use Rattle.migration_program.specs.Programs.{given, IsGiven, tool_call, tool_ask
 use Rattle.migration_program.specs.Operators as operators
 use Rattle.migration_program.specs.Setups.{Setup, Listing, Clearing, MakingLog, MakingGhost, Marking, Reaching, Ready, setup_call, setup_step}
 use Rattle.migration_program.specs.Tools.{Work, Course, SettingUp, Migrating, Panicked, Tool, Moment, stopped, spends, resizes, is_renamed, is_reverting, course_of, actor_took, turn_counts, command_took, asked_took, took, moment}
-use Rattle.program_laws.proofs.Machines.{CourseIsNamed, named}
+use Rattle.migration_program.proofs.ProgramLaws.Machines.{CourseIsNamed, named}
 use Rattle.history_laws.proofs.Actors.{live_more, same_actor_is, same_actor_itself}
 use Rattle.history_laws.proofs.Joined.{told_answer}
 use Rattle.history_laws.proofs.Linking.{waiting_more}

@@ -43,9 +43,6 @@ pub record AllTogether (plan : PlanData) (journal : List Entry) : Type 0 where
 
 -- WHAT IS GIVEN TO WHOM
 
-some_call : (a b : Request) → Call a ≡ Call b → a ≡ b
-some_call a b same = cc
-
 tool_idle : (plan : PlanData) (journal : List Entry) (actor : Actor) (request : Request) → IsTogether plan journal → tool_asks plan journal (moment plan journal) actor ≡ Some (Call request) → (standing_of plan journal actor).waits ≡ None
 tool_idle plan journal actor request is gives = by (asking plan journal actor (Call request) is.server gives) where
   by : Asking plan journal actor (Call request) → (standing_of plan journal actor).waits ≡ None

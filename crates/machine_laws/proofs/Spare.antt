@@ -4,9 +4,10 @@ use Rattle.std.specs.List.{list_any, list_all}
 use Rattle.std.specs.Str.{bytes_eq}
 use Rattle.std.proofs.lemmas.Bool.{false≢true, or_left, or_right}
 use Rattle.std.proofs.lemmas.List.Folds.{list_any-append}
+use Rattle.std.proofs.Math.Bool.{or-false}
 use Rattle.changelog_table.specs.ToolNames.{ghost_name, log_name, old_name}
 use Rattle.plan_words.specs.PlanData.{PlanData}
-use Rattle.program_laws.proofs.Naming.{is_known}
+use Rattle.migration_program.proofs.ProgramLaws.Naming.{is_known}
 use Rattle.history_laws.specs.Plans.{client_names}
 use Rattle.history_laws.specs.Turns.{AllOther}
 use Rattle.history_laws.specs.Scenes.{Scene, is_mine}
@@ -74,12 +75,8 @@ scene_for plan = record { mine = spare plan ∷ []; client = λ n. false; openin
 pub spare_mine : (plan : PlanData) → is_mine (scene_for plan) (spare plan) ≡ true
 spare_mine plan = or_left (bytes_eq (spare plan) (spare plan)) false (same_bytes (spare plan))
 
-none_of : (b : Bool) → b ≡ false → (b || false) ≡ false
-none_of true is = is
-none_of false is = refl
-
 pub far_other : (plan : PlanData) (name : List ℕ) → bytes_eq name (spare plan) ≡ false → is_mine (scene_for plan) name ≡ false
-far_other plan name off = none_of (bytes_eq name (spare plan)) off
+far_other plan name off = or-false (bytes_eq name (spare plan)) ∙ off
 
 pub known_others : (plan : PlanData) (names : List (List ℕ)) → list_all (is_known plan.table) names ≡ true → AllOther (scene_for plan) names
 known_others plan [] all = tt

@@ -1,26 +1,17 @@
 -- *Tables stay tables* behind every journal of the program: no definition comes inside a transaction, and what is made is
 -- lawful.
-use Rattle.std.proofs.Common.{◌≡◌, ℕ, ◌<◌, ◌+◌, Bool, true, false, cond, List, [], ◌∷◌, ◌++◌, length, Option, Some, None, refl, sym, ap, ◌∙◌, subst, inl}
+use Rattle.std.proofs.Common.{◌≡◌, ℕ, ◌+◌, Bool, true, false, cond, List, [], ◌∷◌, ◌++◌, Option, Some, None, refl, sym, ap, ◌∙◌, subst, inl}
 use Rattle.std.specs.Prelude.{unwrap_or}
-use Rattle.std.specs.List.{AllByRecursion, list_any, list_all, slice_get}
+use Rattle.std.specs.List.{AllByRecursion, list_any, list_all}
 use Rattle.std.specs.Str.{bytes_eq}
 use Rattle.std.proofs.lemmas.Bool.{true≢false, false≢true}
 use Rattle.script_text.specs.declared.actor.Actor.{Actor}
 use Rattle.script_text.specs.declared.actor.Actor.TheVariants.{Op, Insp, Copy, Apply, Lock, Ren, Client}
 use Rattle.script_text.specs.declared.script.ScriptWord.{ScriptWord}
 use Rattle.script_text.specs.declared.script.ScriptWord.TheVariants as words
-use Rattle.gho_values.specs.declared.value.Value.{Value}
-use Rattle.gho_schema.specs.declared.schema.Column.{Column}
-use Rattle.gho_schema.specs.declared.schema.Index.{Index}
 use Rattle.gho_schema.specs.declared.schema.Schema.{Schema}
-use Rattle.gho_schema.specs.Clustering.{is_not_null, clustered_place, unique_at}
-use Rattle.gho_schema.specs.Rows.{key_places, places_of}
-use Rattle.schema_rules.specs.Lawful.{IsLawful, IsKey, IsColumn, IsNotNull}
+use Rattle.schema_rules.specs.Lawful.{IsLawful}
 use Rattle.schema_rules.specs.Lawful as lawful
-use Rattle.schema_rules.proofs.Lists.{All-at, list_all-All}
-use Rattle.row_store.specs.ClusteredKeys.{HasClusteredKey}
-use Rattle.statement_laws.specs.Covering.{IsOrderlyTable}
-use Rattle.statement_laws.specs.Covering as covering
 use Rattle.statement_laws.specs.Databases.{IsOrderly}
 use Rattle.plain_server.specs.Along.{Along}
 use Rattle.plain_server.specs.declared.entry.Asked.{Asked}
@@ -36,7 +27,7 @@ use Rattle.journal_words.specs.Clients.{Reached, client_asks, client_at, after_t
 use Rattle.journal_words.specs.Journals.{state_at, opens, may_lose}
 use Rattle.migration_program.specs.Programs.{given, IsGiven, Follows}
 use Rattle.migration_program.specs.Tools.{Course, SettingUp, Migrating, moment, is_reverting}
-use Rattle.program_laws.proofs.Given as online
+use Rattle.migration_program.proofs.ProgramLaws.Given as online
 use Rattle.history_laws.specs.Plans.{client_names, limits_of}
 use Rattle.history_laws.specs.Scenes.{NamesTable}
 use Rattle.history_laws.specs.Turns.{IsAllowed, IsTold, MayAsk, ToolAsks, AllOther, AtRest, RenamesSo, about, request_of, is_busy}
@@ -45,6 +36,8 @@ use Rattle.history_laws.proofs.Journals.{JournalHolds, step, begins, opened_wait
 use Rattle.history_laws.proofs.Naming.{script_lines}
 use Rattle.history_laws.proofs.Openings.{opening_orderly}
 use Rattle.history_laws.proofs.Progress.{lines_stay}
+use Rattle.history_laws.proofs.LawfulTables.{lawful_table}
+use Rattle.history_laws.proofs.Faces.{busy_face}
 use Rattle.cutover_core.specs.declared.cutover.Hold.{Hold}
 use Rattle.cutover_core.specs.declared.cutover.Hold.TheVariants.{Nothing, WaitsToGuard, WaitsToLock, Locks}
 use Rattle.machine_laws.specs.Standings.{Standing, standing_of}
@@ -59,33 +52,8 @@ use Rattle.machine_laws.proofs.Schemas.{is_quiet}
 use Rattle.machine_laws.proofs.Seated.{IsServed, IsOpen, is_open}
 use Rattle.machine_laws.proofs.Spare.{scene_for, spare_mine, client_far, far_other, known_others}
 use Rattle.machine_laws.proofs.Tabling.{may_define, QuietAt, given_quiet}
-use Rattle.copy_laws.proofs.Served.{busy_face}
 
 -- A NEW TABLE
-
-lawful_keyed : (schema : Schema) → IsLawful schema → HasClusteredKey schema
-lawful_keyed schema is = by (clustered_place schema) refl is.clustered where
-  by : (place : Option ℕ) → clustered_place schema ≡ place → IsNotNull schema.columns (unique_at schema.uniques place) → HasClusteredKey schema
-  by None at clustered = absurd clustered
-  by (Some place) at clustered = found (slice_get schema.uniques place) refl clustered where
-    found : (one : Option Index) → slice_get schema.uniques place ≡ one → IsNotNull schema.columns one → HasClusteredKey schema
-    found None none clustered = absurd clustered
-    found (Some index) there clustered =
-        let places : index.places ≡ key_places schema = sym (ap (λ (p : Option ℕ). places_of (unique_at schema.uniques p)) at ∙ ap places_of there) in
-        record {
-          some = subst (λ (p : List ℕ). 0 < length p) places (All-at (IsKey (length schema.columns)) schema.uniques place index is.uniques there).some;
-          not_null = subst (AllByRecursion (λ place. is_not_null (slice_get schema.columns place) ≡ true)) places (list_all-All (λ place. is_not_null (slice_get schema.columns place)) index.places clustered);
-        }
-
-defaults_fit : (columns : List Column) → AllByRecursion IsColumn columns → AllByRecursion (λ column. covering.StoresDefault column column.default) columns
-defaults_fit [] all = tt
-defaults_fit (column ∷ columns) all = (by column.default all.0.default, defaults_fit columns all.1) where
-  by : (default : Option Value) → lawful.StoresDefault column default → covering.StoresDefault column default
-  by None is = tt
-  by (Some value) is = is
-
-pub lawful_table : (schema : Schema) → IsLawful schema → IsOrderlyTable (record { schema = schema; rows = [] })
-lawful_table schema is = record { keyed = lawful_keyed schema is; defaults = defaults_fit schema.columns is.columns; is_table = record { rows_fit = tt; ascends = tt; apart = tt } }
 
 -- WHAT IS ASKED
 

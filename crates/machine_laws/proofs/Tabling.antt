@@ -41,7 +41,7 @@ use Rattle.cutover_core.specs.Attempts.{first_name, is_clear, without_first}
 use Rattle.cutover_core.specs.CutOvers as cuts
 use Rattle.cutover_core.specs.CutOvers.{is_bad, is_resting, drained, ended, applier_turn, reverted}
 use Rattle.migration_program.specs.Setups.{Setup, Listing, Clearing, MakingLog, MakingGhost, Marking, Reaching, Ready, setup_call, setup_step, clearing, listed}
-use Rattle.program_laws.proofs.Naming.{not_ghost, not_log, not_first}
+use Rattle.migration_program.proofs.ProgramLaws.Naming.{not_ghost, not_log, not_first}
 use Rattle.statement_laws.proofs.Tests.{turned_bytes}
 use Rattle.migration_program.specs.Operators.{is_throttled}
 use Rattle.migration_program.specs.Programs.{in_transaction, waits, tool_call, tool_asks, copy_call, apply_call, lock_call, may_begin, rolls_back, given, IsGiven, Follows}
@@ -62,7 +62,7 @@ use Rattle.machine_laws.proofs.Clients.{Next, calls_line, polls_line, client_nex
 use Rattle.machine_laws.proofs.Polling.{AllTogether, AllWaits, waits_more, waits_begin, together_more_all, together_begins_all, given_idle, given_waits, no_word}
 use Rattle.machine_laws.proofs.Schemas.{keeps_table, is_quiet, quiet_keeps, schema_stays, schema_rests, schema_made}
 use Rattle.sentry_laws.proofs.Inductions.{moment_more}
-use Rattle.copy_laws.proofs.Served.{busy_face}
+use Rattle.history_laws.proofs.Faces.{busy_face}
 
 -- THE SETUP'S CALLS
 

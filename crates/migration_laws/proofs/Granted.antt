@@ -21,7 +21,7 @@ use Rattle.journal_words.specs.Journals.{after_entry, opens}
 use Rattle.history_laws.specs.Scenes.{Besides, Scene, SessionHold, Stored}
 use Rattle.history_laws.specs.Holdings.{Face, face_of, stored}
 use Rattle.history_laws.specs.Turns.{IsSceneRun, IsTold, about, answer_at, inner, missed_at, request_of, scene_state, told_at}
-use Rattle.history_laws.proofs.Faces.{faces_opened}
+use Rattle.history_laws.proofs.Faces.{faces_opened, writes_face}
 use Rattle.history_laws.proofs.Journals.{journal_holds, state_more, stored_opened}
 use Rattle.history_laws.proofs.Names.{OneIn, opened_one}
 use Rattle.history_laws.proofs.Serves.{granted}
@@ -29,7 +29,7 @@ use Rattle.history_laws.proofs.Tooling.{AreApart}
 use Rattle.statement_laws.specs.Covering.{Apart}
 use Rattle.ghost_laws.specs.Leaving.{is_lost, unless_lost, was_done}
 use Rattle.ghost_laws.proofs.Leaving.{holds_of, same_so, stored_final}
-use Rattle.copy_laws.proofs.Served.{seen_of, writes_face}
+use Rattle.migration_laws.proofs.CopyLaws.Served.{seen_of}
 
 -- WHAT A REQUEST NEEDED
 

@@ -39,7 +39,7 @@ use Rattle.history_laws.proofs.Answering.{apart_both}
 use Rattle.history_laws.proofs.Kept.{apart-turn}
 use Rattle.history_laws.proofs.Tooling.{copies_sound, names_two}
 use Rattle.history_laws.proofs.Words.{names_last, names_left}
-use Rattle.ghost_rows.specs.Timelines.{Migration}
+use Rattle.ghost_laws.specs.GhostRows.Timelines.{Migration}
 use Rattle.ghost_laws.specs.Given.{IsGiven}
 use Rattle.ghost_laws.specs.Invariant.{IsServed, NotOf}
 use Rattle.ghost_laws.specs.Leaving.{DeedLeaves, deed_answer, is_lost, told_done, undone_hold, unless_lost, was_done, where_done, with_grant}
@@ -48,14 +48,14 @@ use Rattle.ghost_laws.proofs.Granting.{job_served}
 use Rattle.ghost_laws.proofs.Leaving.{deeds_are_done, holds_of}
 use Rattle.ghost_laws.proofs.Turns.{along_next, run_front, writes_fit}
 use Rattle.ghost_laws.proofs.Undone.{cuts_are_left, deeds_answer, undone_is_left}
-use Rattle.copy_laws.proofs.Rows.{not_of}
-use Rattle.copy_laws.proofs.Served.{Deeded, deeded, seen_of}
-use Rattle.copy_laws.proofs.Served.Deeded.{outside_so, within_so}
+use Rattle.migration_laws.proofs.CopyLaws.Rows.{not_of}
+use Rattle.migration_laws.proofs.CopyLaws.Served.{Deeded, deeded, seen_of}
+use Rattle.migration_laws.proofs.CopyLaws.Served.Deeded.{outside_so, within_so}
 use Rattle.migration_laws.proofs.Granted.{needs_apart, nothing_asked}
 
 -- WHAT IS WRITTEN
 
-not_both : (name : List ℕ) (a b : List RowEvent) → NotOf name a → NotOf name b → NotOf name (a ++ b)
+pub not_both : (name : List ℕ) (a b : List RowEvent) → NotOf name a → NotOf name b → NotOf name (a ++ b)
 not_both name [] b one two = two
 not_both name (event ∷ a) b one two = (one.0, not_both name a b one.1 two)
 

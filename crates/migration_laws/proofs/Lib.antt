@@ -3,4 +3,6 @@ pub mod Leaves
 pub mod Others
 pub mod Moving
 pub mod Migrating
-pub mod Plans
+pub mod PlanningLaws
+pub mod CopyLaws
+pub mod ApplyLaws

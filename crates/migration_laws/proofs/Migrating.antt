@@ -21,10 +21,10 @@ use Rattle.history_laws.specs.Scenes.{Besides, Scene, SessionHold, no_hold}
 use Rattle.history_laws.specs.Holdings.{Face, face_of, stored}
 use Rattle.history_laws.specs.Turns.{IsSceneRun, IsTold as IsEntryTold, scene_state}
 use Rattle.history_laws.proofs.Journals.{journal_holds, state_more}
-use Rattle.server_laws.proofs.Others.{entry_faces}
+use Rattle.history_laws.proofs.ServerLaws.Others.{entry_faces}
 use Rattle.statement_laws.proofs.Tests.{are_one, turned}
-use Rattle.ghost_rows.specs.Moments.{Row}
-use Rattle.ghost_rows.specs.Timelines.{IsPlanned, Migration}
+use Rattle.ghost_laws.specs.GhostRows.Moments.{Row}
+use Rattle.ghost_laws.specs.GhostRows.Timelines.{IsPlanned, Migration}
 use Rattle.ghost_laws.specs.Copies.{IsAltered}
 use Rattle.ghost_laws.specs.Doings.{changes_in, planned}
 use Rattle.ghost_laws.specs.Holding.{Clustered}
@@ -41,16 +41,16 @@ use Rattle.ghost_laws.proofs.Reading.{IsPart, next_part, part_of}
 use Rattle.ghost_laws.proofs.Running.{any_kept, turn_keeps}
 use Rattle.ghost_laws.proofs.Turns.{along_next, run_front, writes_fit}
 use Rattle.ghost_laws.proofs.Undone.{cuts_are_left}
-use Rattle.copy_laws.specs.Copying.{BehindTold, CopierKnows, StepKnows, copy_state, moment_of}
-use Rattle.copy_laws.specs.Laws.{CopierStands}
-use Rattle.copy_laws.proofs.Copiers.{copiers_keep}
-use Rattle.copy_laws.proofs.Served.{stands_same}
-use Rattle.apply_laws.specs.Applying.{ApplierKnows, StepIsBusy, apply_plan}
-use Rattle.apply_laws.specs.Applying as applying
-use Rattle.apply_laws.specs.Finding.{FindsRows}
-use Rattle.apply_laws.specs.Laws.{ApplierStands}
-use Rattle.apply_laws.proofs.Appliers.{appliers_keep}
-use Rattle.apply_laws.proofs.Knowing as knowing
+use Rattle.migration_laws.specs.CopyLaws.Copying.{BehindTold, CopierKnows, StepKnows, copy_state, moment_of}
+use Rattle.migration_laws.specs.CopyLaws.Laws.{CopierStands}
+use Rattle.migration_laws.proofs.CopyLaws.Copiers.{copiers_keep}
+use Rattle.migration_laws.proofs.CopyLaws.Served.{stands_same}
+use Rattle.migration_laws.specs.ApplyLaws.Applying.{ApplierKnows, StepIsBusy, apply_plan}
+use Rattle.migration_laws.specs.ApplyLaws.Applying as applying
+use Rattle.migration_laws.specs.ApplyLaws.Finding.{FindsRows}
+use Rattle.migration_laws.specs.ApplyLaws.Laws.{ApplierStands}
+use Rattle.migration_laws.proofs.ApplyLaws.Appliers.{appliers_keep}
+use Rattle.migration_laws.proofs.ApplyLaws.Knowing as knowing
 use Rattle.migration_laws.specs.Away.{OthersAway}
 use Rattle.migration_laws.specs.Laws.{JournalsAlter, MovesKeep, TurnsKeep}
 use Rattle.migration_laws.specs.Machines.{IsCut, IsMigrationEnd, IsMigrationStart, IsUnbusy, Machines, MigrationRun, MigrationStands, MigrationTurn, StandsAway, Step, journal_behind, machines_behind, moment_at}

@@ -15,8 +15,8 @@ use Rattle.chunk_copier.specs.declared.copier.CopyStep.TheVariants.{Choosing, Sp
 use Rattle.chunk_copier.specs.Copiers.{low_end}
 use Rattle.history_laws.specs.Scenes.{Besides, SessionHold, no_hold}
 use Rattle.history_laws.specs.Holdings.{stored}
-use Rattle.ghost_rows.specs.Moments.{Row}
-use Rattle.ghost_rows.specs.Timelines.{IsPlanned, Migration}
+use Rattle.ghost_laws.specs.GhostRows.Moments.{Row}
+use Rattle.ghost_laws.specs.GhostRows.Timelines.{IsPlanned, Migration}
 use Rattle.ghost_laws.specs.Holding.{Clustered}
 use Rattle.ghost_laws.specs.Invariant.{IsServed}
 use Rattle.ghost_laws.specs.Joined.{IsJoined}
@@ -28,15 +28,15 @@ use Rattle.ghost_laws.specs.Tool.ApplyState.{Idle, Whole, Half}
 use Rattle.ghost_laws.specs.Tool.CopyState.{Waiting}
 use Rattle.ghost_laws.proofs.Leaving.{holds_of}
 use Rattle.ghost_laws.proofs.Running.{any_kept, turn_keeps}
-use Rattle.copy_laws.specs.Copying.{CopierKnows, copy_state, left_of, moment_of, taking_of}
-use Rattle.copy_laws.proofs.Chunks.{left_more, state_more, taking_state}
-use Rattle.copy_laws.proofs.Knowing.{IsWaiting, behind_more, step_more, waiting_state}
-use Rattle.copy_laws.proofs.Served.{stands_same}
+use Rattle.migration_laws.specs.CopyLaws.Copying.{CopierKnows, copy_state, left_of, moment_of, taking_of}
+use Rattle.migration_laws.proofs.CopyLaws.Chunks.{left_more, state_more, taking_state}
+use Rattle.migration_laws.proofs.CopyLaws.Knowing.{IsWaiting, behind_more, step_more, waiting_state}
+use Rattle.migration_laws.proofs.CopyLaws.Served.{stands_same}
 use Rattle.migration_laws.specs.Machines.{IsBetween}
 
 -- THE COPIER BEHIND MORE TURNS
 
-copied_state : (journal : List Entry) (copier : Copier) → copier.is_copied ≡ true → copy_state journal copier ≡ Waiting None
+pub copied_state : (journal : List Entry) (copier : Copier) → copier.is_copied ≡ true → copy_state journal copier ≡ Waiting None
 copied_state journal copier is = rw is refl
 
 empty_state : (journal : List Entry) (copier : Copier) → copier.is_copied ≡ false → copier.range ≡ None → copy_state journal copier ≡ Waiting None

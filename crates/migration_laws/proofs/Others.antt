@@ -1,8 +1,9 @@
 -- Other sessions' turns keep the tool standing.
-use Rattle.std.proofs.Common.{◌≡◌, ℕ, Bool, true, false, ◌||◌, List, [], ◌∷◌, ◌++◌, length, Option, Some, Result, Ok, Err, refl, sym, ap, ◌∙◌, subst}
+use Rattle.std.proofs.Common.{◌≡◌, ℕ, Bool, true, false, List, [], ◌∷◌, ◌++◌, length, Option, Some, Result, Ok, Err, refl, sym, ap, ◌∙◌, subst}
 use Rattle.std.specs.Prelude.{◌==◌}
 use Rattle.std.specs.List.{AllByRecursion, list_any}
 use Rattle.std.specs.Str.{bytes_eq}
+use Rattle.std.proofs.Math.Bool.{or-false}
 use Rattle.gho_schema.specs.declared.schema.Schema.{Schema}
 use Rattle.gho_schema.specs.Clustering.{clustered_place}
 use Rattle.row_store.specs.Databases.{Database, find_table, has_table, rename_tables, without_table}
@@ -21,8 +22,8 @@ use Rattle.history_laws.specs.Scenes.{Besides, Scene, SessionHold, no_hold}
 use Rattle.history_laws.specs.Holdings.{stored}
 use Rattle.history_laws.specs.Turns.{IsSceneRun, scene_state, told_at}
 use Rattle.history_laws.proofs.Moves.{behind_other, drop_moves, rename_moves}
-use Rattle.ghost_rows.specs.Moments.{Row}
-use Rattle.ghost_rows.specs.Timelines.{IsPlanned, Migration}
+use Rattle.ghost_laws.specs.GhostRows.Moments.{Row}
+use Rattle.ghost_laws.specs.GhostRows.Timelines.{IsPlanned, Migration}
 use Rattle.ghost_laws.specs.Holding.{Clustered}
 use Rattle.ghost_laws.specs.Invariant.{IsServed, NotOf}
 use Rattle.ghost_laws.specs.Running.{ApplyPlan, ToolMoment, ToolStands, ToolTurn}
@@ -32,7 +33,7 @@ use Rattle.ghost_laws.proofs.Leaving.{holds_of}
 use Rattle.ghost_laws.proofs.Running.{stands_over, turn_keeps}
 use Rattle.ghost_laws.proofs.Tooling.{client_commits, tool_moves, tool_rests}
 use Rattle.ghost_laws.proofs.Turns.{run_front, writes_fit}
-use Rattle.copy_laws.specs.Copying.{moment_of}
+use Rattle.migration_laws.specs.CopyLaws.Copying.{moment_of}
 use Rattle.migration_laws.specs.Away.{IsOther, IsOtherTurn, KeepsAway, OthersAway}
 use Rattle.migration_laws.specs.Laws.{OthersKeep}
 use Rattle.migration_laws.specs.Machines.{StandsAway}
@@ -51,11 +52,8 @@ created_stays : (name : List ℕ) (schema : Schema) (b : Bool) (tables made : Da
 created_stays name schema true tables made other is = absurd cc
 created_stays name schema false tables made other is = let same : tables ++ record { schema = schema; rows = [] } ∷ [] ≡ made = cc in ap (find_table name) (sym same) ∙ behind_other name tables _ (turned_bytes name schema.name other)
 
-or_none : (b : Bool) → b ≡ false → (b || false) ≡ false
-or_none b is = rw is refl
-
 dropped_stays : (name gone : List ℕ) (b : Bool) (tables made : Database) → bytes_eq name gone ≡ false → dropped b gone tables ≡ Ok made → find_table name made ≡ find_table name tables
-dropped_stays name gone true tables made other is = let same : without_table gone tables ≡ made = cc in ap (find_table name) (sym same) ∙ (drop_moves gone tables).others name (or_none (bytes_eq name gone) other)
+dropped_stays name gone true tables made other is = let same : without_table gone tables ≡ made = cc in ap (find_table name) (sym same) ∙ (drop_moves gone tables).others name (or-false (bytes_eq name gone) ∙ other)
 dropped_stays name gone false tables made other is = absurd cc
 
 none_named : (P : List ℕ → Bool) (names : List (List ℕ)) → AllByRecursion (λ name. P name ≡ false) names → list_any P names ≡ false

@@ -13,7 +13,7 @@ use Rattle.plain_server.specs.States.{names_in}
 use Rattle.journal_words.specs.Journals.{may_lose, opens}
 use Rattle.history_laws.specs.Scenes.{Scene, SessionHold}
 use Rattle.history_laws.specs.Turns.{about, scene_state, told_at}
-use Rattle.ghost_rows.specs.Timelines.{Migration}
+use Rattle.ghost_laws.specs.GhostRows.Timelines.{Migration}
 use Rattle.ghost_laws.specs.Invariant.{NotOf}
 
 -- neither the migrated table's name nor the new one's

@@ -1,24 +1,19 @@
 -- Other sessions' turns keep the ghost relation; and over journals that follow the program the new table becomes the altered one.
 use Rattle.std.specs.Prelude.{◌≡◌, ℕ, List, [], ◌∷◌, ◌++◌, Some}
 use Rattle.gho_schema.specs.Clustering.{clustered_place}
-use Rattle.schema_rules.specs.Lawful.{IsLawful}
-use Rattle.plan_words.specs.PlanData.{PlanData}
-use Rattle.plan_words.specs.Migratable.{IsMigratable}
 use Rattle.plain_server.specs.declared.entry.Entry.{Entry}
 use Rattle.plain_server.specs.declared.session.Limits.{Limits}
 use Rattle.changelog_table.specs.ToolNames.{ghost_name}
 use Rattle.history_laws.specs.Scenes.{Scene}
 use Rattle.history_laws.specs.Turns.{IsSceneRun, scene_state}
-use Rattle.history_laws.specs.Plans.{IsPlanRun, limits_of, scene_of}
-use Rattle.ghost_rows.specs.Moments.{Row}
-use Rattle.ghost_rows.specs.Timelines.{IsPlanned, Migration}
+use Rattle.ghost_laws.specs.GhostRows.Moments.{Row}
+use Rattle.ghost_laws.specs.GhostRows.Timelines.{IsPlanned, Migration}
 use Rattle.ghost_laws.specs.Copies.{IsAltered}
 use Rattle.ghost_laws.specs.Holding.{Clustered}
 use Rattle.ghost_laws.specs.Running.{ApplyPlan}
 use Rattle.ghost_laws.specs.Tool.{CopyState}
-use Rattle.copy_laws.specs.Copying.{moment_of}
-use Rattle.planning_laws.specs.Laws.{migration_of}
-use Rattle.apply_laws.specs.Finding.{FindsRows}
+use Rattle.migration_laws.specs.CopyLaws.Copying.{moment_of}
+use Rattle.migration_laws.specs.ApplyLaws.Finding.{FindsRows}
 use Rattle.migration_laws.specs.Away.{IsOtherTurn}
 use Rattle.migration_laws.specs.Machines.{IsMigrationEnd, IsMigrationStart, Machines, MigrationMove, MigrationRun, MigrationStands, MigrationTurn, StandsAway, Step, journal_behind, machines_behind}
 
@@ -44,11 +39,3 @@ abbrev pub JournalsAlter : Type 0
 JournalsAlter =
     (m : Migration) (at : Clustered m.schema) (rows : List Row) (place : ℕ) → IsPlanned m rows → clustered_place m.new ≡ Some place → FindsRows m → (limits : Limits) (scene : Scene) (journal : List Entry) (now : Machines) (steps : List Step) → IsSceneRun limits scene (journal_behind journal steps)
     → IsMigrationStart m rows limits scene journal now → MigrationRun m limits scene journal now steps → IsMigrationEnd m (scene_state limits scene (journal_behind journal steps)) (machines_behind now steps) → IsAltered m (scene_state limits scene (journal_behind journal steps)).tables
-
--- *Plans alter their table*: so it is over every run of a migratable plan whose ALTER leaves a lawful schema.
-abbrev pub PlansAlter : Type 0
-PlansAlter =
-    (plan : PlanData) (is : IsMigratable plan) → IsLawful (is.new.0) → (journal : List Entry) (now : Machines) (steps : List Step) → IsPlanRun plan (journal_behind journal steps)
-    → IsMigrationStart (migration_of is.table.schema is.new) is.table.rows (limits_of plan) (scene_of plan (journal_behind journal steps)) journal now → MigrationRun (migration_of is.table.schema is.new) (limits_of plan) (scene_of plan (journal_behind journal steps)) journal now steps
-    → IsMigrationEnd (migration_of is.table.schema is.new) (scene_state (limits_of plan) (scene_of plan (journal_behind journal steps)) (journal_behind journal steps)) (machines_behind now steps)
-    → IsAltered (migration_of is.table.schema is.new) (scene_state (limits_of plan) (scene_of plan (journal_behind journal steps)) (journal_behind journal steps)).tables

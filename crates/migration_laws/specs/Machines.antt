@@ -20,13 +20,13 @@ use Rattle.event_applier.specs.Appliers as appliers
 use Rattle.history_laws.specs.Scenes.{Scene, SessionHold, no_hold}
 use Rattle.history_laws.specs.Holdings.{face_of}
 use Rattle.history_laws.specs.Turns.{about, scene_state}
-use Rattle.ghost_rows.specs.Moments.{Row}
-use Rattle.ghost_rows.specs.Timelines.{Migration}
+use Rattle.ghost_laws.specs.GhostRows.Moments.{Row}
+use Rattle.ghost_laws.specs.GhostRows.Timelines.{Migration}
 use Rattle.ghost_laws.specs.Copies.{IsCopyStart}
 use Rattle.ghost_laws.specs.Holding.{Clustered}
 use Rattle.ghost_laws.specs.Running.{ToolMoment, ToolStands}
-use Rattle.copy_laws.specs.Copying.{CopierKnows, copy_state, moment_of}
-use Rattle.apply_laws.specs.Applying.{ApplierKnows, StepIsBusy, apply_plan}
+use Rattle.migration_laws.specs.CopyLaws.Copying.{CopierKnows, copy_state, moment_of}
+use Rattle.migration_laws.specs.ApplyLaws.Applying.{ApplierKnows, StepIsBusy, apply_plan}
 use Rattle.migration_laws.specs.Away.{IsOtherTurn, OthersAway}
 
 -- *The tool stands, and others keep away*

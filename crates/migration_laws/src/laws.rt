@@ -1,8 +1,6 @@
 //! The laws: each function's contract is one.
 
-ghost use Rattle.migration_laws.specs.Laws.{JournalsAlter, MovesKeep, OthersKeep, PlansAlter, TurnsKeep};
-
-use gho_values::laws::stored_values_store_again;
+ghost use Rattle.migration_laws.specs.Laws.{JournalsAlter, MovesKeep, OthersKeep, TurnsKeep};
 
 /// Another session's turn keeps the tool standing.
 pub fn others_keep()
@@ -19,10 +17,3 @@ pub fn migrations_go_on()
 pub fn journals_alter()
     ensures { JournalsAlter }
 {}
-
-/// So do the journals of every migratable plan.
-pub fn plans_alter()
-    ensures { PlansAlter }
-{
-    stored_values_store_again();
-}

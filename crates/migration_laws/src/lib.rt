@@ -2,4 +2,7 @@
 //! end the new table is the altered one.
 #![tactic(auto)]
 
+pub mod apply_laws;
+pub mod copy_laws;
 pub mod laws;
+pub mod planning_laws;

@@ -6,3 +6,5 @@ pub mod Verdicts
 pub mod Failures
 pub mod Online
 pub mod Orders
+pub mod ProgramLaws
+pub mod ReplayLaws

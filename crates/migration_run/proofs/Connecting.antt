@@ -16,7 +16,7 @@ use Rattle.migration_run.specs.Sessions.{IsSessionOf}
 use Rattle.run_laws.proofs.Numbering.{loses_numbered}
 use Rattle.run_laws.proofs.Waits.{lost_at_once}
 
-kind_live : (found : Option Session) (kind : Bool) → option_map (λ (s : Session). s.is_tool) found ≡ Some kind → is_some found ≡ true
+pub kind_live : (found : Option Session) (kind : Bool) → option_map (λ (s : Session). s.is_tool) found ≡ Some kind → is_some found ≡ true
 kind_live None kind is = absurd (cc)
 kind_live (Some session) kind is = refl
 

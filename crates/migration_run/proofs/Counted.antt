@@ -1,6 +1,6 @@
 -- What a turn in a session leaves to the counts.
-use Rattle.std.proofs.Common.{◌≡◌, ℕ, ◌+◌, ◌<◌, ◌≤◌, ◌==◌, suc, Bool, true, false, not, ◌&&◌, ◌||◌, max, List, [], ◌∷◌, ◌++◌, length, cond, Option, Some, None, refl, sym, ap, ◌∙◌, subst, arith}
-use Rattle.std.specs.Prelude.{is_some, count_by}
+use Rattle.std.proofs.Common.{◌≡◌, ℕ, ◌+◌, ◌≤◌, ◌==◌, Bool, true, false, not, ◌&&◌, ◌||◌, max, List, [], ◌∷◌, ◌++◌, cond, Option, Some, None, refl, sym, ap, ◌∙◌, subst, arith}
+use Rattle.std.specs.Prelude.{count_by}
 use Rattle.std.specs.Option.{option_map}
 use Rattle.script_text.specs.declared.actor.Side.{Side}
 use Rattle.plain_server.specs.declared.entry.Asked.{Asked}
@@ -8,7 +8,7 @@ use Rattle.plain_server.specs.declared.entry.Asked.TheVariants.{Call, Poll, Comm
 use Rattle.plain_server.specs.declared.entry.Entry.{Entry}
 use Rattle.plain_server.specs.declared.session.Session.{Session}
 use Rattle.plain_server.specs.Entries.{is_client}
-use Rattle.plain_server.specs.States.{State, session_of, is_waiting, is_in_transaction, holds_tables, is_live, new_session, connected, has_work, load}
+use Rattle.plain_server.specs.States.{State, session_of, is_waiting, is_in_transaction, holds_tables, new_session, connected, has_work, load}
 use Rattle.plain_server.specs.Serving.{serves, leaves, given_at}
 use Rattle.journal_words.specs.Journals.{opens_if, after_entry, heard, missed}
 use Rattle.run_laws.specs.Counting.{IsBehind, kind_of, is_open, is_busy, busy_count, weight, weigh, others}
@@ -16,18 +16,14 @@ use Rattle.run_laws.proofs.Turns.{is_lost, kind_left, Leaves, turn_leaves, opene
 use Rattle.run_laws.proofs.Tallies.{tally, tally_is, tally_parts, load_turns, busy_turns}
 use Rattle.migration_run.specs.declared.turn.Turn.{Turn}
 use Rattle.migration_run.specs.declared.counting.Counts.{Counts}
-use Rattle.migration_run.specs.Asking.{MayAsk}
 use Rattle.migration_run.specs.Sessions.{IsSessionOf}
 use Rattle.migration_run.specs.Turning.{session_for, made_for, opened_on, answer_on, entry_on, is_lost_in, counts_of, MayTurn}
+use Rattle.migration_run.proofs.Connecting.{kind_live}
 
 -- a session by whose it would be
 none_there : (found : Option Session) → option_map (λ (s : Session). s.is_tool) found ≡ None → found ≡ None
 none_there None is = refl
 none_there (Some session) is = absurd (cc)
-
-some_there : (found : Option Session) (kind : Bool) → option_map (λ (s : Session). s.is_tool) found ≡ Some kind → is_some found ≡ true
-some_there None kind is = absurd (cc)
-some_there (Some session) kind is = refl
 
 lost_same : (side : Option Side) (asked : Asked) → is_lost side asked ≡ is_lost_in side asked
 lost_same None Cut = refl
@@ -85,7 +81,7 @@ module _ (state : State) (own : Option ℕ) (turn : Turn) (may : MayTurn state o
 
   live_is : kind_of number state.sessions ≡ Some tool → open_now ≡ state
   unfolding opens_if
-  live_is kind = rw (some_there (session_of number state.sessions) tool kind) refl
+  live_is kind = rw (kind_live (session_of number state.sessions) tool kind) refl
 
   idle : session_of number state.sessions ≡ None → is_waiting state number ≡ false
   idle none = may.waits number (ap (option_map (λ (s : Session). s.is_tool)) none)
@@ -162,26 +158,6 @@ module _ (state : State) (own : Option ℕ) (turn : Turn) (may : MayTurn state o
   pub busy_part : weigh (is_busy open_now.waiting) (session_of number open_now.sessions) ≤ busy_count state
   busy_part = rw busy_still (part_of (is_busy state.waiting))
 
-  few_of : (test : Session → Bool) (sessions : List Session) → tally test sessions ≤ length sessions
-  few_of test [] = omega arith
-  few_of test (first ∷ sessions) = by (test first) (few_of test sessions)
-    where
-      by : (b : Bool) → tally test sessions ≤ length sessions → weight b + tally test sessions ≤ suc (length sessions)
-      by true rest = omega (arith, rest)
-      by false rest = omega (arith, rest)
-
-  few_tests : (test : Session → Bool) → count_by test state.sessions + 1 < 18446744073709551616
-  few_tests test =
-      let few : tally test state.sessions ≤ length state.sessions = few_of test state.sessions in
-      let same : tally test state.sessions ≡ count_by test state.sessions = tally_is test state.sessions in
-      omega (arith, few, same, may.few, may.room)
-
-  pub few_open : load state + 1 < 18446744073709551616
-  few_open = few_tests is_open
-
-  pub few_busy : busy_count state + 1 < 18446744073709551616
-  few_busy = few_tests (is_busy state.waiting)
-
   pub counts_behind : (counts : Counts) (before_open after_open before_busy after_busy : Bool) (told : Counts) → counts ≡ counts_of state
       → weight before_open ≡ weigh is_open (session_of number open_now.sessions) → weight after_open ≡ weigh is_open (session_of number after.sessions)
       → weight before_busy ≡ weigh (is_busy open_now.waiting) (session_of number open_now.sessions) → weight after_busy ≡ weigh (is_busy after.waiting) (session_of number after.sessions)
@@ -254,13 +230,6 @@ module _ (state : State) (own : Option ℕ) (turn : Turn) (may : MayTurn state o
   pub made_after : after.made ≤ made_for own state.made
   made_after = omega (arith, open_made, left_rec.made)
 
-  pub made_still : state.made ≤ made_for own state.made
-  made_still = by own
-    where
-      by : (session : Option ℕ) → state.made ≤ made_for session state.made
-      by (Some session) = omega arith
-      by None = omega arith
-
   -- WHAT IS TOLD
 
   module _ (one : State) (k : ℕ) (is : one ≡ opens_if false tool k state) (same : k ≡ number) where
@@ -278,14 +247,8 @@ module _ (state : State) (own : Option ℕ) (turn : Turn) (may : MayTurn state o
     pub leaves_told : leaves turn.side one k turn.asked ≡ after_entry state (entry_on state number turn)
     leaves_told = leaves_after ∙ sym entry_leaves
 
-    pub may_told : MayAsk one k turn.side turn.asked
-    may_told = subst (λ (s : State). MayAsk s k turn.side turn.asked) (sym (opened_now ∙ sym opened_is)) (subst (λ (n : ℕ). MayAsk (opened_on state number turn) n turn.side turn.asked) (sym same) may.may)
-
     pub kind_told : kind_of k one.sessions ≡ Some tool
     kind_told = ap (λ (s : State). kind_of k s.sessions) opened_now ∙ ap (λ (n : ℕ). kind_of n open_now.sessions) same ∙ own_kind
-
-    pub live_told : is_live one k ≡ true
-    live_told = some_there (session_of k one.sessions) tool kind_told
 
     pub work_told : has_work one k ≡ has_work state number
     work_told = ap (λ (s : State). has_work s k) opened_now ∙ ap (has_work open_now) same ∙ work_still

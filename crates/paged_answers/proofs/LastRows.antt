@@ -39,10 +39,6 @@ pub greatest : (n : ℕ) (pages : List (List Row)) (rows : List Row) → ArePage
     → slice_get (get_or pages n []) (length (get_or pages n []) - 1) ≡ slice_get rows (length rows - 1)
 greatest n pages rows are flat many = last_page n pages are many ∙ ap (λ (rs : List Row). slice_get rs (length rs - 1)) flat
 
-pub no_pages : (pages : List (List Row)) (rows : List Row) → flat_map (λ (p : List Row). p) pages ≡ rows → length pages ≡ 0 → rows ≡ []
-no_pages [] rows flat none = sym flat
-no_pages (page ∷ pages) rows flat none = absurd (omega (arith, none))
-
 -- the greatest key is the last one behind the least
 pub greatest_key : {Y : Type 0} (f : Row → Y) (step : Y → List Y → Y) → ((y : Y) → step y [] ≡ y) → ((y next : Y) (more : List Y) → step y (next ∷ more) ≡ step next more) → (least last : Row) (others all : List Row) → all ≡ least ∷ others → Some last ≡ slice_get all (length all - 1)
     → step (f least) (map f others) ≡ f last

@@ -1,5 +1,5 @@
 -- Facts on lists and their items.
-use Rattle.std.proofs.Common.{◌≡◌, ℕ, suc, ◌-◌, List, [], ◌∷◌, length, map, Some, None, refl, sym, ap, ◌∙◌, arith}
+use Rattle.std.proofs.Common.{◌≡◌, ℕ, suc, ◌-◌, List, [], ◌∷◌, length, map, Some, sym, ap, ◌∙◌, arith}
 use Rattle.std.specs.List.{slice_get}
 
 -- the last item is at the last place
@@ -13,12 +13,3 @@ last_found step none more f y (item ∷ []) last is = let same : last ≡ item =
 last_found step none more f y (item ∷ (next ∷ items)) last is =
     let there : Some last ≡ slice_get (next ∷ items) (length (next ∷ items) - 1) = is ∙ ap (slice_get (item ∷ (next ∷ items))) (last_place (length items)) in
     more y (f item) (f next ∷ map f items) ∙ last_found step none more f (f item) (next ∷ items) last there
-
--- where there is no last item, there is none
-pub none_last : {X : Type 0} (items : List X) → slice_get items (length items - 1) ≡ None → items ≡ []
-none_last [] none = refl
-none_last (item ∷ []) none = absurd (cc)
-none_last (item ∷ (next ∷ items)) none =
-    let there : slice_get (next ∷ items) (length (next ∷ items) - 1) ≡ None = sym (ap (slice_get (item ∷ (next ∷ items))) (last_place (length items))) ∙ none in
-    let not : next ∷ items ≡ [] = none_last (next ∷ items) there in
-    absurd (cc)

@@ -156,7 +156,3 @@ room_left n at capacity old new pages after lt within fits is new_is old_is =
     let size = length-remove (flat pages) (place_in pages n at) inside in
     let same : length (flat after) ≡ length (remove (flat pages) (place_in pages n at)) = ap (λ (xs : List ℕ). length xs) is in
     omega (arith, size, same, fits, new_is, old_is)
-
-pub room_first_page : (page capacity entry old : ℕ) (pages after : Pages) → length pages ≡ 0 → after ≡ insert pages 0 (entry ∷ []) → 0 < old → old ≡ room_of capacity (length (flat pages)) → room_of capacity (length (flat after)) + 1 ≡ old
-room_first_page page capacity entry old [] after none is some old_is = rw is (omega (arith, old_is, some))
-room_first_page page capacity entry old (first ∷ pages) after none is some old_is = absurd (omega arith)

@@ -197,17 +197,6 @@ count_parted n page [] lt = absurd (omega arith)
 count_parted zero page (old ∷ pages) lt = parted_count (leb (length page) 64) page pages
 count_parted (suc n) page (old ∷ pages) lt = let behind = count_parted n page pages (omega arith) in omega (arith, behind)
 
-joined_count : (b : Bool) (page next : List ℕ) (pages : List (List ℕ)) → length (cond b ((page ++ next) ∷ pages) (page ∷ next ∷ pages)) ≤ suc (suc (length pages))
-joined_count true page next pages = omega arith
-joined_count false page next pages = omega arith
-
-pub count_joined : (n : ℕ) (pages : List (List ℕ)) → length (joined n pages) ≤ length pages
-count_joined zero [] = omega arith
-count_joined (suc n) [] = omega arith
-count_joined zero (page ∷ []) = omega arith
-count_joined zero (page ∷ next ∷ pages) = joined_count (leb (length page + length next) 32) page next pages
-count_joined (suc n) (page ∷ pages) = let behind = count_joined n pages in omega (arith, behind)
-
 -- The edits of the code.
 pub parted_not : (n : ℕ) (pages : List (List ℕ)) → length (get_or pages n []) ≤ 64 → parted n pages ≡ pages
 parted_not zero [] le = refl

@@ -123,14 +123,6 @@ stands_next n at entry pages page next gap here none behind there =
       entry_is = rw (← same) stands.entry_is;
     }
 
--- Behind the last entry there is none.
-pub none_here : (n at : ℕ) (pages : Pages) → IsGap pages n at → slice_get pages n ≡ None → length (flat pages) ≤ place_in pages n at
-none_here n at [] gap none = omega arith
-none_here n at (page ∷ pages) gap none =
-    let over = no_page (page ∷ pages) n none in
-    let inside : n < length (page ∷ pages) = gap.page_is (omega arith) in
-    absurd (omega (arith, over, inside))
-
 all_pages : (n : ℕ) (pages : Pages) → length pages ≤ n → take n pages ≡ pages
 all_pages zero [] le = refl
 all_pages (suc n) [] le = refl

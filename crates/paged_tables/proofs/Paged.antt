@@ -5,7 +5,7 @@ use Rattle.std.proofs.Math.Seq.{map-set_same}
 use Rattle.std.specs.List.{prefix_len, slice_get, slice_set}
 use Rattle.std.specs.Option.{option_copied}
 use Rattle.std.proofs.lemmas.List.{map-set, map_push, take_more, take-map, length-map}
-use Rattle.std.proofs.lemmas.Option.{slice_get_read, slice_get_within, get_or_from_slice_get}
+use Rattle.std.proofs.lemmas.Option.{slice_get_within, get_or_from_slice_get}
 use Rattle.gho_values.specs.declared.value.Value.{Value}
 use Rattle.gho_schema.specs.declared.schema.Schema.{Schema}
 use Rattle.gho_schema.specs.Rows.{key_places, with_row}
@@ -13,7 +13,7 @@ use Rattle.row_pages.specs.StoredRows.{PagedTable}
 use Rattle.row_store.specs.Databases.{TableRows, StoredTable, Database, IsNewIn, put_in_table, is_named, find_table, has_table, find_stored, others, spare_in, database, with_change, name_table, name_stored, NamesDiffer}
 use Rattle.row_store.proofs.RowsBetween.{one_more as one_further}
 use Rattle.row_store.proofs.NamedTables.{before, within, Stands, stands, Wrote, wrote, Put, put, is_new, has_found, IsTaken, take_out, IsAbsent, absent, added_differ}
-use Rattle.row_store.proofs.KeptTables.{not_ahead}
+use Rattle.row_store.proofs.KeptTables.{not_ahead, same_stored}
 use Rattle.name_map.specs.NameMaps.{NamedValues, names_before, has_name, with_value}
 use Rattle.name_map.proofs.Entries.{map_remove, got_map}
 use Rattle.paged_tables.specs.PagedDatabases.{stored_of, stored, table_names, AreNamed}
@@ -80,9 +80,6 @@ found_place name (t ∷ tables) = found_here (is_named name t.table) t tables (p
 pub at_stored : (tables : List PagedTable) (n : ℕ) (t : PagedTable) → t ≡ get_or tables n t → stored_of t ≡ get_or (stored tables) n (stored_of t)
 at_stored tables n t at = ap stored_of at ∙ sym (get_or-map stored_of tables n t)
 
-pub got_stored : (tables : List PagedTable) (n : ℕ) (t : PagedTable) → n < length (stored tables) → t ≡ get_or tables n t → slice_get (stored tables) n ≡ Some (stored_of t)
-got_stored tables n t lt at = slice_get_read (stored tables) (length (stored tables)) n (stored_of t) refl lt (at_stored tables n t at)
-
 pub within_tables : (name : List ℕ) (tables : List PagedTable) (n : ℕ) → n ≡ place name tables → IsSome (find_table name (database (stored tables))) → n < length tables
 within_tables name tables n is some = subst (λ (k : ℕ). n < k) (length-map tables stored_of) (within name (stored tables) n (is ∙ before_stored name tables) some)
 
@@ -134,9 +131,6 @@ put_edited name row tables n old new named is got fresh schema rows =
     edit name (put_in_table row) tables n old new named at (ap (λ (s : Schema). s.name) schema) done.was done.wrote
 
 -- ---- another name
-
-same_stored : (t t' : TableRows) (n n' : ℕ) → t ≡ t' → n ≡ n' → let a : StoredTable = record { table = t; spare = n } in a ≡ record { table = t'; spare = n' }
-same_stored t t' n n' table spare = cc
 
 pub renamed_at : (tables : List PagedTable) (n : ℕ) (old new : PagedTable) (name had : List ℕ) → slice_get tables n ≡ Some old → new.table ≡ name_table name old.table → new.spare ≡ old.spare → had ≡ old.table.schema.name
     → IfSome (slice_get (stored tables) n) (λ s. (had ≡ s.table.schema.name) × (stored (set tables n new) ≡ slice_set (stored tables) n (name_stored name s)))

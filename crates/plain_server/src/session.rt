@@ -48,9 +48,6 @@ pub struct Session {
     pub polls: u32,
 }
 
-/// Sessions in the order of connecting.
-pub type Sessions = Sequence<Session>;
-
 /// A request that waits.
 #[derive(Debug, Drop)]
 pub struct Waiting {

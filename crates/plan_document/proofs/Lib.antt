@@ -1,3 +1,2 @@
-mod OneTable
 pub mod Opened
 pub mod Walks

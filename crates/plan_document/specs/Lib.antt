@@ -3,5 +3,4 @@ pub mod Openings
 pub mod Orders
 pub mod Plans
 pub mod Refusals
-pub mod Running
 pub mod Walks

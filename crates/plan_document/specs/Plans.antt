@@ -1,4 +1,4 @@
--- *Reads*: what a plan's bytes say, or the first refusal (the TOML specification; the rest is this project's rule).
+-- *Read*: what a plan's bytes say, or the first refusal (the TOML specification; the rest is this project's rule).
 use Rattle.std.specs.Prelude.{ℕ, nat_lt, if◌then◌else◌, List, length, Option, None, Result, Ok, Err}
 use Rattle.std.specs.Str.{is_utf8}
 use Rattle.toml.specs.Data.{Members}
@@ -9,12 +9,11 @@ use Rattle.plan_words.specs.PlanData.{PlanData}
 use Rattle.plan_keys.specs.PlanKeys.{KeyData, keys_of}
 use Rattle.plan_document.specs.declared.limits.TheConstants.{PLAN_LIMIT}
 use Rattle.plan_document.specs.declared.fault.PlanRefusal.{PlanRefusal}
-use Rattle.plan_document.specs.declared.fault.PlanRefusal.TheVariants.{TooLong, NotToml, NotBuilt}
+use Rattle.plan_document.specs.declared.fault.PlanRefusal.TheVariants.{TooLong, NotToml}
 use Rattle.plan_document.specs.Refusals.{of_keys, or_refused}
 use Rattle.plan_document.specs.Openings.{OpeningData, opening_of}
 use Rattle.plan_document.specs.Clients.{clients_of}
 use Rattle.plan_document.specs.Orders.{OrderData, few_orders, orders_of}
-use Rattle.plan_document.specs.Running.{is_run}
 
 -- the plan of these parts
 abbrev pub plan_of : KeyData → OpeningData → List (List ScriptLine) → OrderData → PlanData
@@ -51,11 +50,3 @@ document bytes = if is_utf8 bytes then parse_document bytes else None
 -- what the document is refused for.
 unfoldable pub read : List ℕ → Result PlanData PlanRefusal
 read bytes = if nat_lt PLAN_LIMIT (length bytes) then Err TooLong else (or_refused NotToml (document bytes) >>= plan_at)
-
--- the plan, where it is run today
-abbrev pub if_run : PlanData → Result PlanData PlanRefusal
-if_run plan = if is_run plan then Ok plan else Err NotBuilt
-
--- *Reads*: the plan of the bytes, where it is run today. That it isn't is the last refusal.
-unfoldable pub reads : List ℕ → Result PlanData PlanRefusal
-reads bytes = read bytes >>= if_run

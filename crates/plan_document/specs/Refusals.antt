@@ -18,7 +18,7 @@ use Rattle.turn_reader.specs.declared.fault.TurnRefusal.{TurnRefusal}
 use Rattle.plan_document.specs.declared.fault.Place.{Place}
 use Rattle.plan_document.specs.declared.fault.Place.TheVariants as places
 use Rattle.plan_document.specs.declared.fault.PlanRefusal.{PlanRefusal}
-use Rattle.plan_document.specs.declared.fault.PlanRefusal.TheVariants.{TooLong, NotToml, Keys, Tables, NoTable, Leftover, Alter, Script, Operator, Fault, Turn, NotBuilt}
+use Rattle.plan_document.specs.declared.fault.PlanRefusal.TheVariants.{TooLong, NotToml, Keys, Tables, NoTable, Leftover, Alter, Script, Operator, Fault, Turn}
 use Rattle.plan_document.specs.declared.fault.PlanFault.{PlanFault}
 use Rattle.plan_document.specs.declared.fault.PlanFault.TheVariants as faults
 
@@ -54,7 +54,6 @@ refusal_code (Script client refusal) = script_code refusal.code
 refusal_code (Operator refusal) = order_code refusal
 refusal_code (Fault fault refusal) = order_code refusal
 refusal_code (Turn refusal) = (56, codes "unknown_name")
-refusal_code NotBuilt = (60, codes "not_built")
 
 -- ---- places
 
@@ -81,7 +80,6 @@ refusal_place (Script client refusal) = places.Client client refusal.line
 refusal_place (Operator refusal) = operator_place refusal
 refusal_place (Fault fault refusal) = places.Fault fault
 refusal_place (Turn refusal) = places.TurnWord refusal.word
-refusal_place NotBuilt = places.Nowhere
 
 -- ---- what a part's refusal is to the plan
 

@@ -76,8 +76,6 @@ pub enum PlanRefusal {
     },
     /// 56: a word of the order of turns.
     Turn(TurnRefusal),
-    /// 60: the plan asks for what isn't run yet.
-    NotBuilt,
 }
 
 fn script_code(code: ScriptCode) -> (u16, &'static str)
@@ -142,7 +140,6 @@ impl PlanRefusal {
             PlanRefusal::Operator(refusal) => order_code(refusal),
             PlanRefusal::Fault { refusal, .. } => order_code(refusal),
             PlanRefusal::Turn(_) => (56, "unknown_name"),
-            PlanRefusal::NotBuilt => (60, "not_built"),
         }
     }
 
@@ -165,7 +162,6 @@ impl PlanRefusal {
             PlanRefusal::Operator(refusal) => operator_place(refusal),
             PlanRefusal::Fault { fault, .. } => Place::Fault(fault),
             PlanRefusal::Turn(refusal) => Place::TurnWord(refusal.word),
-            PlanRefusal::NotBuilt => Place::Nowhere,
         }
     }
 }

@@ -7,9 +7,7 @@ mod limits;
 mod openings;
 mod orders;
 mod plans;
-mod running;
 
 pub use fault::{Place, PlanFault, PlanRefusal};
 pub use limits::{COMMAND_LIMIT, OPEN_SELECT_LIMIT, ORDER_LIMIT, PLAN_LIMIT, STATEMENT_LIMIT};
-pub use plans::{read_any_plan, read_plan};
-pub use running::is_run;
+pub use plans::read_plan;

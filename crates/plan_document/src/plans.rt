@@ -1,6 +1,6 @@
 //! A plan's document.
 
-ghost use Rattle.std.specs.Prelude.{◌≡◌, ◌≤◌, length, IfOk, Some};
+ghost use Rattle.std.specs.Prelude.{◌≤◌, length, IfOk, Some};
 ghost use Rattle.std.specs.List.{AllByRecursion};
 ghost use Rattle.row_store.specs.Databases.{database};
 ghost use Rattle.toml.specs.View.{table_view};
@@ -11,7 +11,7 @@ ghost use Rattle.plan_keys.specs.PlanKeys.{keys_of, key_data};
 ghost use Rattle.plan_tables.specs.Tables.{IsSound};
 ghost use Rattle.plan_document.specs.Openings.{opening_data};
 ghost use Rattle.plan_document.specs.Orders.{order_data};
-ghost use Rattle.plan_document.specs.Plans.{plan_of, keys_in, plan_at, document, read, if_run, reads};
+ghost use Rattle.plan_document.specs.Plans.{plan_of, keys_in, plan_at, document, read};
 ghost use Rattle.plan_document.specs.Refusals.{Reads, of_keys, or_refused};
 ghost use Rattle.plan_document.specs.declared.fault.PlanRefusal.TheVariants.{NotToml};
 
@@ -20,7 +20,6 @@ use crate::fault::{PlanFault, PlanRefusal};
 use crate::limits::PLAN_LIMIT;
 use crate::openings::opening_of;
 use crate::orders::{few_orders, orders_of};
-use crate::running::is_run;
 use gho_values::Name;
 use plan_keys::{KeyFault, PlanKeys, keys_of};
 use plan_words::{Plan, PlanParts};
@@ -90,10 +89,10 @@ fn document_of(alloc: Global, bytes: &[u8]) -> Result<Table, PlanFault>
     }
 }
 
-/// The plan that these bytes are, whether or not it is run today: its tables are tables of lawful schemas. That schemas
-/// which are read are lawful is a law: `schema_laws` proves it.
+/// The plan that these bytes are: its tables are tables of lawful schemas. That schemas which are read are lawful is a
+/// law: `schema_laws` proves it.
 #[tactic(auto, unfolding(crate::specs::Plans::read))]
-pub fn read_any_plan(alloc: Global, bytes: &[u8]) -> Result<Plan, PlanFault>
+pub fn read_plan(alloc: Global, bytes: &[u8]) -> Result<Plan, PlanFault>
     requires { ReadSchemasAreLawful }
     ensures plan { Reads (λ plan. plan) result (read bytes.now) }
     ensures sound { IfOk result (λ plan. AllByRecursion IsSound plan.tables) }
@@ -103,27 +102,4 @@ pub fn read_any_plan(alloc: Global, bytes: &[u8]) -> Result<Plan, PlanFault>
     }
     let document = document_of(alloc, bytes)?;
     plan_at(alloc, &document)
-}
-
-/// The plan, where it is run today.
-fn if_run(plan: Plan) -> Result<Plan, PlanFault>
-    ensures plan { Reads (λ plan. plan) result (if_run plan) }
-    ensures same { IfOk result (λ read. read ≡ plan) }
-{
-    if is_run(&plan) {
-        Ok(plan)
-    } else {
-        Err(PlanFault::Refused(PlanRefusal::NotBuilt))
-    }
-}
-
-/// The plan that these bytes are, where it is run today.
-#[tactic(auto, unfolding(crate::specs::Plans::reads))]
-pub fn read_plan(alloc: Global, bytes: &[u8]) -> Result<Plan, PlanFault>
-    requires { ReadSchemasAreLawful }
-    ensures plan { Reads (λ plan. plan) result (reads bytes.now) }
-    ensures sound { IfOk result (λ plan. AllByRecursion IsSound plan.tables) }
-{
-    let plan = read_any_plan(alloc, bytes)?;
-    if_run(plan)
 }

@@ -11,13 +11,13 @@ use Rattle.journal_words.specs.Sessions.{KeepsSessions}
 use Rattle.migration_program.specs.Orders.{actors, is_ready, Found, Queue, first_ready, from_pass, from_round, from_words, actor_of, chosen, queue_at, next_actor, IsReplay}
 use Rattle.migration_program.specs.Verdicts.{has_ended, verdict_of}
 use Rattle.run_laws.specs.Kept.{IsKept}
-use Rattle.replay_laws.specs.Laws.{OneReplay}
+use Rattle.migration_program.specs.ReplayLaws.Laws.{OneReplay}
 use Rattle.accepted_laws.specs.Laws.{WasRead}
 use Rattle.accepted_runs.specs.Laws.{AcceptedRunsAreSerial, AcceptedRenamesFindTheAltered, AcceptedRunsAreOnline, AcceptedRunsGoOn, AcceptedCausesStand}
 use Rattle.whole_run.specs.Runs.{RunView, is_over, Stops}
-use Rattle.whole_replay.specs.Replays.{IsStalled}
-use Rattle.whole_replay.specs.declared.replaying.Replayed.{Replayed}
-use Rattle.whole_replay.specs.declared.replaying.Replayed.TheVariants as replayed
+use Rattle.whole_run.specs.WholeReplay.Replays.{IsStalled}
+use Rattle.whole_run.specs.declared.whole_replay.replaying.Replayed.{Replayed}
+use Rattle.whole_run.specs.declared.whole_replay.replaying.Replayed.TheVariants as replayed
 use Rattle.plan_replays.specs.Replays.{IsWholeReplay, IsEnd}
 
 abbrev kept_of : (plan : PlanData) (journal : List Entry) → IsReplay plan journal → KeepsSessions journal → IsKept plan journal

@@ -15,8 +15,8 @@ use Rattle.migration_program.specs.Online.{IsOnline}
 use Rattle.migration_program.specs.Orders.{IsReplay}
 use Rattle.migration_program.specs.Verdicts.{verdict_of}
 use Rattle.ghost_laws.specs.Copies.{IsAltered}
-use Rattle.planning_laws.specs.Laws.{migration_of}
-use Rattle.rename_laws.specs.Laws.{IsRename}
+use Rattle.migration_laws.specs.PlanningLaws.Laws.{migration_of}
+use Rattle.revert_laws.specs.RenameLaws.Laws.{IsRename}
 use Rattle.whole_run.specs.Runs.{is_over, Stops}
 
 -- *Finds the altered table*: where the RENAME is done in some turn of the journal, the new table is then what the plan's

@@ -5,8 +5,10 @@ ghost use Rattle.journal_words.specs.Journals.{opening};
 ghost use Rattle.accepted_laws.specs.Laws.{WasRead};
 
 use accepted_laws::laws::read_plans_are_serial;
+use accepted_laws::option_laws::read_options_allow;
+use changelog_table::log_name;
 use final_server::{FinalServer, open_server};
-use option_laws::laws::read_options_allow;
+use gho_values::{Duplicate, Names, Sequence};
 use paged_tables::Tables;
 use plain_server::Limits;
 use plan_words::Plan;
@@ -23,6 +25,12 @@ fn limits_of(plan: &Plan) -> Limits
     }
 }
 
+/// The tables whose events the applier reads.
+fn watched_in(alloc: Global, plan: &Plan) -> Result<Names, AllocError> {
+    let table = plan.table();
+    Ok(Sequence::from_vec(vec![in alloc; table.copy()?, log_name(alloc, table)?]?))
+}
+
 /// The final server at the plan's opening.
 #[tactic(auto, using(crate::proofs::AtOpening::orderly, crate::proofs::AtOpening::at_opening))]
 pub(crate) fn open_plan(alloc: Global, plan: &Plan) -> Result<FinalServer, AllocError>
@@ -32,5 +40,6 @@ pub(crate) fn open_plan(alloc: Global, plan: &Plan) -> Result<FinalServer, Alloc
     read_plans_are_serial();
     read_options_allow();
     let tables = Tables::from_plain(alloc, plan.tables())?;
-    Ok(open_server(alloc, tables, limits_of(plan)))
+    let watched = watched_in(alloc, plan)?;
+    Ok(open_server(alloc, tables, limits_of(plan), watched))
 }

@@ -4,20 +4,20 @@ ghost use Rattle.std.specs.Prelude.{◌≡◌, ◌≢◌, Some, IfSome, IfOk};
 ghost use Rattle.journal_words.specs.Journals.{opening};
 ghost use Rattle.migration_program.specs.Verdicts.{verdict_of};
 ghost use Rattle.accepted_laws.specs.Laws.{WasRead};
-ghost use Rattle.whole_replay.specs.declared.replaying.Replayed.TheVariants as answers;
+ghost use Rattle.whole_run.specs.declared.whole_replay.replaying.Replayed.TheVariants as answers;
 ghost use Rattle.plan_replays.specs.Replays.{IsWholeReplay, IsEnd};
 
 use crate::opening::open_plan;
 use accepted_laws::laws::read_plans_are_runnable;
 use accepted_runs::laws::{accepted_runs_are_serial, accepted_runs_go_on};
 use final_server::FinalServer;
+use migration_program::replay_laws::replays_agree;
 use plain_server::{Journal, Verdict};
 use plan_words::Plan;
-use replay_laws::laws::replays_agree;
 use serving::Serve;
 use std::alloc::{AllocError, Global};
-use whole_replay::{Replayed, replay};
 use whole_run::Run;
+use whole_run::whole_replay::{Replayed, replay};
 
 /// How a replay ended.
 #[derive(Drop)]

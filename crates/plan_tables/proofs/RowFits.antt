@@ -11,6 +11,7 @@ use Rattle.gho_schema.specs.Tables.{IsRow}
 use Rattle.table_words.specs.declared.token.Token.{Token}
 use Rattle.table_words.specs.declared.tokens.TextWords.{TextWords}
 use Rattle.table_words.specs.Pieces.{behind_sign, literal_at}
+use Rattle.schema_rules.proofs.Steps.{some_is}
 use Rattle.plan_tables.specs.declared.fault.RowFault.{RowFault}
 use Rattle.plan_tables.specs.Refusals.{Finds}
 use Rattle.plan_tables.specs.RowTexts.{value_at, mark, values_at, is_empty, row_of}
@@ -24,9 +25,6 @@ record Bound {A B : Type 0} (read : Option A) (goes : A → Option B) (made : B)
 bound : {A B : Type 0} (read : Option A) (goes : A → Option B) (made : B) → (read >>= goes) ≡ Some made → Bound read goes made
 bound None goes made is = absurd (cc)
 bound (Some x) goes made is = record { x = x; read_is = refl; goes_on = is }
-
-some_is : {A : Type 0} (x y : A) → Some x ≡ Some y → x ≡ y
-some_is x y is = cc
 
 stored : (r : Result Value Unfit) (value : Value) → result_ok r ≡ Some value → r ≡ Ok value
 stored (Ok value') value is = cc

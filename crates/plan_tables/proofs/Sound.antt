@@ -1,26 +1,25 @@
 -- Tables that are read are tables of lawful schemas.
-use Rattle.std.proofs.Common.{◌≡◌, ℕ, ◌<◌, Bool, true, false, cond, is_some, List, [], ◌∷◌, ◌++◌, length, Option, Some, None, Result, Ok, Err, IfOk, refl, sym, subst}
-use Rattle.std.specs.List.{AllByRecursion, list_all, slice_get}
+use Rattle.std.proofs.Common.{◌≡◌, ℕ, Bool, false, cond, is_some, List, [], ◌∷◌, ◌++◌, Option, Some, None, Result, Ok, Err, IfOk, refl, sym, subst}
+use Rattle.std.specs.List.{AllByRecursion, list_all}
 use Rattle.std.specs.Option.{option_and_then}
 use Rattle.gho_values.specs.declared.value.Value.{Value}
 use Rattle.gho_values.specs.Laws.{StoresAgain}
-use Rattle.gho_schema.specs.declared.schema.Index.{Index}
 use Rattle.gho_schema.specs.declared.schema.Schema.{Schema}
-use Rattle.gho_schema.specs.Clustering.{is_not_null, unique_at, clustered_place, clustered_key}
-use Rattle.gho_schema.specs.Rows.{key_places, places_of, with_row}
+use Rattle.gho_schema.specs.Rows.{key_places, with_row}
 use Rattle.gho_schema.specs.Tables.{IsRow, IsTable}
 use Rattle.row_store.specs.ClusteredKeys.{HasClusteredKey}
 use Rattle.row_store.specs.Databases.{TableRows, Database, StoredTable, clashing, has_table}
 use Rattle.row_store.specs.Laws.{PutKeepsTables}
-use Rattle.schema_rules.proofs.Lists.{list_all-All, All-at, All-append}
+use Rattle.schema_rules.proofs.Lists.{All-append}
 use Rattle.schema_rules.proofs.Steps.{bind_ok, kept_out}
-use Rattle.schema_rules.specs.Lawful.{IsLawful, IsKey, IsNotNull}
+use Rattle.schema_rules.specs.Lawful.{IsLawful}
 use Rattle.schema_rules.specs.Results.{◌>>=◌}
 use Rattle.schema_text.specs.Laws.{ReadSchemasAreLawful}
 use Rattle.schema_text.specs.Reading.{schema_at}
 use Rattle.table_words.specs.Tokens.{text_words}
 use Rattle.table_words.specs.declared.code.SchemaCode.{SchemaCode}
 use Rattle.plan_keys.specs.Limits.{TableData}
+use Rattle.plan_words.proofs.KeyedSchemas.{lawful_keyed}
 use Rattle.plan_tables.specs.declared.fault.TableFault.{TableFault}
 use Rattle.plan_tables.specs.RowTexts.{row_at}
 use Rattle.plan_tables.specs.Rows.{with_put, put_text, or_bad, next_number, put_texts}
@@ -81,27 +80,13 @@ texts_kept laws number table made (text ∷ texts) keyed is_table is =
 
 -- ---- the clustered key of a lawful schema
 
-one_keyed : (schema : Schema) (o : Option Index) → ((index : Index) → o ≡ Some index → IsKey (length schema.columns) index) → IsNotNull schema.columns o
-    → (0 < length (places_of o)) × AllByRecursion (λ place. is_not_null (slice_get schema.columns place) ≡ true) (places_of o)
-one_keyed schema None is_key all = absurd all
-one_keyed schema (Some index) is_key all = ((is_key index refl).some, list_all-All (λ place. is_not_null (slice_get schema.columns place)) index.places all)
-
-unique_is_key : (schema : Schema) (place : Option ℕ) (index : Index) → IsLawful schema → unique_at schema.uniques place ≡ Some index → IsKey (length schema.columns) index
-unique_is_key schema None index lawful is = absurd (cc)
-unique_is_key schema (Some place) index lawful is = All-at (IsKey (length schema.columns)) schema.uniques place index lawful.uniques is
-
-pub keyed : (schema : Schema) → IsLawful schema → HasClusteredKey schema
-keyed schema lawful =
-    let both = one_keyed schema (clustered_key schema) (λ index is. unique_is_key schema (clustered_place schema) index lawful is) lawful.clustered in
-    record { some = both.0; not_null = both.1 }
-
 -- ---- tables
 
 pub schema_was : (number : ℕ) (read : Result Schema SchemaCode) (schema : Schema) → of_schema number read ≡ Ok schema → read ≡ Ok schema
 schema_was number (Ok x) schema is = cc
 schema_was number (Err code) schema is = absurd (cc)
 
-rows_were : (number : ℕ) (read : Result TableRows ℕ) (table : TableRows) → of_rows number read ≡ Ok table → read ≡ Ok table
+pub rows_were : (number : ℕ) (read : Result TableRows ℕ) (table : TableRows) → of_rows number read ≡ Ok table → read ≡ Ok table
 rows_were number (Ok x) table is = cc
 rows_were number (Err row) table is = absurd (cc)
 
@@ -119,7 +104,7 @@ table_is laws lawful migrated number tables texts table is =
     let bare : TableRows = record { schema = schema.0; rows = [] } in
     let parts = kept_out (has_table schema.0.name tables) bare empty.0 _ empty.1 in
     let put : put_texts 1 bare texts.rows ≡ Ok table = subst (λ (t : TableRows). put_texts 1 t texts.rows ≡ Ok table) (sym parts.1) (rows_were number (put_texts 1 empty.0 texts.rows) table empty.2) in
-    let kept = texts_kept laws 1 bare table texts.rows (keyed schema.0 is_lawful) (record { rows_fit = tt; ascends = tt; apart = tt }) put in
+    let kept = texts_kept laws 1 bare table texts.rows (lawful_keyed schema.0 is_lawful) (record { rows_fit = tt; ascends = tt; apart = tt }) put in
     record {
       sound = record { lawful = subst IsLawful (sym kept.schema_is) is_lawful; is_table = kept.is_table };
       new = subst (λ (s : Schema). has_table s.name tables ≡ false) (sym kept.schema_is) parts.0;
@@ -139,7 +124,7 @@ tables_are laws lawful migrated number tables (first ∷ texts) made all is =
 pub new_keyed : (number : ℕ) (tables : Database) (schema : Schema) (table : TableRows) → IsLawful schema → newly_named number tables schema ≡ Ok table → HasClusteredKey table.schema
 new_keyed number tables schema table lawful is =
     let parts = kept_out (has_table schema.name tables) (record { schema = schema; rows = [] }) table _ is in
-    subst (λ (t : TableRows). HasClusteredKey t.schema) parts.1 (keyed schema lawful)
+    subst (λ (t : TableRows). HasClusteredKey t.schema) parts.1 (lawful_keyed schema lawful)
 
 -- a table that was read has the name of its schema
 pub still_new : (found : Result StoredTable TableFault) (schema : Schema) (tables : Database) → IfOk found (λ read. read.table.schema ≡ schema) → has_table schema.name tables ≡ false → IfOk found (λ read. has_table read.table.schema.name tables ≡ false)

@@ -1,6 +1,4 @@
-pub mod Histories
-pub mod Journals
-pub mod Migratable
+pub mod KeptRows
 pub mod PlanData
 pub mod PlanOptions
 pub mod PlanParts

@@ -2,12 +2,9 @@
 use Rattle.std.specs.Prelude.{ℕ, List, [], unwrap_or, Option, Some, None}
 use Rattle.std.specs.Option.{option_map}
 use Rattle.std.specs.Result.{result_ok}
-use Rattle.gho_values.specs.declared.value.Value.{Value}
 use Rattle.gho_schema.specs.declared.schema.Schema.{Schema}
-use Rattle.gho_schema.specs.Options.{◌>>=◌}
 use Rattle.alter_image.specs.declared.clause.Clause.{Clause}
 use Rattle.alter_image.specs.declared.map.MapColumn.{MapColumn}
-use Rattle.alter_image.specs.Images.{images}
 use Rattle.alter_schema.specs.Altering.{altered}
 use Rattle.row_store.specs.Databases.{TableRows, Database, find_table}
 use Rattle.script_text.specs.declared.loss.Loss.{Loss}
@@ -41,14 +38,6 @@ Altered = Schema × List MapColumn
 -- what the plan's clauses make of a schema; none where they are refused
 abbrev pub altered_by : PlanData → Schema → Option Altered
 altered_by plan schema = result_ok (altered plan.options.approve_renamed_columns schema plan.alter)
-
--- *Altered table*: the new schema and the image of every row. There is none where the clauses are refused or a row has
--- no image.
-unfoldable pub altered_table : PlanData → Schema → List (List Value) → Option (Schema × List (List Value))
-altered_table plan schema rows = do
-  new ← altered_by plan schema
-  rows ← images new.1 rows
-  Some (new.0, rows)
 
 -- the new schema of the migrated table, and where its columns' values come from; none where the ALTER is refused
 abbrev pub altered_in : PlanData → Option TableRows → Option Altered

@@ -1,5 +1,5 @@
 -- Runs of turns.
-use Rattle.std.proofs.Common.{◌≡◌, ℕ, ◌+◌, ◌<◌, ◌≤◌, ◌^◌, Bool, true, false, List, [], ◌∷◌, ◌++◌, length, drop, get_or, Option, Some, None, refl, sym, ◌∙◌, ap, ap₂, arith, append-nil, append_assoc}
+use Rattle.std.proofs.Common.{◌≡◌, ℕ, ◌+◌, ◌<◌, ◌≤◌, Bool, true, false, List, [], ◌∷◌, ◌++◌, length, drop, get_or, Option, Some, None, refl, sym, ◌∙◌, ap, ap₂, arith, append-nil, append_assoc}
 use Rattle.std.proofs.lemmas.List.{drop_all, drop_more}
 use Rattle.std.specs.Prelude.{IfSome}
 use Rattle.script_text.specs.declared.actor.Actor.{Actor}
@@ -113,10 +113,6 @@ few_on last entry index false turn few = rw turn (few_with last entry.actor inde
 
 pub next_few : (last next : Option OpenRun) (entry : Entry) (index : ℕ) → next ≡ open_behind last entry → IfSome last (λ run. run.times ≤ index) → IfSome next (λ run. run.times ≤ index + 1)
 next_few last next entry index is few = rw is (few_on last entry index (is_cut entry.asked) refl few)
-
-pub small_enough : (last : Option OpenRun) (index size : ℕ) → index < size → size < 2 ^ 63 → IfSome last (λ run. run.times ≤ index) → IfSome last (λ run. run.times < 2 ^ 63)
-small_enough None index size within small few = tt
-small_enough (Some last) index size within small few = let times : last.times ≤ index = few in omega (arith, times, within, small)
 
 pub last_text : (last : Option OpenRun) (journal : List Entry) (index : ℕ) (into after first : List ℕ) → length journal ≤ index → after ≡ into ++ order_text (runs_open last []) → into ++ order_text (runs_open last (turns_taken (drop index journal))) ≡ first → after ≡ first
 unfolding turns_taken

@@ -21,30 +21,26 @@ use Rattle.migration_program.specs.Tools.{Course, Migrating, Work, is_reverting,
 use Rattle.history_laws.specs.Plans.{limits_of, scene_of}
 use Rattle.history_laws.specs.Scenes.{no_hold}
 use Rattle.statement_laws.proofs.Tests.{turned}
-use Rattle.ghost_rows.specs.Moments.{Row}
-use Rattle.ghost_rows.specs.Timelines.{Migration}
+use Rattle.ghost_laws.specs.GhostRows.Moments.{Row}
+use Rattle.ghost_laws.specs.GhostRows.Timelines.{Migration}
 use Rattle.ghost_laws.specs.Holding.{Clustered}
-use Rattle.ghost_laws.specs.Running.ApplyPlan.{Planned, Resting, Returning}
-use Rattle.ghost_laws.specs.Running.{ApplyPlan, ToolMoment, ToolStands}
-use Rattle.ghost_laws.specs.Running.ToolStands.{at_rest, at_work, halfway, returns}
+use Rattle.ghost_laws.specs.Running.{ToolStands}
 use Rattle.ghost_laws.specs.Tool.{CopyState}
-use Rattle.ghost_laws.specs.Tool.CopyState.{Waiting}
-use Rattle.apply_laws.specs.Applying.{plan_at}
-use Rattle.copy_laws.specs.Copying.{copy_state, moment_of}
+use Rattle.migration_laws.specs.ApplyLaws.Applying.{plan_at}
+use Rattle.migration_laws.specs.CopyLaws.Copying.{copy_state, moment_of}
 use Rattle.machine_laws.specs.Standings.{standing_of}
 use Rattle.machine_laws.proofs.Asking.{unless_called}
 use Rattle.machine_laws.proofs.Journals.{IsTogether, apply_called}
 use Rattle.migration_laws.specs.Machines.{IsUnbusy, Machines, MigrationStands, hold_at}
 use Rattle.migration_laws.specs.Machines.MigrationMove.{applier_moves, copier_moves}
 use Rattle.migration_laws.proofs.Migrating.{moves_keep}
-use Rattle.unaltered_laws.proofs.Away.{IsKnownAsked}
-use Rattle.follow_turns.specs.Goes.{CopyWaits, Goes, machines_in}
-use Rattle.follow_turns.proofs.Seats.{SomeSeats, new_holds, some_seats}
+use Rattle.migration_laws.proofs.Moving.{copied_state}
+use Rattle.course_laws.proofs.UnalteredLaws.Away.{IsKnownAsked}
+use Rattle.follow_laws.specs.FollowTurns.Goes.{CopyWaits, Goes, machines_in}
+use Rattle.follow_laws.proofs.FollowTurns.Seats.{SomeSeats, new_holds, some_seats}
+use Rattle.follow_laws.proofs.FollowTurns.Goes.{rests_own}
 use Rattle.revert_laws.proofs.Stays.{StandsAt}
 use Rattle.revert_laws.proofs.Frozen.{CallsQuiet, Frozen, IsHarmless, IsQuiet, WaitsHarmless}
-
-copied_state : (journal : List Entry) (copier : Copier) → copier.is_copied ≡ true → copy_state journal copier ≡ Waiting None
-copied_state journal copier is = rw is refl
 
 -- a copier that has copied the range asks for nothing
 no_next : (journal : List Entry) (copier : Copier) (request : Request) → copier.is_copied ≡ true → copiers.next journal copier ≡ Some request → ⊥
@@ -52,18 +48,6 @@ unfolding copiers.next
 no_next journal copier request is some = no (sym (ap (λ (b : Bool). cond b None (copiers.call_in journal copier copier.range)) is) ∙ some) where
   no : None ≡ Some request → ⊥
   no same = cc
-
-abbrev Rests : ApplyPlan → Type 0
-Rests Resting = Unit {0}
-Rests (Planned next todo) = ⊥
-Rests (Returning next before after rest) = ⊥
-
--- where the applier rests its session holds nothing
-rests_own : (m : Migration) (at : Clustered m.schema) (rows : List Row) (copier applier : ℕ) (now : ToolMoment) → now.plan ≡ Resting → ToolStands m at rows copier applier now → now.hold applier ≡ no_hold
-rests_own m at rows copier applier now rests (at_rest is kept) = kept.tool.applying.rests
-rests_own m at rows copier applier now rests (at_work next todo is kept) = absurd (subst Rests (sym rests ∙ is) tt)
-rests_own m at rows copier applier now rests (halfway next old row rest is kept) = absurd (subst Rests (sym rests ∙ is) tt)
-rests_own m at rows copier applier now rests (returns next old row rest is kept) = absurd (subst Rests (sym rests ∙ is) tt)
 
 apart_less : (a b : ℕ) → a < b → (a == b) ≡ false
 apart_less a b less = grind (arith, nat_tests)

@@ -22,8 +22,8 @@ use Rattle.history_laws.specs.Plans.{limits_of, scene_of}
 use Rattle.history_laws.specs.Turns.{about, told_at}
 use Rattle.history_laws.proofs.Actors.{Placed, named_differs, placed, same_actor_is}
 use Rattle.statement_laws.proofs.Tests.{turned}
-use Rattle.ghost_rows.specs.Moments.{Row}
-use Rattle.ghost_rows.specs.Timelines.{Migration}
+use Rattle.ghost_laws.specs.GhostRows.Moments.{Row}
+use Rattle.ghost_laws.specs.GhostRows.Timelines.{Migration}
 use Rattle.ghost_laws.specs.Holding.{Clustered}
 use Rattle.run_laws.specs.Kept.{IsKept}
 use Rattle.machine_laws.specs.Standings.{IsAbout, Standing, answered, free, is_called, is_polled, standing_of}
@@ -35,13 +35,13 @@ use Rattle.migration_laws.specs.Away.{KeepsAway}
 use Rattle.migration_laws.specs.Machines.{Machines, MigrationStands}
 use Rattle.migration_laws.specs.Machines.MigrationTurn.{others_turn}
 use Rattle.migration_laws.proofs.Migrating.{turns_keep}
-use Rattle.unaltered_laws.specs.Laws.{IsUnaltered}
-use Rattle.unaltered_laws.proofs.Away.{IsKnownAsked, all_asked, unaltered_front}
-use Rattle.follow_turns.specs.Laws.{IsMigrationOf}
-use Rattle.follow_turns.proofs.Asked.{gave, waits_with}
-use Rattle.follow_turns.proofs.Follows.{kept_front, kept_run, kept_scene, unmarked_now}
-use Rattle.follow_turns.proofs.Goes.{in_scene}
-use Rattle.follow_turns.proofs.Others.{ghost_named, others_away}
+use Rattle.course_laws.specs.UnalteredLaws.Laws.{IsUnaltered}
+use Rattle.course_laws.proofs.UnalteredLaws.Away.{IsKnownAsked, all_asked, unaltered_front}
+use Rattle.follow_laws.specs.FollowTurns.Laws.{IsMigrationOf}
+use Rattle.follow_laws.proofs.FollowTurns.Asked.{gave, waits_with}
+use Rattle.follow_laws.proofs.FollowTurns.Follows.{kept_front, kept_run, kept_scene, unmarked_now}
+use Rattle.follow_laws.proofs.FollowTurns.Goes.{in_scene}
+use Rattle.follow_laws.proofs.FollowTurns.Others.{ghost_named, others_away}
 use Rattle.revert_laws.proofs.Stays.{MayStay, StandsAt, applier_stays}
 
 -- WHAT THE TWO MAY STILL ASK

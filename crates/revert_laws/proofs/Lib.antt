@@ -3,3 +3,7 @@ pub mod Frozen
 pub mod Begins
 pub mod Guarded
 pub mod Reverted
+pub mod GoingLaws
+pub mod OnceLaws
+pub mod RenameLaws
+pub mod UnfitLaws

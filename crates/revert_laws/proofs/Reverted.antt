@@ -30,38 +30,38 @@ use Rattle.migration_program.specs.Setups.{Setup}
 use Rattle.migration_program.specs.Tools.{Course, Migrating, SettingUp, Work, is_reverting, moment}
 use Rattle.history_laws.specs.Plans.{IsSerialPlan, limits_of, scene_of}
 use Rattle.history_laws.proofs.Actors.{named_keeps, placed}
-use Rattle.server_laws.specs.Others.{DefinitionsAreDone, ExclusiveIsAlone}
-use Rattle.ghost_rows.specs.Moments.{Row}
-use Rattle.ghost_rows.specs.Timelines.{Migration}
+use Rattle.history_laws.specs.ServerLaws.Others.{DefinitionsAreDone, ExclusiveIsAlone}
+use Rattle.ghost_laws.specs.GhostRows.Moments.{Row}
+use Rattle.ghost_laws.specs.GhostRows.Timelines.{Migration}
 use Rattle.ghost_laws.specs.Copies.{IsAltered}
 use Rattle.ghost_laws.specs.Holding.{Clustered}
 use Rattle.ghost_laws.proofs.Keys.{clustered}
-use Rattle.planning_laws.specs.Laws.{migration_of}
+use Rattle.migration_laws.specs.PlanningLaws.Laws.{migration_of}
 use Rattle.run_laws.specs.Kept.{IsKept}
 use Rattle.machine_laws.specs.Machines.{CourseStands, WorkStands, renaming}
 use Rattle.machine_laws.specs.Runnable.{IsRunnable}
 use Rattle.machine_laws.specs.Standings.{Standing, free, standing_of}
 use Rattle.machine_laws.proofs.Journals.{Asking, IsRun, IsTogether, calls_so, polls_so}
 use Rattle.migration_laws.proofs.Migrating.{ends}
-use Rattle.runnable_laws.specs.Laws.{AlterablePlansAreRunnable, IsAlterable, IsWorded}
-use Rattle.unaltered_laws.specs.Laws.{IsUnaltered}
-use Rattle.unaltered_laws.proofs.Away.{IsKnownAsked, all_asked, unaltered_front}
-use Rattle.ready_laws.proofs.Going.{CourseGoes, all_going}
+use Rattle.course_laws.specs.RunnableLaws.Laws.{AlterablePlansAreRunnable, IsAlterable, IsWorded}
+use Rattle.course_laws.specs.UnalteredLaws.Laws.{IsUnaltered}
+use Rattle.course_laws.proofs.UnalteredLaws.Away.{IsKnownAsked, all_asked, unaltered_front}
+use Rattle.course_laws.proofs.ReadyLaws.Going.{CourseGoes, all_going}
 use Rattle.sentry_laws.specs.Sentries.{Fits, HasSentry, scene}
 use Rattle.sentry_laws.specs.Turning.{AskedTurn, CourseHolds, CourseTurn, Holds, IsGuarded, IsTurned, last_session}
 use Rattle.sentry_laws.proofs.Inductions.{all_guarded}
-use Rattle.waits_laws.specs.Laws.{WaitsAreTold}
-use Rattle.follow_turns.specs.Goes.{Goes}
-use Rattle.follow_turns.specs.Laws.{GoesSomehow, IsMark, IsMigrationOf}
-use Rattle.follow_turns.proofs.Follows.{kept_front, kept_run, kept_scene}
-use Rattle.follow_turns.proofs.Goes.{in_scene}
+use Rattle.course_laws.specs.WaitsLaws.Laws.{WaitsAreTold}
+use Rattle.follow_laws.specs.FollowTurns.Goes.{Goes}
+use Rattle.follow_laws.specs.FollowTurns.Laws.{GoesSomehow, IsMark, IsMigrationOf}
+use Rattle.follow_laws.proofs.FollowTurns.Follows.{kept_front, kept_run, kept_scene}
+use Rattle.follow_laws.proofs.FollowTurns.Goes.{in_scene}
 use Rattle.follow_laws.specs.Laws.{FollowersAlter}
 use Rattle.follow_laws.proofs.Follows.{migration, own_table}
 use Rattle.follow_laws.proofs.Starts.{followers_go}
-use Rattle.marked_laws.specs.Laws.{IsMarkedAt, MarkedJournalsAreSerial}
-use Rattle.once_laws.specs.Laws.{RenamesComeOnce}
-use Rattle.rename_laws.specs.Laws.{IsRename, JournalsAreTurned}
-use Rattle.rename_laws.proofs.Renames.{Found, reads, renames_found, renames_marked}
+use Rattle.course_laws.specs.MarkedLaws.Laws.{IsMarkedAt, MarkedJournalsAreSerial}
+use Rattle.revert_laws.specs.OnceLaws.Laws.{RenamesComeOnce}
+use Rattle.revert_laws.specs.RenameLaws.Laws.{IsRename, JournalsAreTurned}
+use Rattle.revert_laws.proofs.RenameLaws.Renames.{Found, reads, renames_found, renames_marked}
 use Rattle.revert_laws.specs.Laws.{KeptJournalsAreSerial, RenamesFindTheAltered}
 use Rattle.revert_laws.proofs.Begins.{applier_quiet, copier_quiet, frozen_here}
 use Rattle.revert_laws.proofs.Frozen.{CallsQuiet, Frozen, IsHarmless, frozen_more}

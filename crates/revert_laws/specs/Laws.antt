@@ -6,10 +6,10 @@ use Rattle.journal_words.specs.Journals.{state_at}
 use Rattle.journal_words.specs.Serials.{IsSerial}
 use Rattle.history_laws.specs.Plans.{IsSerialPlan}
 use Rattle.ghost_laws.specs.Copies.{IsAltered}
-use Rattle.planning_laws.specs.Laws.{migration_of}
+use Rattle.migration_laws.specs.PlanningLaws.Laws.{migration_of}
 use Rattle.run_laws.specs.Kept.{IsKept}
-use Rattle.runnable_laws.specs.Laws.{IsAlterable, IsWorded}
-use Rattle.rename_laws.specs.Laws.{IsRename}
+use Rattle.course_laws.specs.RunnableLaws.Laws.{IsAlterable, IsWorded}
+use Rattle.revert_laws.specs.RenameLaws.Laws.{IsRename}
 
 -- *Renames find the altered table*: where the RENAME is done, the new table is the altered one, whether or not all is reverted.
 abbrev pub RenamesFindTheAltered : Type 0

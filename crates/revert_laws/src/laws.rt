@@ -2,14 +2,14 @@
 
 ghost use Rattle.revert_laws.specs.Laws.{KeptJournalsAreSerial, RenamesFindTheAltered};
 
+use crate::once_laws::renames_come_once;
+use crate::rename_laws::journals_are_turned;
+use course_laws::marked_laws::marked_journals_are_serial;
+use course_laws::runnable_laws::alterable_plans_are_runnable;
+use course_laws::waits_laws::waits_are_told;
 use follow_laws::laws::followers_alter;
 use gho_values::laws::stored_values_store_again;
-use marked_laws::laws::marked_journals_are_serial;
-use once_laws::laws::renames_come_once;
-use rename_laws::laws::journals_are_turned;
-use runnable_laws::laws::alterable_plans_are_runnable;
-use server_laws::laws::{definitions_are_done, exclusive_is_alone};
-use waits_laws::laws::waits_are_told;
+use history_laws::server_laws::{definitions_are_done, exclusive_is_alone};
 
 /// Where the RENAME is done the new table is the altered one, whether or not all is reverted.
 pub fn renames_find_the_altered()

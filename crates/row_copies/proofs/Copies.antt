@@ -1,5 +1,5 @@
 -- What a copy comes to, says and needs, of a session's tables: that of its two tables, as they are seen.
-use Rattle.std.proofs.Common.{◌≡◌, ℕ, List, [], Option, Some, None, refl, sym, ap, ◌∙◌, subst}
+use Rattle.std.proofs.Common.{◌≡◌, ℕ, List, [], Option, Some, None, sym, ap, ◌∙◌, subst}
 use Rattle.std.specs.Option.{option_map}
 use Rattle.alter_image.specs.declared.map.MapColumn.{MapColumn}
 use Rattle.event_codec.specs.declared.event.Change.{Change}
@@ -19,7 +19,7 @@ use Rattle.plain_server.specs.Jobs.{after_events, copy_from, copy_job, job_needs
 use Rattle.statement_laws.specs.Covering.{IsOrderlyTable, IsSound}
 use Rattle.statement_laws.specs.Databases.{WhereFound}
 use Rattle.history_laws.proofs.Tooling.{copies_sound}
-use Rattle.written_rows.specs.Written.{Written, nothing, wrote_all}
+use Rattle.written_rows.specs.Written.{Written, nothing}
 use Rattle.written_rows.specs.Stored.{StoredWrites}
 use Rattle.txn_session.specs.Events.{changes_in}
 use Rattle.txn_session.specs.Shown.{find_writes, Shows, Represents}
@@ -29,6 +29,7 @@ use Rattle.txn_session.proofs.KeyedEvents.{found_stands}
 use Rattle.txn_session.proofs.Represented.{represents_all}
 use Rattle.txn_session.proofs.SeenViews.{own_name, through, IsSeen, is_seen}
 use Rattle.txn_session.proofs.Views.{changed, found_changed}
+use Rattle.txn_session.proofs.Sayings.{nothing_wrote}
 
 -- A TABLE AS IT IS SEEN
 
@@ -46,11 +47,6 @@ sees_some tables txn name table writes of found ascends there shows =
     let shown : Shows (changes_in name txn.events) (Some writes) = subst (Shows (changes_in name txn.events)) (sym there) shows in
     let represents : Represents (key_places table.schema) (changes_in name txn.events) writes.written = subst (λ (s : Schema). Represents (key_places s) (changes_in name txn.events) writes.written) same shown in
     record { same = same; seen = is_seen tables txn.events name writes.written table (sym found) ascends of.fit of.orderly represents }
-
--- ... where nothing was
-nothing_wrote : (places : List ℕ) → wrote_all places [] nothing ≡ nothing
-unfolding wrote_all
-nothing_wrote places = refl
 
 pub sees_none : (tables : Database) (txn : StoredTxn) (name : List ℕ) (table : TableRows) (written : Written) → IsOf tables txn → Some table ≡ find_table name tables → Ascends (key_places table.schema) table.rows → None ≡ find_writes name txn.tables
     → Shows (changes_in name txn.events) (find_writes name txn.tables) → written ≡ nothing → IsSeen tables txn.events name written table

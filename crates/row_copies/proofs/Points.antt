@@ -15,7 +15,7 @@ use Rattle.row_store.specs.Databases.{TableRows, row_at_key}
 use Rattle.row_store.specs.RowLists.{is_at}
 use Rattle.plain_server.specs.Rows.{rows_met}
 use Rattle.statement_laws.specs.Covering.{IsOrderlyTable}
-use Rattle.server_laws.proofs.Spans.{rows_of_span}
+use Rattle.history_laws.proofs.ServerLaws.Spans.{rows_of_span}
 
 has_point : (key other : List Value) → has (point key) other ≡ is_eq (compare_keys key other)
 unfolding has

@@ -250,7 +250,7 @@ not_tied first key row other at less =
     let same = tied_keys key (key_of first row) at in
     rw (same) (first_less (compare_keys (key_of first row) (key_of first other)) less)
 
-eq_turned : (o : Ordering) → is_eq (ordering_reverse o) ≡ is_eq o
+pub eq_turned : (o : Ordering) → is_eq (ordering_reverse o) ≡ is_eq o
 eq_turned Less = refl
 eq_turned Equal = refl
 eq_turned Greater = refl

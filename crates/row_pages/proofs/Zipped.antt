@@ -1,6 +1,6 @@
 -- A loop that changes each element of a list in turn.
 use Rattle.std.proofs.Common.{◌≡◌, ◌∙◌, ℕ, zero, suc, ◌+◌, ◌<◌, ◌≤◌, List, [], ◌∷◌, length, take, drop, set, get_or, refl, sym, ap, subst, arith, add-one}
-use Rattle.std.specs.List.{AllByRecursion, AllZip}
+use Rattle.std.specs.List.{AllZip}
 
 -- so many elements are changed, and the others are as they were
 pub record IsHalfDone {X : Type 0} (R : X → X → Type 0) (n : ℕ) (old now : List X) : Type 0 where
@@ -9,9 +9,6 @@ pub record IsHalfDone {X : Type 0} (R : X → X → Type 0) (n : ℕ) (old now :
   pub size : length now ≡ length old
 
 module _ {X : Type 0} where
-  pub none_done : (R : X → X → Type 0) (xs : List X) → IsHalfDone R 0 xs xs
-  none_done R xs = record { changed = tt; others = refl; size = refl }
-
   changed_more : (R : X → X → Type 0) (n : ℕ) (old now : List X) (x d : X) → n < length old → length now ≡ length old → R (get_or old n d) x → AllZip R (take n old) (take n now) → AllZip R (take (suc n) old) (take (suc n) (set now n x))
   changed_more R n [] now x d lt size more zip = absurd (omega arith)
   changed_more R n (o ∷ old) [] x d lt size more zip = absurd (omega arith)
@@ -45,11 +42,6 @@ module _ {X : Type 0} where
   -- the next element is still the old one
   pub next_is : (R : X → X → Type 0) (n : ℕ) (old now : List X) (d : X) → IsHalfDone R n old now → n < length old → get_or now n d ≡ get_or old n d
   next_is R n old now d half lt = next_by n old now d half.others half.size lt
-
-  pub all_get : (P : X → Type 0) (n : ℕ) (xs : List X) (d : X) → AllByRecursion P xs → n < length xs → P (get_or xs n d)
-  all_get P n [] d all lt = absurd (omega arith)
-  all_get P zero (x ∷ xs) d all lt = all.0
-  all_get P (suc n) (x ∷ xs) d all lt = all_get P n xs d all.1 (omega arith)
 
   pub more_done : (R : X → X → Type 0) (n : ℕ) (old now : List X) (x y : X) → IsHalfDone R n old now → n < length old → y ≡ get_or now n y → R y x → IsHalfDone R (n + 1) old (set now n x)
   more_done R n old now x y half lt read done =

@@ -25,7 +25,7 @@ placed_ascends Greater places row first rows is other ascends placed =
     let less : compare_keys (key_of places first) (key_of places row) ≡ Less = keys_total.antisymm (key_of places first) (key_of places row) ∙ ap ordering_reverse is in
     (all-with_row (λ other. compare_keys (key_of places first) (key_of places other) ≡ Less) places row rows less ascends.0, placed)
 
-none_parts : (b : Bool) (row : Row) (rest : Option Row) → cond b (Some row) rest ≡ None → (b ≡ false) × (rest ≡ None)
+pub none_parts : (b : Bool) (row : Row) (rest : Option Row) → cond b (Some row) rest ≡ None → (b ≡ false) × (rest ≡ None)
 none_parts true row rest none = absurd (cc)
 none_parts false row rest none = (refl, none)
 

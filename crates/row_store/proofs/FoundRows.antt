@@ -142,3 +142,8 @@ has_none places key (row ∷ rows) none = none_has (is_at places key row) (list_
 
 pub put_new : (places : List ℕ) (row : Row) (rows : List Row) → find (is_at places (key_of places row)) rows ≡ None → unwrap_or (put places row rows) rows ≡ with_row places row rows
 put_new places row rows none = rw (has_none places (key_of places row) rows none) refl
+
+-- rows behind this one have other keys
+pub none_at : (places : List ℕ) (row : Row) (rows : List Row) → AllByRecursion (λ other. compare_keys (key_of places row) (key_of places other) ≡ Less) rows → AllByRecursion (λ other. is_at places (key_of places row) other ≡ false) rows
+none_at places row [] less = tt
+none_at places row (first ∷ rows) less = (ap is_eq less.0, none_at places row rows less.1)

@@ -126,7 +126,7 @@ pub record Renames (was now : NamedValues StoredTable) (n : ℕ) (name had had_k
   pub same : had_key ≡ had
   pub named : now.names ≡ table_names now.values
 
-same_stored : (t t' : TableRows) (n n' : ℕ) → t ≡ t' → n ≡ n' → let a : StoredTable = record { table = t; spare = n } in a ≡ record { table = t'; spare = n' }
+pub same_stored : (t t' : TableRows) (n n' : ℕ) → t ≡ t' → n ≡ n' → let a : StoredTable = record { table = t; spare = n } in a ≡ record { table = t'; spare = n' }
 same_stored t t' n n' table spare = cc
 
 some_same : {X : Type 0} {x y : X} → Some x ≡ Some y → x ≡ y

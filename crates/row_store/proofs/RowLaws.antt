@@ -82,7 +82,7 @@ filter_out test places row [] fails = rw fails refl
 filter_out test places row (first ∷ rows) fails = out_here test row first rows (with_row places row rows) (compare_keys (key_of places row) (key_of places first)) fails (filter_out test places row rows fails)
 
 -- a row that comes before all
-first_here : (o : Ordering) (row first : Row) (rows placed : List Row) → is_gt o ≡ false → match_ordering o (row ∷ first ∷ rows) (row ∷ first ∷ rows) (first ∷ placed) ≡ row ∷ first ∷ rows
+pub first_here : (o : Ordering) (row first : Row) (rows placed : List Row) → is_gt o ≡ false → match_ordering o (row ∷ first ∷ rows) (row ∷ first ∷ rows) (first ∷ placed) ≡ row ∷ first ∷ rows
 first_here Less row first rows placed is = refl
 first_here Equal row first rows placed is = refl
 first_here Greater row first rows placed is = absurd cc

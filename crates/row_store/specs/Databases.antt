@@ -64,10 +64,6 @@ rows_in table span = filter (λ row. has span (key_of (key_places table.schema) 
 abbrev pub with_change : List ℕ → (TableRows → TableRows) → Database → Database
 with_change name change tables = map (λ table. if is_named name table then change table else table) tables
 
--- the tables, where the one of this name has these rows
-abbrev pub with_rows : List ℕ → List (List Value) → Database → Database
-with_rows name rows tables = with_change name (λ table. record { schema = table.schema; rows = rows }) tables
-
 -- The table with a row more, in its place in order of the clustered key. Where a row has its key already, it stays as
 -- it was.
 abbrev pub put_in_table : List Value → TableRows → TableRows

@@ -17,7 +17,7 @@ use Rattle.plain_server.specs.Entries.{same_actor, is_client, is_command}
 use Rattle.plain_server.specs.States.{State, session_of}
 use Rattle.plain_server.specs.Serving.{serves, given_at}
 use Rattle.plan_words.specs.PlanData.{PlanData}
-use Rattle.journal_words.specs.Journals.{opening, opens, after_entry, state_behind, state_at, inner_answer, heard, IsAnswered, IsFaithful}
+use Rattle.journal_words.specs.Journals.{opening, opens, after_entry, state_behind, state_at, inner_answer, heard, IsAnswered, IsFaithful, may_lose}
 use Rattle.journal_words.specs.Sessions.{live_session, session_left, sessions_named, IsSeated, KeepsSessions}
 use Rattle.run_laws.specs.Counting.{AreApart, kind_of}
 use Rattle.run_laws.specs.Laws.{Living, SessionsAreKnown}
@@ -191,5 +191,8 @@ both plan journal faithful keeps =
 pub all_living : SessionsAreKnown
 all_living plan journal faithful keeps = (both plan journal faithful keeps).living
 
-pub all_known : (plan : PlanData) (journal : List Entry) → IsFaithful plan journal → KeepsSessions journal → SessionsKnown journal
-all_known plan journal faithful keeps = (both plan journal faithful keeps).known
+pub never_lost : (asked : Asked) → is_command asked ≡ true → may_lose asked ≡ false
+never_lost (Command word) is = refl
+never_lost (Call request) is = absurd (false≢true is)
+never_lost Poll is = absurd (false≢true is)
+never_lost Cut is = absurd (false≢true is)

@@ -28,10 +28,6 @@ does_numbered (Moves answer tables) made state number = refl
 does_numbered (Locks answer names) made state number = refl
 does_numbered (Unlocks answer) made state number = refl
 
-shown_numbered : (made : ℕ) (state : State) → waits_shown (numbered made state) ≡ waits_shown state
-unfolding waits_shown
-shown_numbered made state = refl
-
 deed_numbered : (outside busy : Bool) (seen : Database) (made : ℕ) (state : State) (request : Request) → deed_unless outside busy seen (numbered made state) request ≡ deed_unless outside busy seen state request
 unfolding waits_shown
 deed_numbered true busy seen made state request = refl

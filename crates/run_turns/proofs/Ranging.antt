@@ -6,7 +6,7 @@ use Rattle.row_store.specs.Databases.{TableRows, Database, find_table}
 use Rattle.plain_server.specs.Chunks.{keys_of, ends_of}
 use Rattle.plain_server.specs.Deeds.{of_table}
 use Rattle.tool_setup.specs.Meanings.{range_told}
-use Rattle.due_calls.specs.Ranges.{range_of, range_of_table, range_in}
+use Rattle.due_turns.specs.DueCalls.Ranges.{range_of, range_of_table, range_in}
 
 ends_range : (keys : List (List Value)) → range_told (ends_of keys) ≡ range_of keys
 ends_range [] = refl

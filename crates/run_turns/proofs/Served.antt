@@ -14,7 +14,7 @@ use Rattle.plain_server.specs.Entries.{is_client, is_command}
 use Rattle.plain_server.specs.Serving.{serves, leaves, given_at}
 use Rattle.plain_server.specs.States.{State, has_work, load}
 use Rattle.plan_words.specs.PlanData.{PlanData}
-use Rattle.journal_words.specs.Journals.{opening, opens_if, state_behind, state_at, after_entry, heard, missed, may_lose, IsAnswered}
+use Rattle.journal_words.specs.Journals.{opening, opens_if, state_behind, state_at, after_entry, heard, missed, IsAnswered}
 use Rattle.journal_words.specs.Keeping.{side_due}
 use Rattle.journal_words.specs.Sessions.{live_session}
 use Rattle.migration_program.specs.Programs.{IsFollowed, Follows}
@@ -22,6 +22,7 @@ use Rattle.migration_program.specs.Tools.{moment}
 use Rattle.run_laws.specs.Counting.{numbered, IsBehind, busy_count}
 use Rattle.run_laws.proofs.Keeping.{kept_none}
 use Rattle.run_laws.proofs.Taking.{server_is}
+use Rattle.run_laws.proofs.Living.{never_lost}
 use Rattle.machine_laws.specs.Runnable.{IsRunnable}
 use Rattle.migration_run.specs.declared.counting.Counts.{Counts}
 use Rattle.migration_run.specs.declared.turn.Turn.{Turn}
@@ -34,9 +35,9 @@ use Rattle.due_turns.specs.Laws.{IsKeptWith}
 use Rattle.due_turns.proofs.Coming.{Comes, Cuts, Gives, comes, Asks, Commands, Called, given_asks, operator_unstruck}
 use Rattle.due_turns.proofs.Keeping.{turns_kept}
 use Rattle.due_turns.proofs.Serving.{behind_more}
-use Rattle.due_calls.specs.Ranges.{ahead_of, IsTold}
-use Rattle.due_calls.proofs.Asking.{turns_may_be}
-use Rattle.due_calls.proofs.Telling.{ranges_ahead}
+use Rattle.due_turns.specs.DueCalls.Ranges.{ahead_of, IsTold}
+use Rattle.due_turns.proofs.DueCalls.Asking.{turns_may_be}
+use Rattle.due_turns.proofs.DueCalls.Telling.{ranges_ahead}
 use Rattle.run_turns.specs.Running.{IsDue, IsRun}
 use Rattle.run_turns.proofs.Planned.{due_planned}
 
@@ -65,13 +66,6 @@ command_still state turn command none = ap (λ (side : Option Side). leaves side
     by Poll is = absurd (false≢true is)
     by Cut is = absurd (false≢true is)
 
--- the operator's command has no side
-command_unlost : (asked : Asked) → is_command asked ≡ true → may_lose asked ≡ false
-command_unlost (Command word) is = refl
-command_unlost (Call request) is = absurd (false≢true is)
-command_unlost Poll is = absurd (false≢true is)
-command_unlost Cut is = absurd (false≢true is)
-
 pub command_side : (plan : PlanData) (journal : List Entry) (turn : Turn) → IsDue plan journal turn → is_command turn.asked ≡ true → turn.side ≡ None
 command_side plan journal turn due_so command = by (comes plan journal due_so.actor turn due_so.is)
   where
@@ -81,7 +75,7 @@ command_side plan journal turn due_so command = by (comes plan journal due_so.ac
       where
         asks : Asks turn.actor turn.asked → turn.side ≡ None
         asks (Commands word own is) = side ∙ ap (side_due plan journal) own ∙ operator_unstruck plan journal
-        asks (Called called) = absurd (true≢false (sym called ∙ command_unlost turn.asked command))
+        asks (Called called) = absurd (true≢false (sym called ∙ never_lost turn.asked command))
 
 -- WHAT THE BOOK COUNTS
 

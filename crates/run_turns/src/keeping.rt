@@ -6,7 +6,7 @@ ghost use Rattle.journal_words.specs.Journals.{after_entry};
 ghost use Rattle.migration_program.specs.Tools.{moment};
 ghost use Rattle.run_laws.specs.Counting.{busy_count};
 ghost use Rattle.turn_book.specs.Books.{is_planned, HasRoomFor, IsBook};
-ghost use Rattle.due_calls.specs.Ranges.{IsTold};
+ghost use Rattle.due_turns.specs.DueCalls.Ranges.{IsTold};
 
 use crate::ranges::range_told;
 use book_turns::{Told, take};

@@ -3,7 +3,7 @@
 ghost use Rattle.std.specs.Prelude.{◌≡◌, IfOk};
 ghost use Rattle.row_store.specs.Databases.{database};
 ghost use Rattle.tool_setup.specs.Meanings.{range_told};
-ghost use Rattle.due_calls.specs.Ranges.{range_in, ahead_of, IsTold};
+ghost use Rattle.due_turns.specs.DueCalls.Ranges.{range_in, ahead_of, IsTold};
 
 use gho_values::Name;
 use paged_answers::ends;

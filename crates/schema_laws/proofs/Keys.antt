@@ -16,7 +16,7 @@ use Rattle.schema_rules.specs.Lawful.{IsKey}
 use Rattle.schema_laws.proofs.Columns.{Becomes, AllBecome, column-at}
 use Rattle.schema_laws.proofs.Grammar.{HasColumns}
 use Rattle.schema_rules.proofs.Lists.{All-filter_map, All-weaker, All-list_all, list_all-All, each-any, Found, position-some, position-found, slice_get-map-some, slice_get-within-some}
-use Rattle.schema_rules.proofs.Steps.{some_is, first_or, second_or}
+use Rattle.schema_rules.proofs.Steps.{some_is, first_or}
 use Rattle.schema_rules.proofs.SameNames.{same_name-turned}
 
 -- ---- places

@@ -3,3 +3,5 @@ pub mod Grammar
 pub mod Keys
 pub mod Lawful
 pub mod Parts
+pub mod PrintLaws
+pub mod RereadLaws

@@ -2,5 +2,7 @@
 #![tactic(auto)]
 
 mod laws;
+pub mod print_laws;
+pub mod reread_laws;
 
 pub use laws::read_schemas_are_lawful;

@@ -2,8 +2,8 @@
 use Rattle.std.proofs.Common.{◌≡◌, ℕ, zero, suc, ◌+◌, ◌<◌, ◌≤◌, Bool, true, false, not, ◌&&◌, ◌||◌, cond, ltb, List, [], ◌∷◌, ◌++◌, length, take, drop, Option, Some, None, refl, sym, ap, subst, ◌∙◌, map, arith}
 use Rattle.std.specs.Prelude.{filter, fold, find, position}
 use Rattle.std.specs.List.{cons_option, filter_map, list_all, list_any, slice_get, prefix_len, position_or_len, remove, AllByRecursion}
-use Rattle.std.proofs.lemmas.Bool.{ltb-true, lt-ltb, and_parts}
-use Rattle.schema_rules.proofs.Steps.{some_if, first_or, second_or}
+use Rattle.std.proofs.lemmas.Bool.{ltb-true, lt-ltb, and_parts, or_right}
+use Rattle.schema_rules.proofs.Steps.{some_if, first_or}
 
 module _ {X Y : Type 0} (P : X → Type 0) (Q : Y → Type 0) where
   pub All-map : (f : X → Y) → ((x : X) → P x → Q (f x)) → (xs : List X) → AllByRecursion P xs → AllByRecursion Q (map f xs)
@@ -83,7 +83,7 @@ pub each-any : {N X : Type 0} (test : N → X → Bool) (xs : List X) → AllByR
 each-any {N} {X} test [] = tt
 each-any {N} {X} test (x ∷ xs) = (
   (λ n e. first_or (test n x) (list_any (test n) xs) e),
-  All-weaker (λ (y : X). (n : N) → test n y ≡ true → list_any (test n) xs ≡ true) (λ (y : X). (n : N) → test n y ≡ true → list_any (test n) (x ∷ xs) ≡ true) (λ y here n e. second_or (test n x) (list_any (test n) xs) (here n e)) xs (each-any test xs),
+  All-weaker (λ (y : X). (n : N) → test n y ≡ true → list_any (test n) xs ≡ true) (λ (y : X). (n : N) → test n y ≡ true → list_any (test n) (x ∷ xs) ≡ true) (λ y here n e. or_right (test n x) (list_any (test n) xs) (here n e)) xs (each-any test xs),
 )
 
 -- ---- places

@@ -1,17 +1,9 @@
 -- A list up to a place and from it on, as a loop over it goes.
-use Rattle.std.proofs.Common.{◌≡◌, ℕ, ◌+◌, ◌<◌, List, [], ◌∷◌, ◌++◌, length, take, drop, get_or, Option, Some, None, refl, sym, ap, ◌∙◌}
+use Rattle.std.proofs.Common.{◌≡◌, ℕ, ◌+◌, ◌<◌, List, [], ◌∷◌, ◌++◌, length, take, get_or, Option, Some, None, refl, sym, ap, ◌∙◌}
 use Rattle.std.specs.Prelude.{option_to_list}
 use Rattle.std.specs.List.{filter_map}
-use Rattle.std.proofs.lemmas.List.{drop_more, take_more}
+use Rattle.std.proofs.lemmas.List.{take_more}
 use Rattle.std.proofs.lemmas.List.Elements.{filter_map-append}
-
--- the item at this place is the first of those from there on
-pub from_here : {X : Type 0} (items : List X) (i : ℕ) (item : X) → i < length items → item ≡ get_or items i item → drop i items ≡ item ∷ drop (i + 1) items
-from_here {X} items i item lt is = drop_more items i item lt ∙ ap (λ (x : X). x ∷ drop (i + 1) items) (sym is)
-
--- and the last of those up to it
-pub up_to_here : {X : Type 0} (items : List X) (i : ℕ) (item : X) → i < length items → item ≡ get_or items i item → take (i + 1) items ≡ take i items ++ item ∷ []
-up_to_here {X} items i item lt is = take_more items i item lt ∙ ap (λ (x : X). take i items ++ x ∷ []) (sym is)
 
 one : {X Y : Type 0} (h : X → Option Y) (x : X) (o : Option Y) → h x ≡ o → filter_map h (x ∷ []) ≡ option_to_list o
 one h x (Some y) e = rw e refl

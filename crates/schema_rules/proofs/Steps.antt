@@ -52,10 +52,6 @@ pub first_or : (a b : Bool) → a ≡ true → (a || b) ≡ true
 first_or true b e = refl
 first_or false b e = absurd cc
 
-pub second_or : (a b : Bool) → b ≡ true → (a || b) ≡ true
-second_or true b e = refl
-second_or false b e = e
-
 -- ---- defaults
 
 -- a default that wasn't refused is stored

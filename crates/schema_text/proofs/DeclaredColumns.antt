@@ -2,6 +2,7 @@
 use Rattle.std.proofs.Common.{◌≡◌, ℕ, ◌+◌, ◌<◌, ◌≤◌, List, [], ◌∷◌, ◌++◌, length, drop, get_or, Result, Ok, Err, refl, sym, ap, ◌∙◌, append_assoc}
 use Rattle.std.proofs.lemmas.List.{append-nil, drop_all}
 use Rattle.gho_schema.specs.declared.schema.Column.{Column}
+use Rattle.gho_schema.proofs.Loops.{from_here}
 use Rattle.table_words.specs.declared.code.SchemaCode.{SchemaCode}
 use Rattle.table_words.specs.declared.code.SchemaFault.{SchemaFault}
 use Rattle.table_words.specs.declared.code.SchemaFault.TheVariants as faults
@@ -9,7 +10,6 @@ use Rattle.schema_rules.specs.Results.{◌>>=◌}
 use Rattle.table_words.specs.Reads.{Refuses}
 use Rattle.schema_text.specs.declared.written.WrittenColumn.{WrittenColumn}
 use Rattle.schema_text.specs.Declaring.{declared_column, declared_columns}
-use Rattle.schema_rules.proofs.Loops.{from_here}
 
 -- the columns so far, and those that are still declared
 abbrev pub with_front : List Column → Result (List Column) SchemaCode → Result (List Column) SchemaCode

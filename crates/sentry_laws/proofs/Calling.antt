@@ -1,14 +1,13 @@
 -- *What the program has the locker and the renamer ask*, and what the server's laws then give for the sentry relation.
 use Rattle.std.proofs.Common.{◌≡◌, ◌≢◌, ℕ, Bool, true, false, not, ◌&&◌, cond, List, [], ◌∷◌, Option, Some, None, refl, sym, ap, ◌∙◌, subst}
-use Rattle.std.specs.Prelude.{◌⊎◌}
 use Rattle.std.proofs.lemmas.Slice.Eq.{bytes_eq-Decides}
 use Rattle.script_text.specs.declared.actor.Actor.TheVariants.{Lock, Ren}
 use Rattle.plain_server.specs.declared.answer.Answer.TheVariants as answers
 use Rattle.plain_server.specs.declared.request.Request.TheVariants as requests
 use Rattle.cutover_core.specs.Attempts as cutovers
 use Rattle.sentry_laws.specs.Sentries.{scene, Fits, LockerMay, LockerServes, LocksServes, DropsServes, MayAnswer}
-use Rattle.sentry_laws.specs.Turning.{LockerCalls, IsLockerFree, LockerSays, OtherTurn}
-use Rattle.server_laws.specs.Others.{TurnOf}
+use Rattle.sentry_laws.specs.Turning.{LockerCalls, OtherTurn}
+use Rattle.history_laws.specs.ServerLaws.Others.{TurnOf}
 use Rattle.sentry_laws.specs.Turns.{LeavesTables, CallLeaves, LockLeaves, DropLeaves, UnlockLeaves}
 use Rattle.sentry_laws.proofs.Serving.{takes_lock, drops_sentry, frees_lock, only_frees, waits_on, others_turn}
 use Rattle.plain_server.specs.declared.answer.Answer.{Answer}
@@ -205,15 +204,6 @@ pub renamer_polled : (plan : PlanData) (journal : List Entry) (work : Work) → 
 unfolding given
 renamer_polled plan journal work e fits agrees =
     waiting_may work.cutover.phase work.cutover.hold work.cutover.renamer_waits fits (agrees (asks_poll (waits (moment plan journal).server (live_session journal Ren)) (tool_call plan (moment plan journal).server journal (moment plan journal).tool (moment plan journal).tool.course Ren) e))
-
--- *The locker's premise of one call*, from the program, the server's laws and the sessions
-pub locker_says : (plan : PlanData) (journal : List Entry) (before after : State) (l r s : ℕ) (work : Work) (request : Request) (answer : Answer) → (moment plan journal).tool.course ≡ Migrating work → work.cutover.table ≡ plan.table → given plan journal Lock ≡ Some (Call request)
-    → (s ≡ l) ⊎ IsLockerFree work.cutover.phase → r ≢ s → CallLeaves s request answer before after → LockerSays plan before after l r work answer s
-locker_says plan journal before after l r s work request answer is table e same apart left =
-    let asked : LockerCalls work.cutover.table work.cutover.phase work.cutover.hold request × (work.cutover.phase ≡ Resting → work.copier.is_copied ≡ true) = locker_given plan journal work request is e in
-    let served : LockerMay work.cutover.phase work.cutover.hold answer × LockerServes plan.table s r work.cutover.phase work.cutover.hold answer (scene before) (scene after) =
-    locker_serves plan.table s r work.cutover.phase work.cutover.hold request answer before after apart (subst (λ name. LockerCalls name work.cutover.phase work.cutover.hold request) table asked.0) left in
-    record { same = same; copied = asked.1; may = served.0; serves = served.1 }
 
 -- *Another session's premise*, from the server's laws
 pub other_says : (plan : PlanData) (before after : State) (l r s : ℕ) → l ≢ s → r ≢ s → TurnOf false s before after → OtherTurn plan before after l r s

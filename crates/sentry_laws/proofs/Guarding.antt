@@ -1,21 +1,17 @@
 -- The sentry relation through the steps of an attempt.
-use Rattle.std.proofs.Common.{◌≡◌, ◌≢◌, ℕ, zero, suc, ◌+◌, ◌≤◌, Bool, true, false, nat_eq, ◌||◌, cond, List, [], ◌∷◌, ◌++◌, length, take, drop, None, refl, sym, ap, ◌∙◌, subst, arith, inl, inr}
+use Rattle.std.proofs.Common.{◌≡◌, ◌≢◌, ℕ, zero, suc, ◌+◌, ◌≤◌, Bool, true, false, cond, List, [], ◌∷◌, ◌++◌, length, take, drop, None, refl, sym, ap, ◌∙◌, subst, arith, inl, inr}
 use Rattle.std.specs.Prelude.{◌⊎◌}
 use Rattle.std.proofs.lemmas.Bool.{false≢true}
-use Rattle.std.proofs.lemmas.Bool.Decides.{nat_tests}
 use Rattle.std.proofs.lemmas.List.{append_assoc, drop-append-le, take-append-le, length-append}
 use Rattle.std.proofs.lemmas.List.Elements.{filter-append}
-use Rattle.std.specs.Cmp.Lexicographic.{pointwise}
-use Rattle.std.specs.List.{list_any}
 use Rattle.std.specs.Str.{bytes_eq}
 use Rattle.event_codec.specs.declared.event.RowEvent.{RowEvent}
 use Rattle.event_codec.specs.declared.event.Change.TheVariants.{Write}
 use Rattle.std.proofs.Math.Seq.{drop-append-add}
 use Rattle.row_store.specs.Databases.{has_table as has_table_name}
-use Rattle.metadata_locks.specs.Granting.{HeldName, holds, refuser_of_name, refuser_of_names}
-use Rattle.metadata_locks.specs.declared.request.Waiter.{Waiter}
-use Rattle.sentry_laws.specs.Sentries.{Scene, HasSentry, IsAlone, IsLocked, IsHinted, IsDrained, RenameWaits, MayExchange, BehindLock, BehindHint, BehindDrain, BehindRename, BehindDrop, BehindUnlock, BehindFailure, WhereItWaits, HoldsLock, AtEnd, Guards, OthersHold, OthersTurn, DropsSentry, FreesLock, OnlyFreesLock, KnowsHint, MayAnswer, waits_for}
-use Rattle.sentry_laws.proofs.Holding.{weaker, granted_alone, refused_shared, refused_exclusive, waits_behind, granted_each, not_true, one_or_two}
+use Rattle.metadata_locks.specs.Granting.{HeldName, holds, refuser_of_name}
+use Rattle.sentry_laws.specs.Sentries.{Scene, HasSentry, IsAlone, IsLocked, IsHinted, IsDrained, RenameWaits, MayExchange, BehindLock, BehindHint, BehindDrain, BehindRename, BehindDrop, BehindUnlock, BehindFailure, WhereItWaits, HoldsLock, AtEnd, Guards, OthersHold, OthersTurn, DropsSentry, FreesLock, OnlyFreesLock, KnowsHint, MayAnswer}
+use Rattle.sentry_laws.proofs.Holding.{refused_shared, waits_behind, not_true, one_or_two}
 use Rattle.changelog_table.specs.ToolNames.{log_name, old_name}
 use Rattle.changelog_table.specs.Hints.{hint_row, last_hint}
 use Rattle.chunk_copier.specs.declared.copier.Copier.{Copier}
@@ -147,13 +143,6 @@ others_keep t r s l before after turn copier applier cutover apart other Finishe
 
 -- THE ATTEMPT'S OWN STEPS
 
-same_nat : (n : ℕ) → nat_eq n n ≡ true
-same_nat n = grind (arith, nat_tests)
-
-same_name : (name : List ℕ) → pointwise nat_eq name name ≡ true
-same_name [] = refl
-same_name (n ∷ name) = rw (same_nat n) (same_name name)
-
 -- The hint row is written: it stands behind all that is logged of the table
 pub writes_hint : (t : List ℕ) (attempt l : ℕ) (before after : Scene) → BehindLock t before l → ((count : ℕ) → last_hint t 0 (take count before.log) ≢ attempt) → has_table_name (old_name t) after.tables ≡ has_table_name (old_name t) before.tables → after.held ≡ before.held
     → after.log ≡ before.log ++ record { table = log_name t; change = Write (hint_row attempt) } ∷ [] → BehindHint t after attempt l
@@ -207,24 +196,6 @@ drains t attempt l scene copier applier at knows is copied within idle =
         idle = idle;
       };
     }
-
--- The RENAME waits: the locker holds the table
-pub rename_waits : (t : List ℕ) (names : List (List ℕ)) (l r : ℕ) (scene : Scene) → l ≢ r → IsLocked t scene.held l → refuser_of_names scene.held scene.waiting r true (t ∷ names) ≢ None
-rename_waits t names l r scene apart locked granted = refused_exclusive scene.held scene.waiting r l t apart locked.own (locked.alone r (λ same. apart (sym same))) (granted_each scene.held scene.waiting r true names t granted)
-
-list_any-last : (t : List ℕ) (r : ℕ) (waiting : List Waiter) (waiter : Waiter) → waits_for t r waiter ≡ true → list_any (waits_for t r) (waiting ++ waiter ∷ []) ≡ true
-list_any-last t r [] waiter e = rw e refl
-list_any-last t r (other ∷ waiting) waiter e = second (waits_for t r other) (list_any (waits_for t r) (waiting ++ waiter ∷ [])) (list_any-last t r waiting waiter e)
-  where
-    second : (a b : Bool) → b ≡ true → (a || b) ≡ true
-    second true b e = refl
-    second false b e = e
-
-pub asks_rename : (t : List ℕ) (names : List (List ℕ)) (l r : ℕ) (before after : Scene) (copier : Copier) (applier : Applier) → BehindDrain t before copier applier l → after ≡ record before { waiting = before.waiting ++ record { session = r; names = t ∷ names } ∷ [] }
-    → BehindRename t after copier applier l r
-asks_rename t names l r before after copier applier at is =
-    subst (λ scene. BehindRename t scene copier applier l r) (sym is)
-    (record { sentry = at.sentry; locked = at.locked; drained = at.drained; waits = list_any-last t r before.waiting (record { session = r; names = t ∷ names }) (rw (same_nat r, same_name t) refl) })
 
 -- The sentry is dropped under the lock
 pub drops_sentry : (t : List ℕ) (l r : ℕ) (before after : Scene) (copier : Copier) (applier : Applier) → BehindRename t before copier applier l r → DropsSentry t before after → (RenameWaits t before r → RenameWaits t after r) → BehindDrop t after copier applier l r
@@ -312,19 +283,3 @@ rename_exchanges t l r scene copier applier cutover (Attempting Hinting) at may 
 rename_exchanges t l r scene copier applier cutover (Attempting (Draining turns)) at may gone = absurd may
 rename_exchanges t l r scene copier applier cutover (Finishing clearing) at may gone = absurd may
 rename_exchanges t l r scene copier applier cutover Finished at may gone = absurd may
-
--- THE MARK: where the RENAME is granted no other session holds a lock on the table
-pub nobody_holds : (t : List ℕ) (names : List (List ℕ)) (r s : ℕ) (scene : Scene) → s ≢ r → holds scene.held r t true ≡ false → refuser_of_names scene.held scene.waiting r true (t ∷ names) ≡ None → holds scene.held s t false ≡ false
-nobody_holds t names r s scene apart lacks granted = granted_alone scene.held scene.waiting r s t apart lacks (granted_each scene.held scene.waiting r true names t granted)
-
--- .. and so the locker holds no table lock any more
-pub lock_is_gone : (t : List ℕ) (names : List (List ℕ)) (l r : ℕ) (scene : Scene) → l ≢ r → IsLocked t scene.held l → holds scene.held r t true ≡ false → refuser_of_names scene.held scene.waiting r true (t ∷ names) ≡ None → ⊥
-lock_is_gone t names l r scene apart locked lacks granted = false≢true (sym (nobody_holds t names r l scene apart lacks granted) ∙ weaker scene.held l t locked.own)
-
--- Where the RENAME waits, the sentry stands, or the tables may be exchanged.
-pub guarded_while_it_waits : (t : List ℕ) (l r : ℕ) (scene : Scene) (copier : Copier) (applier : Applier) (cutover : CutOver) (phase : Phase) → Guards t scene copier applier cutover l r phase → MayAnswer phase cutover.renamer_waits → HasSentry t scene ⊎ MayExchange t scene copier applier l
-guarded_while_it_waits t l r scene copier applier cutover phase at may = by (has_table_name (old_name t) scene.tables) refl
-  where
-    by : (b : Bool) → has_table_name (old_name t) scene.tables ≡ b → HasSentry t scene ⊎ MayExchange t scene copier applier l
-    by true is = inl is
-    by false is = inr (rename_exchanges t l r scene copier applier cutover phase at may is)

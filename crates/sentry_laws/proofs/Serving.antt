@@ -10,11 +10,11 @@ use Rattle.metadata_locks.specs.Granting.{holds, refuser_of_name}
 use Rattle.row_store.specs.Databases.{Database, has_table, without_table, rename_tables}
 use Rattle.row_store.specs.declared.renaming.Pair.{Pair}
 use Rattle.row_store.specs.declared.renaming.NotRenamed.TheVariants.{Stands}
-use Rattle.sentry_laws.specs.Sentries.{scene, IsLocked, OthersHold, OthersTurn, RenameWaits, FreesLock, OnlyFreesLock, TakesLock, DropsSentry, IsGone}
+use Rattle.sentry_laws.specs.Sentries.{scene, OthersHold, OthersTurn, RenameWaits, FreesLock, OnlyFreesLock, TakesLock, DropsSentry}
 use Rattle.sentry_laws.specs.Turning.{IsRenamed}
-use Rattle.server_laws.specs.Others.{TurnOf, IsGrantedName, MayWrite, IsAlone, held_at}
-use Rattle.sentry_laws.specs.Turns.{LocksAreTaken, LogsNothing, Defines, HoldsNothing}
-use Rattle.sentry_laws.proofs.Holding.{are_two, refused_exclusive, not_true}
+use Rattle.history_laws.specs.ServerLaws.Others.{TurnOf, IsGrantedName, MayWrite, IsAlone, held_at}
+use Rattle.sentry_laws.specs.Turns.{LocksAreTaken, LogsNothing, Defines}
+use Rattle.sentry_laws.proofs.Holding.{are_two, not_true}
 use Rattle.plain_server.specs.States.{State, names_in, waiters}
 use Rattle.plan_words.specs.PlanData.{PlanData}
 use Rattle.changelog_table.specs.ToolNames.{old_name, ghost_name}
@@ -61,14 +61,6 @@ others_turn t r s before after apart turn =
     shared (true, never, granted) = absurd (false≢true (never refl))
     shared (false, never, granted) = granted
 
--- .. and while the table is locked, also one that creates or drops: the sentry's name is granted to nobody
-pub old_is_kept : (t : List ℕ) (l s : ℕ) {takes : Bool} (before after : State) → l ≢ s → IsLocked t (held_at before) l → TurnOf takes s before after → holds (held_at before) s (old_name t) false ≡ false → has_table (old_name t) after.tables ≡ has_table (old_name t) before.tables
-old_is_kept t l s {takes = takes} before after apart locked turn lacks = by (turn.tables (old_name t))
-  where
-    by : (has_table (old_name t) after.tables ≡ has_table (old_name t) before.tables) ⊎ ((takes ≡ true) × IsGrantedName before s (old_name t) true) → has_table (old_name t) after.tables ≡ has_table (old_name t) before.tables
-    by (inl same) = same
-    by (inr granted) = absurd (refused_exclusive (held_at before) (waiters before.waiting) s l (old_name t) apart locked.old lacks granted.1)
-
 -- *The locker's locks are freed*: UNLOCK, or the loss of its session
 pub frees_lock : (t : List ℕ) (l r : ℕ) {takes : Bool} (before after : State) → r ≢ l → TurnOf takes l before after → LogsNothing before after → FreesLock t l r (scene before) (scene after)
 frees_lock t l r before after apart turn none = record { others = others t l before after turn; log = none; waits = waits_on t r l before after turn apart }
@@ -102,10 +94,6 @@ gone name (table ∷ tables) = by (bytes_eq table.schema.name name) refl (gone n
 
 pub drops_sentry : (t : List ℕ) (before after : State) → after.tables ≡ without_table (old_name t) before.tables → (held_at after) ≡ (held_at before) → LogsNothing before after → DropsSentry t (scene before) (scene after)
 drops_sentry t before after tables names none = record { gone = ap (has_table (old_name t)) tables ∙ gone (old_name t) before.tables; held = names; log = none }
-
--- *The renamer's answer, or its loss*
-pub is_gone : (t : List ℕ) (r : ℕ) {takes : Bool} (before after : State) → TurnOf takes r before after → HoldsNothing r after → IsGone t r (scene before) (scene after)
-is_gone t r before after turn none = (others t r before after turn, none t false)
 
 -- *The RENAME that is done* found the old table's name free
 exchange_free : (t : List ℕ) (pairs : List Pair) (pair : Pair) (tables after : Database) → rename_tables (pair ∷ pairs) tables ≡ Ok after → has_table pair.new tables ≡ false

@@ -1,7 +1,6 @@
 -- *Sessions of different actors differ*, in a journal that follows the program and numbers its sessions from 1.
-use Rattle.std.proofs.Common.{◌≡◌, ◌≢◌, ◌≤◌, ◌<◌, ℕ, nat_eq, max, cond, subst, Bool, true, false, List, [], ◌∷◌, ◌++◌, Option, Some, None, refl, sym, ap, ◌∙◌, arith}
+use Rattle.std.proofs.Common.{◌≡◌, ◌≢◌, ◌≤◌, ◌<◌, ℕ, max, cond, subst, Bool, true, false, List, [], ◌∷◌, ◌++◌, Option, Some, None, refl, sym, ap, ◌∙◌, arith}
 use Rattle.std.proofs.lemmas.Bool.{false≢true}
-use Rattle.std.proofs.lemmas.Bool.Decides.{nat_tests}
 use Rattle.std.proofs.lemmas.List.Sums.{fold-append}
 use Rattle.script_text.specs.declared.actor.Actor.{Actor}
 use Rattle.script_text.specs.declared.actor.Actor.TheVariants.{Op, Insp, Copy, Apply, Lock, Ren, Client}
@@ -19,9 +18,6 @@ use Rattle.plain_server.specs.Entries.{same_actor, is_command}
 use Rattle.plan_words.specs.PlanData.{PlanData}
 use Rattle.journal_words.specs.Sessions.{live_session, session_in, session_left, sessions_named, IsInSession}
 use Rattle.migration_program.specs.Programs.{IsFollowed}
-
-same_nat : (n : ℕ) → nat_eq n n ≡ true
-same_nat n = grind (arith, nat_tests)
 
 -- two actors that an entry's actor is, are one
 not_both : (c a b : Actor) → same_actor c a ≡ true → same_actor c b ≡ true → same_actor a b ≡ false → ⊥

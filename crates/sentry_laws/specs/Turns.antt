@@ -9,7 +9,7 @@ use Rattle.plain_server.specs.declared.answer.Answer.TheVariants as answers
 use Rattle.plain_server.specs.declared.request.Request.{Request}
 use Rattle.plain_server.specs.declared.request.Request.TheVariants as requests
 use Rattle.plain_server.specs.States.{State}
-use Rattle.server_laws.specs.Others.{TurnOf, IsAlone, held_at}
+use Rattle.history_laws.specs.ServerLaws.Others.{TurnOf, IsAlone, held_at}
 
 -- the session holds the names exclusively
 abbrev pub LocksAreTaken : List (List ℕ) → ℕ → State → Type 0

@@ -21,8 +21,8 @@ use Rattle.statement_laws.specs.Databases.{IsOrderly, WhereFound}
 use Rattle.statement_laws.proofs.OneRow.{same_removal}
 use Rattle.statement_laws.proofs.Orderly.{nulls}
 use Rattle.statement_laws.proofs.Stables.{after_events-append, others_agree}
-use Rattle.ghost_rows.specs.Moments.{Fits}
-use Rattle.ghost_rows.proofs.TimelineLaws.{none_clashing}
+use Rattle.ghost_laws.specs.GhostRows.Moments.{Fits}
+use Rattle.ghost_laws.proofs.GhostRows.TimelineLaws.{none_clashing}
 use Rattle.ghost_laws.specs.Fitting as ghost
 use Rattle.ghost_laws.proofs.Changing.{found_stands}
 use Rattle.ghost_laws.proofs.Fitting.{fitting_end, orderly_event}

@@ -8,9 +8,8 @@ use Rattle.plain_server.specs.Serving.{at_rest, holding}
 use Rattle.plain_server.specs.States.{new_session, session_of, with_session, writes_of}
 use Rattle.statement_laws.proofs.Tests.{are_one}
 use Rattle.history_laws.specs.Holdings.{Face}
-use Rattle.history_laws.proofs.Faces.{changed_here, changed_there, faces_without, gone_there}
+use Rattle.history_laws.proofs.Faces.{changed_here, changed_there, faces_without, gone_there, writes_face}
 use Rattle.state_laws.proofs.Calls.{Live}
-use Rattle.state_laws.proofs.Deeds.{writes_face}
 
 -- the data have what each of the sessions wrote
 abbrev pub HaveIn : (ℕ → List RowEvent) → List Session → Type 0

@@ -12,7 +12,6 @@ use Rattle.row_store.specs.Databases.{Database}
 use Rattle.row_store.specs.declared.renaming.Pair.{Pair}
 use Rattle.script_text.specs.declared.statement.Statement.{Statement}
 use Rattle.plain_server.specs.declared.answer.Answer.TheVariants as answers
-use Rattle.plain_server.specs.declared.need.Need.{Need}
 use Rattle.plain_server.specs.declared.request.Request.{Request}
 use Rattle.plain_server.specs.declared.request.Request.TheVariants as requests
 use Rattle.plain_server.specs.declared.session.Session.{Session}
@@ -20,7 +19,7 @@ use Rattle.plain_server.specs.declared.session.Waiting.{Waiting}
 use Rattle.plain_server.specs.declared.work.StatementResult.{StatementResult}
 use Rattle.plain_server.specs.Answers.{ok, refuses}
 use Rattle.plain_server.specs.Conditions.{is_blocked_exclusive, is_freely_polled}
-use Rattle.plain_server.specs.Deeds.{Deed, Rests, Grows, Writes, Forgets, Moves, Locks, Unlocks, deed, deed_unless, deed_within, is_beyond, is_outside, result_deed}
+use Rattle.plain_server.specs.Deeds.{Deed, Rests, Grows, Writes, Forgets, Moves, Locks, Unlocks, deed, deed_unless, deed_within, is_beyond, is_outside}
 use Rattle.plain_server.specs.Jobs.{after_events, copy_job, job_says, says}
 use Rattle.plain_server.specs.Locking.{blocker, need, need_within, row_locks_of}
 use Rattle.plain_server.specs.Serving.{calls, commits, counting, does, done, exclusive, forgets, is_over, polled_over, polls, serving, unlocking, without_waiting}
@@ -29,9 +28,10 @@ use Rattle.statement_laws.specs.Databases.{EventsCovered}
 use Rattle.statement_laws.proofs.Tests.{are_one}
 use Rattle.history_laws.specs.Holdings.{face_of}
 use Rattle.history_laws.proofs.Names.{Free, names_granted}
+use Rattle.history_laws.proofs.Faces.{writes_face, busy_face}
 use Rattle.server_data.specs.Fitting.{NoneOf}
 use Rattle.state_laws.specs.Granting.{GrowsWell}
-use Rattle.state_laws.proofs.Deeds.{AtWork, busy_face, within_fits, writes_face}
+use Rattle.state_laws.proofs.Deeds.{AtWork, within_fits}
 use Rattle.state_laws.proofs.Waits.{nothing_blocks}
 use Rattle.server_desk.specs.Parts.{needed, state_of, GoTogether, HaveWritten, MayDo}
 use Rattle.server_desk.proofs.Steps.{at_work, need_so, seen_so}
@@ -58,10 +58,6 @@ copy_grows tables written desk number from into columns key request locks result
     let work : AtWork state number (requests.CopyRow from into columns key) = subst (AtWork state number) is (at_work tables written desk number request locks together may) in
     grows_so tables written desk number request (requests.CopyRow from into columns key) locks result (job_says (view number state) (copy_job (view number state) from into columns key)) may is
     (told ∙ ap (λ (d : Database). job_says d (copy_job d from into columns key)) (seen_so tables written desk number together.have)) (within_fits state number true (requests.CopyRow from into columns key) work)
-
-pub result_answer : (busy : Bool) (need : Need) (result : StatementResult) (state : State) (number : ℕ) → (does (result_deed busy need result) state number).answer ≡ result.answer
-result_answer true need result state number = refl
-result_answer false need result state number = refl
 
 -- TABLES THAT NOBODY WROTE TO
 
@@ -140,10 +136,6 @@ calls_unlock state number = calls_done state number requests.Unlock (nothing_blo
 
 -- POLLS
 
-pub polls_none : (state : State) (number : ℕ) → waiting_of number state.waiting ≡ None → polls state number ≡ serving ok state
-unfolding polls
-polls_none state number none = rw none refl
-
 pub polls_blocked : (state : State) (number by : ℕ) (one : Waiting) → waiting_of number state.waiting ≡ Some one → blocker state number (need state number one.request) ≡ Some by → polls state number ≡ polled_over (is_over state number) by state number
 unfolding polls
 polls_blocked state number by one waits blocked = rw (waits, blocked) refl
@@ -190,10 +182,6 @@ pub polls_done : (state : State) (number : ℕ) (one : Waiting) → waiting_of n
     → polls state number ≡ serving (done state number one.request).answer (without_waiting number (done state number one.request).after)
 unfolding polls
 polls_done state number one waits some free = rw (waits, free) (done_ended state number one.request some)
-
--- a poll that takes no memory is of exclusive names that are blocked
-pub freely_exclusive : (state : State) (number : ℕ) (one : Waiting) → waiting_of number state.waiting ≡ Some one → is_freely_polled state number ≡ true → is_exclusive one.request ≡ true
-freely_exclusive state number one waits free = (and_parts (is_exclusive one.request) (is_some (blocker state number (need state number one.request))) (sym (ap (is_blocked_exclusive state number) waits) ∙ free)).0
 
 pub freely_blocked : (state : State) (number : ℕ) (one : Waiting) → waiting_of number state.waiting ≡ Some one → is_freely_polled state number ≡ true → is_some (blocker state number (need state number one.request)) ≡ true
 freely_blocked state number one waits free = (and_parts (is_exclusive one.request) (is_some (blocker state number (need state number one.request))) (sym (ap (is_blocked_exclusive state number) waits) ∙ free)).1

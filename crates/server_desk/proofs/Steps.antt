@@ -18,12 +18,13 @@ use Rattle.plain_server.specs.States.{State, connected, is_live, opened, polls_o
 use Rattle.statement_laws.specs.Databases.{IsOrderly}
 use Rattle.history_laws.specs.Holdings.{face_of}
 use Rattle.history_laws.proofs.Serves.{granted}
+use Rattle.history_laws.proofs.Faces.{writes_face}
 use Rattle.server_data.specs.Fitting.{EventsFit}
 use Rattle.desk_calls.specs.Rooms.{logs}
 use Rattle.state_laws.specs.Granting.{GrowsWell}
 use Rattle.state_laws.specs.Keeping.{IsServing}
 use Rattle.state_laws.proofs.Calls.{connected_serves, kept_in, live_found, opened_serves}
-use Rattle.state_laws.proofs.Deeds.{AtWork, writes_face}
+use Rattle.state_laws.proofs.Deeds.{AtWork}
 use Rattle.state_laws.proofs.Granted.{quiet_own}
 use Rattle.server_desk.specs.Parts.{needed, state_of, GoTogether, HaveWritten, MayDo}
 use Rattle.server_desk.proofs.Fits.{own_fit, own_orderly, others_fit, others_orderly}
@@ -160,10 +161,6 @@ same_together tables after written later desk together same kept = record {
   have = λ n. kept n ∙ together.have n;
   serves = subst (λ (d : Database). IsServing (state_of d desk)) (sym same) together.serves;
 }
-
--- the data keep what each session wrote
-pub kept_have : (written after : ℕ → List RowEvent) (desk : State) → HaveWritten written desk → ((n : ℕ) → after n ≡ written n) → HaveWritten after desk
-kept_have written after desk have same n = same n ∙ have n
 
 pub waits_same : (tables : Database) (desk : State) → waits_shown (state_of tables desk) ≡ waits_shown desk
 unfolding waits_shown

@@ -15,7 +15,7 @@ use gho_values::{Duplicate, Sequence};
 use plain_server::{Answer, Request};
 use row_locks::LockSet;
 use server_data::Data;
-use session_locks::is_exclusive;
+use session_desk::session_locks::is_exclusive;
 use std::alloc::{AllocError, Global};
 
 /// The row locks that the session's request needs. A request for exclusive names needs none, and takes no memory.

@@ -5,7 +5,7 @@ use Rattle.plain_server.specs.declared.session.Session.{Session}
 use Rattle.plain_server.specs.declared.session.HeldName.{HeldName}
 use Rattle.plain_server.specs.Serving.{exclusive, locking}
 use Rattle.plain_server.specs.States.{with_session, session_of}
-use Rattle.session_locks.proofs.Places.{first_place, some_place, none_place}
+use Rattle.session_desk.proofs.SessionLocks.Places.{first_place, some_place, none_place}
 
 abbrev pub has_number : ℕ → Session → Bool
 has_number number session = session.number == number

@@ -4,6 +4,7 @@
 mod finding;
 mod growing;
 mod names;
+pub mod session_locks;
 mod sessions;
 mod waits;
 
@@ -11,4 +12,4 @@ pub use finding::{
     holds_tables, is_in_transaction, is_live, is_of_tool, polls_of, session_of, writes_of,
 };
 pub use sessions::{connect, count_polls, disconnect, hold, lock_tables, rest, unlock_tables};
-pub use waits::{begin_wait, end_wait, is_tool_busy, is_waiting, waiting_of};
+pub use waits::{begin_wait, end_wait, is_waiting, waiting_of};

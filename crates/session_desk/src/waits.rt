@@ -1,11 +1,11 @@
 //! The requests that wait.
 
-ghost use Rattle.std.specs.Prelude.{◌≡◌, ◌==◌, ◌&&◌, ◌||◌, ◌++◌, [], ◌∷◌, not, filter, option_copied, OnOk, OnErr};
+ghost use Rattle.std.specs.Prelude.{◌≡◌, ◌==◌, ◌++◌, [], ◌∷◌, not, filter, option_copied, OnOk, OnErr};
 ghost use Rattle.std.specs.List.{list_any};
 ghost use Rattle.plain_server.specs.States.{waiting_of};
 
 use gho_values::Duplicate;
-use plain_server::{Request, Session, Waiting};
+use plain_server::{Request, Waiting};
 use std::alloc::AllocError;
 
 /// The session's request that waits.
@@ -20,22 +20,6 @@ pub fn is_waiting(waiting: &[Waiting], number: u32) -> bool
     ensures { result ≡ list_any (λ one. one.session == number) waiting.now }
 {
     waiting.iter().any(|one| one.session == number)
-}
-
-/// Whether the session is the tool's, and waits or is in a transaction.
-fn is_busy_of_tool(waiting: &[Waiting], session: &Session) -> bool
-    ensures { result ≡ (session.now.is_tool && (session.now.in_transaction || list_any (λ one. one.session == session.now.number) waiting.now)) }
-{
-    session.is_tool && (session.in_transaction || is_waiting(waiting, session.number))
-}
-
-/// Whether some session of the tool's waits or is in a transaction.
-pub fn is_tool_busy(sessions: &[Session], waiting: &[Waiting]) -> bool
-    ensures { result ≡ list_any (λ session. session.is_tool && (session.in_transaction || list_any (λ one. one.session == session.number) waiting.now)) sessions.now }
-{
-    sessions
-        .iter()
-        .any(|session| is_busy_of_tool(waiting, session))
 }
 
 /// The session's request waits behind all others; all is as before where there is no memory.

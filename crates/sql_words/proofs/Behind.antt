@@ -55,10 +55,6 @@ pub with_front-word : (found : List Reading) (w : Reading) (others : Result (Lis
 with_front-word found w (Ok others) = ap (λ ws. Ok ws) (simp append_assoc)
 with_front-word found w (Err fault) = refl
 
-nothing_found : (read : Result (List Reading) WordFault) → with_front [] read ≡ read
-nothing_found (Ok others) = refl
-nothing_found (Err fault) = refl
-
 -- the rest behind a front is shorter
 pub length-drop-cuts : (rest : List ℕ) (n : ℕ) → Cuts rest n → length (drop n rest) < length rest
 length-drop-cuts rest n cuts = omega (arith, cuts.some, cuts.boundary.0, length-drop n rest)
@@ -68,11 +64,6 @@ pub record Along (text : List ℕ) (found : List Reading) (rest : List ℕ) : Ty
   pub utf8 : IsUtf8 rest
   pub within : length rest ≤ length text
   pub so_far : with_front found (words_behind 0 (length text - length rest) rest) ≡ words_of text
-
-pub Along-start : (text : List ℕ) → IsUtf8 text → Along text [] text
-Along-start text utf8 =
-    let start : length text - length text ≡ 0 = omega arith in
-    record { utf8 = utf8; within = omega arith; so_far = ap (λ p. with_front [] (words_behind 0 p text)) start ∙ nothing_found (words_of text) }
 
 module _ (text : List ℕ) (found : List Reading) (rest : List ℕ) (along : Along text found rest) where
   place_after : (n : ℕ) → n ≤ length rest → (length text - length rest) + n ≡ length text - length (drop n rest)

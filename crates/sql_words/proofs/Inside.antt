@@ -12,10 +12,6 @@ use Rattle.sql_words.specs.Quoted.{Piece, length_of, closing, and_then, escaped,
 abbrev pub further : ℕ → Option ℕ → Option ℕ
 further n length = option_map (λ k. n + k) length
 
-pub further-zero : (o : Option ℕ) → further 0 o ≡ o
-further-zero None = refl
-further-zero (Some n) = ap (λ k. Some k) (omega arith)
-
 pub further-further : (m n : ℕ) (o : Option ℕ) → further m (further n o) ≡ further (m + n) o
 further-further m n None = refl
 further-further m n (Some k) = ap (λ i. Some i) (omega arith)

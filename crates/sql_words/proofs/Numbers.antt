@@ -13,7 +13,7 @@ use Rattle.std.proofs.lemmas.List.{length-drop, get_or-drop}
 use Rattle.sql_words.specs.Front.{begins_number, sign_width, digit_count, most_digits}
 use Rattle.sql_words.specs.Meaning.{is_number, signed, AreDigits}
 
-own : IsNumeralModel (λ ds. all_ascii_digits ds ≡ true) (digits_value 10)
+pub own : IsNumeralModel (λ ds. all_ascii_digits ds ≡ true) (digits_value 10)
 own = numerals_by_value _ tells_all_ascii_digits
 
 digits_all-by : (d : ℕ) (ds : List ℕ) (b : Bool) → is_ascii_digit d ≡ b → prefix_len is_ascii_digit (d ∷ ds) ≡ length (d ∷ ds) → (prefix_len is_ascii_digit ds ≡ length ds → all_ascii_digits ds ≡ true) → all_ascii_digits (d ∷ ds) ≡ true

@@ -123,9 +123,6 @@ pub record Unquoting (quote : ℕ) (text value rest : List ℕ) : Type 0 where
   pub utf8 : IsUtf8 rest
   pub so_far : in_front value (value_of (text_inside quote rest)) ≡ value_of (text_inside quote text)
 
-pub Unquoting-start : (quote : ℕ) (text : List ℕ) → IsUtf8 text → Unquoting quote text [] text
-Unquoting-start quote text utf8 = record { utf8 = utf8; so_far = in_front-nil (value_of (text_inside quote text)) }
-
 pub Unquoting-end : (quote : ℕ) (text value rest : List ℕ) → Unquoting quote text value rest → length rest ≡ 0 → None ≡ value_of (text_inside quote text)
 Unquoting-end quote text value rest so none =
     let empty = nil_from_length rest none in

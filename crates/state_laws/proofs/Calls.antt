@@ -17,7 +17,7 @@ use Rattle.plain_server.specs.Locking.{need, blocker}
 use Rattle.plain_server.specs.Serving.{called_unless, calls, counting, done, forgets, is_over, loses, polled_over, polled_unless, polls, without_waiting}
 use Rattle.plain_server.specs.States.{State, holds_tables, is_in_transaction, names_in, new_session, polls_of, session_of, waiting_of, with_session}
 use Rattle.history_laws.specs.Holdings.{Face, OneHolder, face_in, face_of, no_face}
-use Rattle.history_laws.proofs.Faces.{faces_with, faces_without}
+use Rattle.history_laws.proofs.Faces.{faces_with, faces_without, joined}
 use Rattle.history_laws.proofs.Names.{held_joined, one_counts, one_less, one_rests}
 use Rattle.history_laws.proofs.Serves.{IsFree, done_one, granted}
 use Rattle.statement_laws.specs.Agreeing.{Among}
@@ -185,24 +185,13 @@ losses_serve state number (Some After) Poll serving may = lost_serves (polls sta
 losses_serve state number (Some After) (Command word) serving may = absurd may.well
 losses_serve state number (Some After) Cut serving may = absurd may.well
 
--- a session connects
-joined_face : (tool : Bool) (number other : ℕ) (sessions : List Session) → face_of (sessions ++ new_session number tool ∷ []) other ≡ face_of sessions other
-joined_face tool number other [] = at (number == other) where
-  at : (b : Bool) → face_in (cond b (Some (new_session number tool)) None) ≡ no_face
-  at true = refl
-  at false = refl
-joined_face tool number other (first ∷ sessions) = at (first.number == other) (joined_face tool number other sessions) where
-  at : (b : Bool) → face_of (sessions ++ new_session number tool ∷ []) other ≡ face_of sessions other → face_in (cond b (Some first) (session_of other (sessions ++ new_session number tool ∷ []))) ≡ face_in (cond b (Some first) (session_of other sessions))
-  at true rest = refl
-  at false rest = rest
-
 pub connected_serves : ConnectedServes
 connected_serves number tool state serving =
     let sessions = state.sessions ++ new_session number tool ∷ [] in
     record {
       orderly = serving.orderly;
-      own = λ n. rw (joined_face tool number n state.sessions) (serving.own n);
-      apart = λ m n differ. rw (joined_face tool number m state.sessions, joined_face tool number n state.sessions) (serving.apart m n differ);
+      own = λ n. rw (joined tool number n state.sessions) (serving.own n);
+      apart = λ m n differ. rw (joined tool number m state.sessions, joined tool number n state.sessions) (serving.apart m n differ);
       alone = subst OneHolder (sym (held_joined state.sessions number tool)) serving.alone;
       waits = waits_flagged state.sessions sessions state.waiting (λ n. joined_flags tool number n state.sessions) serving.waits;
     }

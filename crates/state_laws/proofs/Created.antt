@@ -1,5 +1,5 @@
 -- What a session wrote goes with a database that has one more table as well, of a name that none had.
-use Rattle.std.proofs.Common.{◌≡◌, ℕ, Bool, true, false, not, List, [], ◌∷◌, ◌++◌, cond, Option, None, refl, sym, ap, ◌∙◌, subst}
+use Rattle.std.proofs.Common.{◌≡◌, ℕ, Bool, true, false, List, [], ◌∷◌, ◌++◌, Option, None, refl, sym, ap, ◌∙◌, subst}
 use Rattle.std.specs.Prelude.{is_some}
 use Rattle.std.proofs.lemmas.Bool.{false≢true}
 use Rattle.std.specs.List.{AllByRecursion, list_any}
@@ -8,16 +8,16 @@ use Rattle.event_codec.specs.declared.event.Change.{Change}
 use Rattle.event_codec.specs.declared.event.RowEvent.{RowEvent}
 use Rattle.gho_schema.specs.declared.schema.Schema.{Schema}
 use Rattle.row_locks.specs.declared.lock.Lock.{Lock}
-use Rattle.row_store.specs.Databases.{TableRows, Database, find_table, has_table, is_named, with_change, without_table}
+use Rattle.row_store.specs.Databases.{TableRows, Database, find_table, has_table, with_change, without_table}
 use Rattle.plain_server.specs.Jobs.{change_table}
 use Rattle.statement_laws.specs.Agreeing.{Agree, TablesAgree}
 use Rattle.statement_laws.specs.Covering.{IsOrderlyTable}
 use Rattle.statement_laws.specs.Databases.{ChangeCovered, WhereFound, EventsCovered}
 use Rattle.statement_laws.proofs.Finding.{change_if, found_after}
-use Rattle.statement_laws.proofs.Tests.{are_same, nor_left, nor_right}
-use Rattle.ghost_rows.specs.Moments.{Fits}
+use Rattle.statement_laws.proofs.Tests.{are_same}
+use Rattle.ghost_laws.specs.GhostRows.Moments.{Fits}
 use Rattle.ghost_laws.specs.Fitting.{EventsFit, IsFitting}
-use Rattle.history_laws.proofs.Moves.{create_moves, drop_moves}
+use Rattle.history_laws.proofs.Moves.{create_moves, drop_moves, gone_none, none_found}
 use Rattle.history_laws.specs.Holdings.{Face}
 use Rattle.state_laws.specs.Keeping.{AllStand, OwnFits}
 
@@ -63,18 +63,6 @@ off_name name event tables none stands = at (bytes_eq event name) refl where
 off_names : (name : List ℕ) (tables : Database) (events : List RowEvent) → find_table name tables ≡ None → AllStand tables events → NotOf name events
 off_names name tables [] none stand = tt
 off_names name tables (event ∷ events) none stand = (off_name name event.table tables none stand.0, off_names name tables events none stand.1)
-
-pub none_found : (name : List ℕ) (tables : Database) → has_table name tables ≡ false → find_table name tables ≡ None
-none_found name [] none = refl
-none_found name (table ∷ tables) none = rw (nor_left (is_named name table) (has_table name tables) none) (none_found name tables (nor_right (is_named name table) (has_table name tables) none))
-
--- a table that is gone
-gone_none : (name : List ℕ) (tables : Database) → find_table name (without_table name tables) ≡ None
-gone_none name [] = refl
-gone_none name (table ∷ tables) = at (is_named name table) refl (gone_none name tables) where
-  at : (b : Bool) → is_named name table ≡ b → find_table name (without_table name tables) ≡ None → find_table name (cond (not b) (table ∷ without_table name tables) (without_table name tables)) ≡ None
-  at true same rest = rest
-  at false same rest = rw same rest
 
 gone_alike : (name : List ℕ) (tables : Database) → AlikeBut name (without_table name tables) tables
 gone_alike name tables other off = sym ((drop_moves name tables).others other (rw off refl))

@@ -23,27 +23,18 @@ use Rattle.statement_laws.proofs.Tests.{are_one, turned}
 use Rattle.history_laws.specs.Scenes.{no_hold, Besides}
 use Rattle.history_laws.specs.Holdings.{Face, face_in, face_of}
 use Rattle.history_laws.proofs.Answering.{apart_both}
-use Rattle.history_laws.proofs.Faces.{faces_with}
+use Rattle.history_laws.proofs.Faces.{faces_with, writes_face, busy_face}
 use Rattle.history_laws.proofs.Held.{holding_face, rests_face, locking_face, unlocking_face}
 use Rattle.history_laws.proofs.Moves.{Moved, create_moves, drop_moves, rename_moves}
 use Rattle.history_laws.proofs.Names.{Free, names_granted}
 use Rattle.history_laws.proofs.Serves.{IsFree}
+use Rattle.history_laws.proofs.LawfulTables.{lawful_table}
 use Rattle.ghost_laws.proofs.Fitting.{fitting_end, orderly_events}
 use Rattle.state_laws.specs.Keeping.{OwnFits}
 use Rattle.state_laws.specs.Granting.{grown, GrowsWell}
-use Rattle.state_laws.proofs.Lawful.{lawful_table}
 use Rattle.state_laws.proofs.Created.{own_created}
 use Rattle.state_laws.proofs.Kept.{Keeps, own_rests, own_moved, keeps_goes, keeps_rests, keeps_holds, keeps_commits}
 use Rattle.state_laws.proofs.Granted.{quiet_own, statement_own, copy_own}
-
--- what a session has, by its face
-pub writes_face : (found : Option Session) → writes_of found ≡ (face_in found).hold.writes
-writes_face None = refl
-writes_face (Some session) = refl
-
-pub busy_face : (found : Option Session) → is_in_transaction found ≡ (face_in found).busy
-busy_face None = refl
-busy_face (Some session) = refl
 
 -- the deed does no harm
 abbrev pub DeedFits : State → ℕ → Deed → Type 0

@@ -1,5 +1,5 @@
 -- A session with what it was granted: what it wrote goes with the tables.
-use Rattle.std.proofs.Common.{◌≡◌, ℕ, Bool, true, false, List, [], ◌∷◌, ◌++◌, Option, Some, None, refl, sym, ap, ◌∙◌, subst}
+use Rattle.std.proofs.Common.{◌≡◌, ℕ, true, List, [], ◌∷◌, ◌++◌, Option, Some, None, refl, sym, ap, ◌∙◌, subst}
 use Rattle.std.specs.Prelude.{is_some}
 use Rattle.std.proofs.lemmas.Bool.{true≢false}
 use Rattle.std.proofs.lemmas.List.{append-nil}
@@ -18,13 +18,14 @@ use Rattle.plain_server.specs.Saying.{tells}
 use Rattle.statement_laws.specs.Agreeing.{Within}
 use Rattle.statement_laws.specs.Databases.{IsOrderly, TaskSound}
 use Rattle.statement_laws.proofs.Points.{within-left, within-right, within-itself}
-use Rattle.statement_laws.proofs.Finding.{agree_within, change_if, found_after, says_covered}
+use Rattle.statement_laws.proofs.Finding.{agree_within, found_after, says_covered}
 use Rattle.statement_laws.proofs.Stables.{covered_both, covered_more, covered_before, statement_sound}
 use Rattle.history_laws.specs.Holdings.{Face}
 use Rattle.history_laws.proofs.Words.{names_left, names_last, quiet_covered}
 use Rattle.history_laws.proofs.Tooling.{copies_sound, names_two}
 use Rattle.ghost_laws.specs.Fitting.{EventsFit}
 use Rattle.ghost_laws.proofs.Fitting.{fitting_end, fitting_task, orderly_events}
+use Rattle.history_laws.proofs.ServerLaws.Others.{some_changed}
 use Rattle.state_laws.specs.Keeping.{AllStand, OwnFits}
 use Rattle.state_laws.specs.Granting.{grown}
 
@@ -60,16 +61,11 @@ pub said_stand : (tables : Database) (job : Job) → AllStand tables (job_says t
 unfolding job_says
 said_stand tables job = said_in tables job (find_table job.table tables) refl
 
-stands_changed : (b : Bool) (change : Change) (found : Option TableRows) → is_some (change_if b change found) ≡ is_some found
-stands_changed true change None = refl
-stands_changed true change (Some table) = refl
-stands_changed false change found = refl
-
 pub stands_after : (name : List ℕ) (tables : Database) (events : List RowEvent) → is_some (find_table name (after_events tables events)) ≡ is_some (find_table name tables)
 unfolding after_events
 stands_after name tables [] = refl
 stands_after name tables (event ∷ events) =
-    stands_after name (with_change event.table (change_table event.change) tables) events ∙ ap is_some (found_after event.table name event.change tables) ∙ stands_changed (bytes_eq event.table name) event.change (find_table name tables)
+    stands_after name (with_change event.table (change_table event.change) tables) events ∙ ap is_some (found_after event.table name event.change tables) ∙ some_changed (bytes_eq event.table name) event.change (find_table name tables)
 
 stand_before : (tables : Database) (writes events : List RowEvent) → AllStand (after_events tables writes) events → AllStand tables events
 stand_before tables writes [] stand = tt

@@ -1,4 +1,3 @@
-pub mod Lawful
 pub mod Created
 pub mod Kept
 pub mod Granted

@@ -9,3 +9,4 @@ pub mod Orderly
 pub mod Sound
 pub mod Finding
 pub mod Stables
+pub mod Sets

@@ -89,7 +89,7 @@ none_displaced schema row rows =
     let yes : stands one.row (displaced schema row rows) ≡ true = stands-filter (clash schema.uniques row) one.row rows ∙ rw (left.stood, one.passes) refl in
     true≢false (sym yes ∙ left.stays))
 
-change_all-append : (places : List ℕ) (a b : List Change) (rows : List Row) → change_all places (a ++ b) rows ≡ change_all places b (change_all places a rows)
+pub change_all-append : (places : List ℕ) (a b : List Change) (rows : List Row) → change_all places (a ++ b) rows ≡ change_all places b (change_all places a rows)
 unfolding change_all
 change_all-append places [] b rows = refl
 change_all-append places (x ∷ a) b rows = change_all-append places a b (change_rows places x rows)

@@ -25,7 +25,6 @@ use Rattle.plain_server.specs.Jobs.{table_of, job_of, says, row_needs, change_ta
 use Rattle.plain_server.specs.Alone.{line_says, line_events, line_replies, Ran, lines_run, nothing_ran}
 use Rattle.statement_laws.specs.Laws.{StatementsKeepDatabases}
 use Rattle.statement_laws.specs.Stability.{RunSo, Stable}
-use Rattle.statement_laws.proofs.Points.{within-itself}
 use Rattle.statement_laws.proofs.Covers.{others_kept}
 use Rattle.statement_laws.proofs.Sound.{work_sound}
 use Rattle.statement_laws.proofs.Finding.{NamesWithin, change_if, found_after, agree_events, agree_itself, agree_then, agree_within, says_alike, says_orderly, says_covered, rows_more}
@@ -106,15 +105,6 @@ stable_statement names more locks all lines ran tables statement mark stable ord
     let here : RunSo lines ran tables = stable.each tables orderly (agree_itself names locks tables) in
     stable_more names more locks all lines ran tables (words.Do statement) mark stable named within
     (λ other is agree. more_alike tables other (words.Do statement) mark ran (says_alike more all (after_events tables ran.writes) (after_events other ran.writes) (job_of statement) (agree_events more all tables other ran.writes agree) mine needed here.orderly is).said)
-
--- a line whose replies and writes are the same on all databases: BEGIN, COMMIT, ROLLBACK; one that timed out, or was lost before it was done
-abbrev pub IsSilent : ScriptWord → Mark → Type 0
-IsSilent word mark = (one two : Database) (ran : Ran) → one_more one ran (record { word = word; mark = mark }) ≡ one_more two ran (record { word = word; mark = mark })
-
-pub stable_silent : (names : List (List ℕ)) (locks : List Lock) (lines : List TxnLine) (ran : Ran) (tables : Database) (word : ScriptWord) (mark : Mark) → IsSilent word mark → Stable names locks lines ran tables
-    → Stable names locks (lines ++ record { word = word; mark = mark } ∷ []) (one_more tables ran (record { word = word; mark = mark })) tables
-stable_silent names locks lines ran tables word mark silent stable =
-    stable_more names names locks locks lines ran tables word mark stable (λ name is. is) (within-itself locks) (λ other is agree. silent tables other ran)
 
 -- a line that says nothing of the tables: BEGIN
 pub stable_begin : (tables : Database) → IsOrderly tables → Stable [] [] [] nothing_ran tables

@@ -12,7 +12,7 @@ use Rattle.event_codec.specs.declared.event.Change.{Change}
 use Rattle.event_codec.specs.declared.event.Change.TheVariants.{Write, Update, Delete}
 use Rattle.row_store.proofs.Orders.{Row, not_greater, turned, is_Equal}
 use Rattle.row_store.proofs.Ascending.{ascends-filter, before_all}
-use Rattle.plain_server.specs.Rows.{same_row, stands, without_row, change_rows, change_all}
+use Rattle.plain_server.specs.Rows.{same_row, stands, without_row, change_rows}
 use Rattle.statement_laws.specs.Agreeing.{SameWhere}
 use Rattle.statement_laws.proofs.Tests.{or_swapped, or_true}
 
@@ -176,7 +176,8 @@ same-changed test places (Write row) a b same = same-put test places row a b sam
 same-changed test places (Update before after) a b same = same-put test places after (without_row before a) (without_row before b) (same-without test before a b same)
 same-changed test places (Delete row) a b same = same-without test row a b same
 
-pub same-changes : (test : Row → Bool) (places : List ℕ) (changes : List Change) (a b : List Row) → SameWhere test a b → SameWhere test (change_all places changes a) (change_all places changes b)
-unfolding change_all
-same-changes test places [] a b same = same
-same-changes test places (change ∷ changes) a b same = same-changes test places changes (change_rows places change a) (change_rows places change b) (same-changed test places change a b same)
+-- a row behind another one is another
+pub other_row : (places : List ℕ) (row other : Row) (b : Bool) → same_row row other ≡ b → compare_keys (key_of places row) (key_of places other) ≡ Less → b ≡ false
+other_row places row other true same less =
+    let tied : compare_keys (key_of places row) (key_of places other) ≡ Equal = ap (λ (r : Row). compare_keys (key_of places row) (key_of places r)) (sym (one_row row other same)) ∙ tied_itself keys_total (key_of places row) in absurd (cc)
+other_row places row other false same less = refl

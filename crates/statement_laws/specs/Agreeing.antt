@@ -4,8 +4,6 @@ use Rattle.std.specs.List.{AllByRecursion, list_any, slice_get}
 use Rattle.std.specs.Str.{bytes_eq}
 use Rattle.gho_values.specs.declared.value.Value.{Value}
 use Rattle.gho_schema.specs.declared.schema.Schema.{Schema}
-use Rattle.gho_schema.specs.Rows.{key_places}
-use Rattle.gho_schema.specs.Tables.{Ascends}
 use Rattle.row_locks.specs.declared.lock.Lock.{Lock}
 use Rattle.row_store.specs.Databases.{TableRows, Database, find_table}
 use Rattle.plain_server.specs.Rows.{lies_under, stands}
@@ -31,10 +29,6 @@ TablesAgree locks a b = ⊥
 -- *Agree*: under the names, the two databases have tables of the same schemas with the same rows under the locks
 pub record Agree (names : List (List ℕ)) (locks : List Lock) (a b : Database) : Type 0 where
   pub tables : (name : List ℕ) → list_any (bytes_eq name) names ≡ true → TablesAgree locks (find_table name a) (find_table name b)
-
--- the rows of each table stand in order of its clustered key
-abbrev pub InOrder : Database → Type 0
-InOrder tables = AllByRecursion (λ table. Ascends (key_places table.schema) table.rows) tables
 
 -- the lock is one of these
 abbrev pub Among : Lock → List Lock → Type 0

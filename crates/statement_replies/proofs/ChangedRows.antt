@@ -1,12 +1,10 @@
 -- Rows that are met stand, in order, and stay so while those before them are changed.
-use Rattle.std.proofs.Common.{◌≡◌, ℕ, suc, ◌==◌, arith, Bool, true, false, not, ◌&&◌, ◌||◌, List, [], ◌∷◌, length, filter, cond, Option, Less, Equal, refl, sym, ap, ◌∙◌, subst}
+use Rattle.std.proofs.Common.{◌≡◌, ℕ, suc, ◌==◌, arith, Bool, true, false, not, ◌&&◌, ◌||◌, List, [], ◌∷◌, length, filter, cond, Option, Less, refl, sym, ap, ◌∙◌, subst}
 use Rattle.std.proofs.lemmas.Bool.{false≢true, or_right}
 use Rattle.std.proofs.lemmas.Bool.Decides.{nat_tests}
 use Rattle.std.specs.List.{AllByRecursion, list_any}
-use Rattle.std.proofs.lemmas.Cmp.{tied_itself}
 use Rattle.gho_values.specs.declared.value.Value.{Value}
 use Rattle.gho_values.specs.Comparing.{compare_keys}
-use Rattle.gho_values.proofs.Orders.{keys_total}
 use Rattle.gho_schema.specs.declared.schema.Schema.{Schema}
 use Rattle.gho_schema.specs.Rows.{key_of, key_places, with_row}
 use Rattle.gho_schema.specs.Tables.{Ascends, IsRow, IsTable}
@@ -18,7 +16,7 @@ use Rattle.row_store.proofs.TableLaws.{some_rows}
 use Rattle.plain_server.specs.Rows.{same_row, stands, without_row, change_rows}
 use Rattle.plain_server.specs.Saying.{with_sets, clashes_besides}
 use Rattle.statement_laws.specs.Covering.{SetsFit}
-use Rattle.statement_laws.proofs.Standing.{one_row, same_itself, stands-put, stands-filter}
+use Rattle.statement_laws.proofs.Standing.{one_row, same_itself, stands-put, stands-filter, other_row}
 use Rattle.statement_laws.proofs.Orderly.{orderly_put, with_sets_row, none_besides}
 use Rattle.written_rows.specs.Fitting.{FitsRows}
 use Rattle.statement_replies.specs.Updating.{AreMet}
@@ -51,12 +49,6 @@ are_met places test rows ascends = record {
   ascends = ascends-filter places test rows ascends;
   stand = all-filter (λ row. stands row rows ≡ true) test rows (all_stand rows);
 }
-
--- a row behind another one is another
-other_row : (places : List ℕ) (row other : Row) (b : Bool) → same_row row other ≡ b → compare_keys (key_of places row) (key_of places other) ≡ Less → b ≡ false
-other_row places row other true same less =
-    let tied : compare_keys (key_of places row) (key_of places other) ≡ Equal = ap (λ (r : Row). compare_keys (key_of places row) (key_of places r)) (sym (one_row row other same)) ∙ tied_itself keys_total (key_of places row) in absurd (cc)
-other_row places row other false same less = refl
 
 behind_stand : (places : List ℕ) (old : Row) (met rows : List Row) → AllByRecursion (λ other. compare_keys (key_of places old) (key_of places other) ≡ Less) met → AllByRecursion (λ row. stands row rows ≡ true) met → AllByRecursion (λ row. stands row (without_row old rows) ≡ true) met
 behind_stand places old [] rows less stood = tt

@@ -18,7 +18,7 @@ use Rattle.plain_server.specs.Answers.{refuses}
 use Rattle.plain_server.specs.Rows.{reaches, rows_met, same_row, without_row, change_rows, change_all}
 use Rattle.plain_server.specs.Saying.{only, displaced, with_sets, clashes_besides, change_first, updates, updated, result_or_refusal, tells}
 use Rattle.statement_laws.specs.Covering.{SetsFit, IsSound}
-use Rattle.statement_laws.proofs.Orderly.{orderly_put, tells_orderly}
+use Rattle.statement_laws.proofs.Orderly.{orderly_put, tells_orderly, change_all-append}
 use Rattle.written_rows.specs.Fitting.{AllFit}
 use Rattle.statement_replies.specs.Updating.{AreMet}
 use Rattle.statement_replies.specs.Laws.{ToldChangesFit}
@@ -30,11 +30,6 @@ fit-append : (places : List ℕ) (a b : List Change) (rows : List Row) → AllFi
 unfolding AllFit change_all
 fit-append places [] b rows one two = two
 fit-append places (change ∷ a) b rows one two = (one.0, fit-append places a b (change_rows places change rows) one.1 two)
-
-pub change_all-append : (places : List ℕ) (a b : List Change) (rows : List Row) → change_all places (a ++ b) rows ≡ change_all places b (change_all places a rows)
-unfolding change_all
-change_all-append places [] b rows = refl
-change_all-append places (change ∷ a) b rows = change_all-append places a b (change_rows places change rows)
 
 -- rows that are met are removed
 deletes_fit : (places : List ℕ) (met rows : List Row) → AreMet places met rows → AllFit places (map changes.Delete met) rows

@@ -1,5 +1,5 @@
 -- Where rows with one more stand in order, it has a key that none of the others has.
-use Rattle.std.proofs.Common.{◌≡◌, ℕ, false, List, [], ◌∷◌, find, cond, Some, None, Ordering, Less, Equal, Greater, refl, ap}
+use Rattle.std.proofs.Common.{◌≡◌, ℕ, List, [], ◌∷◌, find, cond, Some, None, Ordering, Less, Equal, Greater, refl}
 use Rattle.std.specs.Ordering.{is_eq, match_ordering}
 use Rattle.std.specs.List.{AllByRecursion}
 use Rattle.gho_values.specs.Comparing.{compare_keys}
@@ -7,13 +7,8 @@ use Rattle.gho_schema.specs.Rows.{key_of, with_row}
 use Rattle.gho_schema.specs.Tables.{Ascends}
 use Rattle.row_store.specs.RowLists.{is_at}
 use Rattle.row_store.proofs.Orders.{Row}
-use Rattle.row_store.proofs.FoundRows.{none_found}
+use Rattle.row_store.proofs.FoundRows.{none_found, none_at}
 use Rattle.written_rows.specs.Fitting.{IsNewAmong}
-
--- rows behind this one have other keys
-none_at : (places : List ℕ) (row : Row) (rows : List Row) → AllByRecursion (λ other. compare_keys (key_of places row) (key_of places other) ≡ Less) rows → AllByRecursion (λ other. is_at places (key_of places row) other ≡ false) rows
-none_at places row [] less = tt
-none_at places row (first ∷ rows) less = (ap is_eq less.0, none_at places row rows less.1)
 
 none_behind : (places : List ℕ) (row : Row) (rows : List Row) → AllByRecursion (λ other. compare_keys (key_of places row) (key_of places other) ≡ Less) rows → IsNewAmong places rows row
 none_behind places row rows less = none_found (is_at places (key_of places row)) (is_at places (key_of places row)) rows (λ other fails. fails) (none_at places row rows less)

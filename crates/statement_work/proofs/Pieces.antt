@@ -1,7 +1,5 @@
 -- Rows with columns set, and locks, piece by piece.
-use Rattle.std.proofs.Common.{◌≡◌, ℕ, ◌+◌, List, [], ◌∷◌, ◌++◌, Option, Some, None, refl, append_assoc}
-use Rattle.std.specs.Prelude.{unwrap_or}
-use Rattle.gho_values.specs.declared.value.Value.{Value}
+use Rattle.std.proofs.Common.{◌≡◌, ℕ, ◌+◌, List, [], ◌∷◌, ◌++◌, refl, append_assoc}
 use Rattle.gho_schema.specs.declared.schema.Schema.{Schema}
 use Rattle.gho_schema.specs.declared.schema.Index.{Index}
 use Rattle.gho_schema.specs.Rows.{key_of}
@@ -10,22 +8,10 @@ use Rattle.row_store.proofs.Orders.{Row}
 use Rattle.plain_server.specs.Saying.{with_sets}
 use Rattle.plain_server.specs.Needing.{point_lock, points_from}
 
--- one column more
-pub with_sets_more : (set : Option Value) (sets : List (Option Value)) (value : Value) (row : Row) → with_sets (set ∷ sets) (value ∷ row) ≡ unwrap_or set value ∷ with_sets sets row
-unfolding with_sets
-with_sets_more None sets value row = refl
-with_sets_more (Some new) sets value row = refl
-
 -- without sets all stays
 pub with_no_sets : (row : Row) → with_sets [] row ≡ row
 unfolding with_sets
 with_no_sets row = refl
-
--- no column is left
-pub with_sets_none : (sets : List (Option Value)) → with_sets sets [] ≡ []
-unfolding with_sets
-with_sets_none [] = refl
-with_sets_none (set ∷ sets) = refl
 
 -- the locks of one key more
 pub points_more : (schema : Schema) (into : List Lock) (place : ℕ) (index : Index) (uniques : List Index) (row : Row) → (into ++ point_lock schema place (key_of index.places row)) ++ points_from schema (place + 1) uniques row ≡ into ++ points_from schema place (index ∷ uniques) row

@@ -17,7 +17,7 @@ fn set_or(set: &Option<Value>, value: &Value) -> Result<Value, AllocError>
 }
 
 /// A copy of the row with its columns set to these values, where there are such.
-#[tactic(auto, using(crate::proofs::Pieces::with_sets_more, crate::proofs::Pieces::with_no_sets), unfolding(plain_server::specs::Saying::with_sets))]
+#[tactic(auto, using(statement_laws::proofs::Sets::with_sets_more, crate::proofs::Pieces::with_no_sets), unfolding(plain_server::specs::Saying::with_sets))]
 pub fn with_sets(alloc: Global, sets: &[Option<Value>], row: &[Value]) -> Result<Row, AllocError>
     ensures { IfOk result (λ new. new ≡ with_sets sets.now row.now) }
 {

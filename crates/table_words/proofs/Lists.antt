@@ -18,11 +18,6 @@ regroup : {A C : Type 0} (front : List A) (one : A) (read : Result (List A × Li
 regroup {A} front one (Ok x) = ap (λ (items : List A). Ok (items, x.1)) (simp append_assoc)
 regroup front one (Err code) = refl
 
--- no item yet
-pub starts : {A C : Type 0} (read : Result (List A × List Token) C) → with_front [] read ≡ read
-starts (Ok x) = refl
-starts (Err code) = refl
-
 module _ {A C : Type 0} (item : List Token → Result (A × List Token) C) (ended : C) (front : List A) (most i : ℕ) (words : List Token) (total : Result (List A × List Token) C) where
   pub goes_on : (one : A) (behind next : List Token) → i < most → item words ≡ Ok (one, behind) → behind_sign (codes ",") behind ≡ Some next
       → with_front front (listed item ended (most - i) words) ≡ total → with_front (front ++ one ∷ []) (listed item ended (most - (i + 1)) next) ≡ total

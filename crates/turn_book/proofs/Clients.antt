@@ -12,8 +12,8 @@ use Rattle.plain_server.specs.declared.entry.Entry.{Entry}
 use Rattle.plain_server.specs.Entries.{same_actor}
 use Rattle.plan_words.specs.PlanData.{PlanData}
 use Rattle.journal_words.specs.Clients.{Reached, Became, Nothing, Waits, Marked, Broken, new_client, script_of, client_at, client_asks, client_over, all_over, line_asks, client_after, became, after_turn}
-use Rattle.client_turns.specs.declared.seat.ClientSeat.{ClientSeat}
-use Rattle.client_turns.specs.Seats.{IsReached, asks_so}
+use Rattle.actor_seats.specs.declared.client_turns.seat.ClientSeat.{ClientSeat}
+use Rattle.actor_seats.specs.ClientTurns.Seats.{IsReached, asks_so}
 use Rattle.turn_book.specs.Books.{free_client, AreReached}
 
 pub client_more : (plan : PlanData) (journal : List Entry) (entry : Entry) (number : ℕ) → client_at plan (journal ++ entry ∷ []) number ≡ after_turn number (client_at plan journal number) entry
@@ -227,7 +227,7 @@ reached_here plan journal i seats script seat all is at =
 
 -- THE CLIENTS ARE OVER
 
-left_here : {A : Type 0} → (xs : List A) (i : ℕ) (x : A) → slice_get xs i ≡ Some x → drop i xs ≡ x ∷ drop (i + 1) xs
+pub left_here : {A : Type 0} → (xs : List A) (i : ℕ) (x : A) → slice_get xs i ≡ Some x → drop i xs ≡ x ∷ drop (i + 1) xs
 left_here [] zero x is = absurd (cc)
 left_here [] (suc i) x is = absurd (cc)
 left_here (y ∷ xs) zero x is = let same : y ≡ x = cc in ap (λ z. z ∷ xs) same

@@ -1,12 +1,10 @@
 -- What is given doesn't turn on the numbers of sessions that were made besides.
-use Rattle.std.proofs.Common.{◌≡◌, ℕ, Bool, true, false, List, Option, Some, None, refl, sym, ap, ◌∙◌, subst}
+use Rattle.std.proofs.Common.{◌≡◌, ℕ, true, false, List, Option, Some, None, refl, sym, ap, ◌∙◌, subst}
 use Rattle.std.specs.Prelude.{if◌then◌else◌, nat_lt}
 use Rattle.script_text.specs.declared.actor.Actor.{Actor}
 use Rattle.script_text.specs.declared.actor.Actor.TheVariants.{Op, Insp, Copy, Apply, Lock, Ren, Client}
-use Rattle.plain_server.specs.declared.entry.Asked.{Asked}
 use Rattle.plain_server.specs.declared.entry.Asked.TheVariants.{Poll}
 use Rattle.plain_server.specs.declared.entry.Entry.{Entry}
-use Rattle.plain_server.specs.declared.request.Request.{Request}
 use Rattle.plain_server.specs.States.{State, unread}
 use Rattle.plan_words.specs.PlanData.{PlanData}
 use Rattle.journal_words.specs.Sessions.{live_session}
@@ -14,7 +12,7 @@ use Rattle.migration_program.specs.Tools.{Work, Course, SettingUp, Migrating, To
 use Rattle.migration_program.specs.Programs.{waits, in_transaction, rolls_back, copy_call, tool_call, calls, tool_asks, given}
 use Rattle.run_laws.specs.Counting.{numbered, IsBehind}
 
-waits_same : (made : ℕ) (state : State) (session : Option ℕ) → waits (numbered made state) session ≡ waits state session
+pub waits_same : (made : ℕ) (state : State) (session : Option ℕ) → waits (numbered made state) session ≡ waits state session
 waits_same made state None = refl
 waits_same made state (Some session) = refl
 
@@ -39,9 +37,6 @@ call_same plan made state journal tool (Migrating work) Apply =
 call_same plan made state journal tool (Migrating work) Lock = refl
 call_same plan made state journal tool (Migrating work) Ren = refl
 call_same plan made state journal tool (Migrating work) (Client client) = refl
-
-asks_by : Bool → Option Request → Option Asked
-asks_by waiting request = if waiting then Some Poll else calls request
 
 asks_same : (plan : PlanData) (made : ℕ) (state : State) (journal : List Entry) (tool : Tool) (actor : Actor) → tool_asks plan journal (record { server = numbered made state; tool = tool }) actor ≡ tool_asks plan journal (record { server = state; tool = tool }) actor
 asks_same plan made state journal tool actor =

@@ -6,7 +6,7 @@ use Rattle.changelog_table.specs.ToolNames.{log_name}
 use Rattle.plan_words.specs.PlanData.{PlanData}
 use Rattle.migration_program.specs.Tools as program
 use Rattle.migration_program.specs.Tools.{moment}
-use Rattle.program_laws.proofs.Machines.{CourseIsNamed, named}
+use Rattle.migration_program.proofs.ProgramLaws.Machines.{CourseIsNamed, named}
 use Rattle.tool_setup.specs.declared.setup.Setup.{Setup}
 use Rattle.tool_state.specs.declared.tool.Work.{Work}
 use Rattle.tool_state.specs.declared.tool.Tool.{Tool}

@@ -18,8 +18,8 @@ use Rattle.tool_state.specs.Meanings.{tool_of}
 use Rattle.tool_state.specs.Sound.{HasRoom, IsSound}
 use Rattle.actor_seats.specs.declared.seat.ActorSeat.{ActorSeat}
 use Rattle.actor_seats.specs.Seats.{seat_at}
-use Rattle.client_turns.specs.declared.seat.ClientSeat.{ClientSeat}
-use Rattle.client_turns.specs.Seats.{IsReached}
+use Rattle.actor_seats.specs.declared.client_turns.seat.ClientSeat.{ClientSeat}
+use Rattle.actor_seats.specs.ClientTurns.Seats.{IsReached}
 use Rattle.run_laws.specs.Counting.{busy_count}
 use Rattle.turn_book.specs.declared.book.Book.{Book}
 

@@ -1,7 +1,7 @@
 //! The record.
 
 use actor_seats::ActorSeat;
-use client_turns::ClientSeat;
+use actor_seats::client_turns::ClientSeat;
 use gho_values::Names;
 use plain_server::Entry;
 use plan_words::Plan;

@@ -8,8 +8,8 @@ ghost use Rattle.turn_book.specs.Books.{free_seat, free_client, IsBook};
 
 use crate::book::Book;
 use actor_seats::ActorSeat;
+use actor_seats::client_turns::ClientSeat;
 use changelog_table::log_name;
-use client_turns::ClientSeat;
 use gho_values::{Duplicate, Name, Names, Sequence};
 use plan_words::Plan;
 use script_text::Actor;

@@ -5,7 +5,7 @@ use Rattle.gho_schema.specs.Tables.{Ascends}
 use Rattle.event_codec.specs.declared.event.Change.TheVariants.{Write, Update, Delete}
 use Rattle.row_store.specs.Databases.{TableRows, Database, find_table, is_named, with_change, put_in_table, put_row, remove_from_table, remove_row, NamesDiffer, IsNewIn}
 use Rattle.row_store.proofs.Orders.{Row}
-use Rattle.row_store.proofs.ChangedTables.{change_found, new_put}
+use Rattle.row_store.proofs.ChangedTables.{new_put}
 use Rattle.row_store.proofs.NamedTables.{no_change, none_behind}
 use Rattle.plain_server.specs.Rows.{stands, change_rows}
 use Rattle.plain_server.specs.Jobs.{change_table}
@@ -52,6 +52,3 @@ removal_done name row key found tables differ is ascends own stood =
 pub update_done : (name : List ℕ) (before after : Row) (tables : Database) → with_change name (change_table (Write after)) (with_change name (change_table (Delete before)) tables) ≡ with_change name (change_table (Update before after)) tables
 unfolding change_rows
 update_done name before after tables = twice_changed name (change_table (Delete before)) (change_table (Write after)) tables (λ t. refl)
-
-pub removed_found : (name : List ℕ) (row : Row) (found : TableRows) (tables : Database) → find_table name tables ≡ Some found → find_table name (with_change name (change_table (Delete row)) tables) ≡ Some (change_table (Delete row) found)
-removed_found name row found tables is = change_found name (change_table (Delete row)) tables (λ t. refl) ∙ rw is refl

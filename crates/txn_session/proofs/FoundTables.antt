@@ -25,11 +25,6 @@ pub found_of : (change : Change) (found : Option TableRows) → FitsIn change fo
 found_of change None fits = absurd fits
 found_of change (Some table) fits = record { table = table; is = refl }
 
--- what a change takes out fits, and so does what it puts where that is taken out
-pub fits_out : (before after : Row) (found : Option TableRows) → FitsIn (Update before after) found → FitsIn (Delete before) found
-fits_out before after None fits = absurd fits
-fits_out before after (Some table) fits = fits.0
-
 put_behind : (before after : Row) (found : Option TableRows) → FitsIn (Update before after) found → FitsIn (Write after) (option_map (change_table (Delete before)) found)
 unfolding change_rows
 put_behind before after None fits = absurd fits

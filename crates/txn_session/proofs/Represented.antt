@@ -7,7 +7,7 @@ use Rattle.plain_server.specs.Rows.{change_rows, change_all}
 use Rattle.written_rows.specs.Written.{Written, nothing, seen, wrote_all, written_over}
 use Rattle.written_rows.specs.Fitting.{AllFit}
 use Rattle.written_rows.proofs.SeenChanges.{is_nothing, is_wrote_all, is_over, changes_seen, later_over}
-use Rattle.statement_replies.proofs.FittingChanges.{change_all-append}
+use Rattle.statement_laws.proofs.Orderly.{change_all-append}
 use Rattle.txn_session.specs.Shown.{Represents}
 
 pub represents_all : (places : List ℕ) (changes : List Change) → Represents places changes (wrote_all places changes nothing)

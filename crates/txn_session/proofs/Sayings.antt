@@ -74,7 +74,7 @@ reads_some tables txn statement name table writes own of found ascends there sho
     }
 
 -- where nothing was
-nothing_wrote : (places : List ℕ) → wrote_all places [] nothing ≡ nothing
+pub nothing_wrote : (places : List ℕ) → wrote_all places [] nothing ≡ nothing
 unfolding wrote_all
 nothing_wrote places = refl
 

@@ -15,7 +15,7 @@ use Rattle.journal_words.specs.Journals.{state_at}
 use Rattle.migration_program.specs.Failures.{Stands}
 use Rattle.migration_program.specs.Verdicts.{has_ended, verdict_of}
 use Rattle.machine_laws.specs.Laws.{TellsAlter}
-use Rattle.complete_laws.specs.Quiet.{IsQuiet, RowsHaveImages, IsWithinLimits}
+use Rattle.accepted_runs.specs.CompleteLaws.Quiet.{IsQuiet, RowsHaveImages, IsWithinLimits}
 use Rattle.report_print.specs.Reports.{report}
 use Rattle.command_words.specs.Commands.{command}
 use Rattle.command_words.specs.declared.command.Command.{Command}

@@ -11,12 +11,11 @@ ghost use Rattle.whole_host.specs.Standing.{Laws};
 
 use crate::outcome::{Outcome, outcome_of, untaken};
 use accepted_laws::laws::{read_plans_are_runnable, read_plans_are_serial};
+use accepted_runs::complete_laws::laws::quiet_runs_are_done;
 use call_endings::{PlanCommand, Turns, give, read_fault_shown, usage_shown, workload_shown};
 use command_words::{Command, Line};
-use complete_laws::laws::quiet_runs_are_done;
 use gho_edges::{Gate, ReadFault, Sink, Source, read_whole};
 use machine_laws::laws::verdicts_tell_the_alter;
-use option_laws::laws::read_options_allow;
 use plain_server::Journal;
 use plan_document::PLAN_LIMIT;
 use std::alloc::Global;

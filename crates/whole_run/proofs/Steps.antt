@@ -10,23 +10,20 @@ use Rattle.journal_words.specs.Journals.{state_at, after_entry}
 use Rattle.migration_program.specs.Programs.{waits}
 use Rattle.migration_program.specs.Tools.{moment}
 use Rattle.migration_program.specs.Verdicts.{has_ended}
-use Rattle.run_laws.specs.Counting.{numbered, IsBehind}
+use Rattle.run_laws.specs.Counting.{IsBehind}
 use Rattle.run_laws.proofs.Taking.{server_is}
 use Rattle.migration_run.specs.declared.turn.Turn.{Turn}
 use Rattle.due_turns.specs.Due.{due, next_entry}
+use Rattle.turn_book.proofs.Givens.{waits_same}
 use Rattle.whole_run.specs.Runs.{RunView, is_over, TakesTurn, IsUnmoved}
 
 -- it stands behind the moment's
 pub behind_moment : (plan : PlanData) (journal : List Entry) (server : State) → IsBehind (state_at plan journal) server → IsBehind (moment plan journal).server server
 behind_moment plan journal server behind = subst (λ (s : State). IsBehind s server) (sym (server_is plan journal)) behind
 
-waits_numbered : (made : ℕ) (state : State) (session : Option ℕ) → waits (numbered made state) session ≡ waits state session
-waits_numbered made state None = refl
-waits_numbered made state (Some session) = refl
-
 -- the same sessions wait
 pub waits_behind : (told server : State) (session : Option ℕ) → IsBehind told server → waits server session ≡ waits told session
-waits_behind told server session behind = ap (λ (s : State). waits s session) behind.same ∙ waits_numbered server.made told session
+waits_behind told server session behind = ap (λ (s : State). waits s session) behind.same ∙ waits_same server.made told session
 
 pub none_some : {A : Type 0} (x : Option A) → is_some x ≡ false → x ≡ None
 none_some None is = refl

@@ -3,5 +3,6 @@
 
 mod due;
 mod run;
+pub mod whole_replay;
 
 pub use run::{Run, Stepped};

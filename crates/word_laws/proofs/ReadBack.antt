@@ -1,12 +1,10 @@
 -- Values are printed as words are, so the laws of words say how they are read.
-use Rattle.std.proofs.Common.{◌≡◌, ℕ, suc, ◌^◌, ◌<◌, true, List, [], ◌∷◌, Some, Ok, refl, ap, ◌∙◌, arith, lit<}
+use Rattle.std.proofs.Common.{◌≡◌, ℕ, suc, ◌^◌, ◌<◌, List, [], ◌∷◌, Some, Ok, refl, ap, ◌∙◌, arith, lit<}
 use Rattle.std.specs.Prelude.{ℤ, pos, negsuc, neg_ℤ, unsigned_abs}
 use Rattle.std.specs.Fmt.{decimal}
 use Rattle.std.specs.Option.{option_map}
-use Rattle.std.specs.Str.{all_ascii_digits}
 use Rattle.std.specs.Str.Parse.{digits_value}
 use Rattle.std.proofs.lemmas.Fmt.{decimal_is_IsNumeral_wide, length-decimal-le_wide}
-use Rattle.std.proofs.lemmas.Str.Parse.{IsNumeralModel, numerals_by_value, tells_all_ascii_digits}
 use Rattle.gho_values.specs.declared.value.Value.TheVariants.{Num, Text, Blob}
 use Rattle.gho_values.specs.Printing.{printed}
 use Rattle.sql_words.specs.declared.word.WordClass.TheVariants as class
@@ -14,6 +12,7 @@ use Rattle.sql_words.specs.Front.{front_at}
 use Rattle.sql_words.specs.Meaning.{text_value, bytes_value, number_value, AreDigits}
 use Rattle.sql_words.specs.Printed.{printed_text, printed_bytes}
 use Rattle.sql_words.specs.Reading.{words_behind, words_of}
+use Rattle.sql_words.proofs.Numbers.{own}
 use Rattle.word_laws.specs.ReadBack.{ReadsBack, NullIsName}
 
 pub null_is_name : NullIsName
@@ -29,9 +28,6 @@ unfolding printed
 bytes_read_back bytes word value = (class.Bytes, word, ap (option_map Blob) value)
 
 -- ---- numbers
-
-own : IsNumeralModel (λ ds. all_ascii_digits ds ≡ true) (digits_value 10)
-own = numerals_by_value _ tells_all_ascii_digits
 
 wide : (n : ℕ) → n < 10 ^ 38 → n < 10 ^ 64
 wide n few = let more : 10 ^ 38 < 10 ^ 64 = lit< tt in omega arith

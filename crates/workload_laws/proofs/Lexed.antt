@@ -1,5 +1,5 @@
 -- The words of a workload's statements and rows.
-use Rattle.std.proofs.Common.{◌≡◌, ◌∙◌, ℕ, ◌+◌, ◌<◌, ◌^◌, true, false, ◌==◌, List, [], ◌∷◌, ◌++◌, length, get_or, map, Result, Ok, Err, refl, ap, subst, codes, arith, lit<, append-nil, append_assoc}
+use Rattle.std.proofs.Common.{◌≡◌, ◌∙◌, ℕ, ◌+◌, ◌<◌, ◌^◌, true, false, ◌==◌, List, [], ◌∷◌, ◌++◌, length, Ok, refl, ap, subst, codes, arith, lit<, append-nil, append_assoc}
 use Rattle.std.specs.Prelude.{pos}
 use Rattle.std.proofs.lemmas.Bool.{and_parts}
 use Rattle.std.proofs.lemmas.Bool.Decides.{nat_tests}
@@ -8,37 +8,28 @@ use Rattle.std.specs.Char.{is_ascii_digit}
 use Rattle.std.specs.Fmt.{decimal}
 use Rattle.std.specs.List.{flat_map, list_all}
 use Rattle.sql_words.specs.declared.word.WordClass.TheVariants as class
-use Rattle.sql_words.specs.declared.word.WordFault.{WordFault}
 use Rattle.sql_words.specs.declared.front.Front.TheVariants.{Found}
-use Rattle.sql_words.specs.Characters.{begins_with}
 use Rattle.sql_words.specs.Front.{front_at}
 use Rattle.sql_words.specs.Printed.{spelled, printed_text}
-use Rattle.sql_words.specs.Reading.{Reading, words_of}
 use Rattle.sql_words.proofs.NumberWords.{front_at-number_value}
 use Rattle.sql_words.proofs.Reprinted.{front_at-printed_text}
 use Rattle.table_words.specs.declared.token.Token.{Token}
-use Rattle.table_words.specs.Tokens.{token_of, words_to, text_words}
-use Rattle.print_laws.specs.Words.{keyword, sign_word, number_word}
-use Rattle.print_laws.proofs.Lexing.{Lexes, lex-end, lex-gap, lex-word, IsEnd}
-use Rattle.print_laws.proofs.Numbers.{number_value-decimal}
-use Rattle.workload_document.proofs.Digits.{are_digits}
-use Rattle.workload_document.proofs.Texts.{values_text, where_sql, delete_sql, set_sql, change_sql, move_sql, insert_sql}
+use Rattle.table_words.specs.Tokens.{text_words}
+use Rattle.schema_laws.specs.PrintLaws.Words.{keyword, sign_word, number_word}
+use Rattle.schema_laws.proofs.PrintLaws.Lexing.{Lexes, lex-end, lex-gap, lex-word, IsEnd}
+use Rattle.schema_laws.proofs.PrintLaws.Numbers.{number_value-decimal}
+use Rattle.schema_laws.proofs.PrintLaws.Pieces.{end-digit, end-quote}
+use Rattle.schema_laws.proofs.PrintLaws.Tables.{lexes-words}
+use Rattle.workload_laws.proofs.WorkloadDocument.Digits.{are_digits}
+use Rattle.workload_laws.proofs.WorkloadDocument.Texts.{values_text, where_sql, delete_sql, set_sql, change_sql, move_sql, insert_sql}
 
 -- ---- numbers
-
-end_digit : (rest : List ℕ) → IsEnd rest → is_ascii_digit (get_or rest 0 0) ≡ false
-end_digit [] end = refl
-end_digit (c ∷ rest) end = end.1
-
-end_quote : (rest : List ℕ) → IsEnd rest → begins_with 39 rest ≡ false
-end_quote [] end = refl
-end_quote (c ∷ rest) end = end.2
 
 pub short : (n : ℕ) → n < 2 ^ 64 → n < 10 ^ 38
 short n wide = let more : 2 ^ 64 < 10 ^ 38 = lit< tt in omega arith
 
 number_then : (n : ℕ) (rest : List ℕ) (ts : List Token) → n < 2 ^ 64 → IsEnd rest → Lexes rest ts → Lexes (decimal n ++ rest) (number_word (decimal n) ∷ ts)
-number_then n rest ts wide end lex = lex-word class.Number (decimal n) rest ts (decimal_nonempty n wide) (λ place. front_at-number_value place (decimal n) rest (pos n) (number_value-decimal n (short n wide)) (end_digit rest end)) lex
+number_then n rest ts wide end lex = lex-word class.Number (decimal n) rest ts (decimal_nonempty n wide) (λ place. front_at-number_value place (decimal n) rest (pos n) (number_value-decimal n (short n wide)) (end-digit rest end)) lex
 
 last_number : (n : ℕ) → n < 2 ^ 64 → Lexes (decimal n) (number_word (decimal n) ∷ [])
 last_number n wide = subst (λ (text : List ℕ). Lexes text (number_word (decimal n) ∷ [])) (append-nil (decimal n)) (number_then n [] [] wide tt lex-end)
@@ -77,7 +68,7 @@ text_then letter n rest ts is wide end lex =
     let value : List ℕ = letter ∷ decimal n in
     let same : printed_text value ++ rest ≡ 39 ∷ letter ∷ (decimal n ++ (39 ∷ rest)) =
     ap (λ (text : List ℕ). text ++ rest) (printed_is letter n is wide) ∙ ap (λ (text : List ℕ). 39 ∷ letter ∷ text) (append_assoc (decimal n) (39 ∷ []) rest) in
-    subst (λ (text : List ℕ). Lexes text (text_word value ∷ ts)) same (lex-word class.Text (printed_text value) rest ts (omega arith) (λ place. front_at-printed_text place value rest (end_quote rest end)) lex)
+    subst (λ (text : List ℕ). Lexes text (text_word value ∷ ts)) same (lex-word class.Text (printed_text value) rest ts (omega arith) (λ place. front_at-printed_text place value rest (end-quote rest end)) lex)
 
 -- ---- names
 
@@ -173,25 +164,17 @@ lex_insert key value wide also =
 
 -- ---- whole texts
 
-words_are : (text : List ℕ) (read : Result (List Reading) WordFault) (ws : List Reading) (ts : List Token) → read ≡ Ok ws → map token_of ws ≡ ts → words_to text read ≡ record { words = ts; is_faulty = false }
-words_are text (Ok us) ws ts e same = let is : us ≡ ws = cc in ap (λ (vs : List Reading). record { words = map token_of vs; is_faulty = false }) is ∙ ap (λ (vs : List Token). record { words = vs; is_faulty = false }) same
-words_are text (Err fault) ws ts e same = absurd cc
-
-text_words_are : (text : List ℕ) (ts : List Token) → Lexes text ts → text_words text ≡ record { words = ts; is_faulty = false }
-unfolding text_words
-text_words_are text ts lex = let r = lex 0 in words_are text (words_of text) r.0 ts r.1 r.2
-
 pub values_have_words : (letter key value : ℕ) → IsLetter letter → key < 2 ^ 64 → value < 2 ^ 64 → text_words (values_text letter key value) ≡ record { words = values_words letter key value; is_faulty = false }
-values_have_words letter key value is wide also = text_words_are (values_text letter key value) (values_words letter key value) (lex_values letter key value is wide also)
+values_have_words letter key value is wide also = lexes-words (values_text letter key value) (values_words letter key value) (lex_values letter key value is wide also)
 
 pub insert_has_words : (key value : ℕ) → key < 2 ^ 64 → value < 2 ^ 64 → text_words (insert_sql key value) ≡ record { words = insert_words key value; is_faulty = false }
-insert_has_words key value wide also = text_words_are (insert_sql key value) (insert_words key value) (lex_insert key value wide also)
+insert_has_words key value wide also = lexes-words (insert_sql key value) (insert_words key value) (lex_insert key value wide also)
 
 pub delete_has_words : (key : ℕ) → key < 2 ^ 64 → text_words (delete_sql key) ≡ record { words = delete_words key; is_faulty = false }
-delete_has_words key wide = text_words_are (delete_sql key) (delete_words key) (lex_delete key wide)
+delete_has_words key wide = lexes-words (delete_sql key) (delete_words key) (lex_delete key wide)
 
 pub change_has_words : (key value : ℕ) → value < 2 ^ 64 → key < 2 ^ 64 → text_words (change_sql key value) ≡ record { words = update_words (codes "v") value key; is_faulty = false }
-change_has_words key value wide also = text_words_are (change_sql key value) (update_words (codes "v") value key) (lex_change key value wide also)
+change_has_words key value wide also = lexes-words (change_sql key value) (update_words (codes "v") value key) (lex_change key value wide also)
 
 pub move_has_words : (key : ℕ) → key + 1 < 2 ^ 64 → text_words (move_sql key) ≡ record { words = update_words (codes "id") (key + 1) key; is_faulty = false }
-move_has_words key wide = text_words_are (move_sql key) (update_words (codes "id") (key + 1) key) (lex_move key wide)
+move_has_words key wide = lexes-words (move_sql key) (update_words (codes "id") (key + 1) key) (lex_move key wide)

@@ -7,3 +7,5 @@ pub mod RowsPut
 pub mod Computed
 pub mod TablesRead
 pub mod TablesSound
+pub mod WorkloadDocument
+pub mod WorkloadPlans

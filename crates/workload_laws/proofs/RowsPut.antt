@@ -18,9 +18,9 @@ use Rattle.row_store.proofs.Orders.{is_Equal}
 use Rattle.plan_tables.specs.Rows.{put_text, next_number, put_texts}
 use Rattle.workload_gen.specs.Workloads.{row_count}
 use Rattle.workload_laws.specs.Rows.{table_schema, row_values, opening_rows, opening_table}
-use Rattle.workload_document.proofs.Digits.{same_number}
+use Rattle.workload_laws.proofs.WorkloadDocument.Digits.{same_number}
 use Rattle.workload_laws.proofs.RowsRead.{row_read}
-use Rattle.workload_document.specs.Texts.{row_sql, row_key, row_value, row_texts}
+use Rattle.workload_laws.specs.WorkloadDocument.Texts.{row_sql, row_key, row_value, row_texts}
 
 abbrev Row : Type 0
 Row = List Value

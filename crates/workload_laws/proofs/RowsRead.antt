@@ -12,14 +12,14 @@ use Rattle.gho_schema.specs.declared.schema.Column.{Column}
 use Rattle.table_words.specs.declared.token.Token.{Token}
 use Rattle.table_words.specs.Pieces.{behind_sign, literal_of}
 use Rattle.table_words.specs.Tokens.{same_sign}
-use Rattle.print_laws.specs.Words.{sign_word, number_word}
+use Rattle.schema_laws.specs.PrintLaws.Words.{sign_word, number_word}
 use Rattle.plan_tables.specs.RowTexts.{value_at, values_at, row_of, row_at}
 use Rattle.workload_laws.specs.Rows.{table_schema, row_values}
 use Rattle.workload_laws.proofs.Lexed.{text_word, values_words, values_have_words}
 use Rattle.workload_laws.proofs.Literals.{number_literal, text_literal, literal_then}
-use Rattle.workload_document.proofs.Digits.{few_digits}
-use Rattle.workload_document.specs.Texts.{row_sql}
-use Rattle.workload_document.proofs.Texts.{text_is}
+use Rattle.workload_laws.proofs.WorkloadDocument.Digits.{few_digits}
+use Rattle.workload_laws.specs.WorkloadDocument.Texts.{row_sql}
+use Rattle.workload_laws.proofs.WorkloadDocument.Texts.{text_is}
 
 -- ---- what the columns store
 

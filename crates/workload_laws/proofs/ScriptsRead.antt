@@ -15,10 +15,10 @@ use Rattle.script_reader.specs.Scripts.{table_of, fitting, fitting_line, next_li
 use Rattle.workload_gen.specs.Draws.{drawn, state_after}
 use Rattle.workload_gen.specs.Workloads.{client_line}
 use Rattle.workload_laws.specs.Scripts.{insert_of, delete_of, change_of, move_of, asked_of, asked_at, script}
-use Rattle.workload_document.proofs.Bytes.{is_inner, inner_line}
+use Rattle.workload_laws.proofs.WorkloadDocument.Bytes.{is_inner, inner_line}
 use Rattle.workload_laws.proofs.StatementsRead.{asked_line}
-use Rattle.workload_document.specs.Texts.{table_name, script_text}
-use Rattle.workload_document.proofs.Texts.{asked_key, line_sql, line_is, IsRowCount, small_key}
+use Rattle.workload_laws.specs.WorkloadDocument.Texts.{table_name, script_text}
+use Rattle.workload_laws.proofs.WorkloadDocument.Texts.{asked_key, line_sql, line_is, IsRowCount, small_key}
 
 -- ---- a text of lines
 

@@ -9,7 +9,7 @@ use Rattle.table_words.specs.Keys as keys
 use Rattle.table_words.specs.Listed.{listed, gathered}
 use Rattle.table_words.specs.Pieces as pieces
 use Rattle.table_words.specs.Tokens.{is_keyword, same_sign, text_words}
-use Rattle.print_laws.specs.Words.{sign_word, number_word}
+use Rattle.schema_laws.specs.PrintLaws.Words.{sign_word, number_word}
 use Rattle.script_text.specs.declared.script.ScriptWord.TheVariants.{Do}
 use Rattle.script_reader.specs.Conditions.{equality_at, and_equality_at, more_equalities_at, equalities_at, form_at, condition_at}
 use Rattle.script_reader.specs.Lines.{line_of}
@@ -20,7 +20,7 @@ use Rattle.script_reader.specs.Statements.{insert_at, delete_at, update_at, aske
 use Rattle.workload_laws.specs.Scripts.{insert_of, delete_of, change_of, move_of, asked_of}
 use Rattle.workload_laws.proofs.Lexed.{text_word, where_words, delete_words, update_words, insert_words, insert_has_words, delete_has_words, change_has_words, move_has_words}
 use Rattle.workload_laws.proofs.Literals.{number_literal, text_literal, literal_then}
-use Rattle.workload_document.proofs.Texts.{delete_sql, change_sql, move_sql, insert_sql, chosen_sql, asked_sql}
+use Rattle.workload_laws.proofs.WorkloadDocument.Texts.{delete_sql, change_sql, move_sql, insert_sql, chosen_sql, asked_sql}
 
 delete_read : (key : ℕ) → key < 2 ^ 64 → statement_of (delete_words key) ≡ Ok (Do (delete_of key))
 unfolding statement_of is_out_of_scope begins_statement bounds_transaction is_left_out has_next_row behind_values asked_at delete_at condition_at form_at equalities_at equality_at more_equalities_at and_equality_at gathered pieces.keyword_at pieces.sign_at pieces.name_at pieces.behind_name pieces.behind_keyword pieces.behind_sign operand_at is_keyword same_sign same_name

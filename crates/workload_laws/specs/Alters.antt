@@ -8,7 +8,7 @@ use Rattle.alter_image.specs.declared.clause.Clause.TheVariants.{Add, Change}
 use Rattle.alter_image.specs.declared.clause.Spot.TheVariants.{Unsaid}
 use Rattle.alter_image.specs.declared.map.MapColumn.{MapColumn}
 use Rattle.alter_image.specs.declared.map.Origin.TheVariants as from
-use Rattle.workload_document.specs.Texts.{table_name}
+use Rattle.workload_laws.specs.WorkloadDocument.Texts.{table_name}
 
 -- ADD COLUMN and MODIFY
 abbrev pub clauses : List Clause

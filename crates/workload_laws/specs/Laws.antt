@@ -10,8 +10,8 @@ use Rattle.alter_text.specs.Reading.{alter_at}
 use Rattle.script_reader.specs.Scripts.{script_of}
 use Rattle.plan_tables.specs.Tables.{tables_of}
 use Rattle.workload_gen.specs.Workloads.{row_count}
-use Rattle.workload_document.specs.Plans.{table_texts}
-use Rattle.workload_document.specs.Texts.{table_name, create_text, alter_text, client_state, script_text}
+use Rattle.workload_laws.specs.WorkloadDocument.Plans.{table_texts}
+use Rattle.workload_laws.specs.WorkloadDocument.Texts.{table_name, create_text, alter_text, client_state, script_text}
 use Rattle.workload_laws.specs.Alters.{clauses, altered_schema, altered_map}
 use Rattle.workload_laws.specs.Rows.{table_schema, opening_rows, opening_table}
 use Rattle.workload_laws.specs.Scripts.{script}

@@ -2,3 +2,5 @@ pub mod Rows
 pub mod Alters
 pub mod Scripts
 pub mod Laws
+pub mod WorkloadDocument
+pub mod WorkloadPlans

@@ -8,7 +8,7 @@ use Rattle.gho_values.specs.declared.value.Value.TheVariants.{Null, Num, Text}
 use Rattle.gho_schema.specs.declared.schema.Schema.{Schema}
 use Rattle.row_store.specs.Databases.{TableRows}
 use Rattle.workload_gen.specs.Workloads.{row_count}
-use Rattle.workload_document.specs.Texts.{table_name, row_key, row_value}
+use Rattle.workload_laws.specs.WorkloadDocument.Texts.{table_name, row_key, row_value}
 
 -- a BIGINT as the key, a text that is unique, and an INT
 abbrev pub table_schema : Schema

@@ -11,7 +11,7 @@ use Rattle.script_text.specs.declared.statement.Statement.{Statement}
 use Rattle.script_text.specs.declared.statement.Statement.TheVariants.{Insert, Delete, Update}
 use Rattle.workload_gen.specs.Draws.{drawn, state_after}
 use Rattle.workload_gen.specs.Workloads.{row_count, client_count}
-use Rattle.workload_document.specs.Texts.{table_name, client_state}
+use Rattle.workload_laws.specs.WorkloadDocument.Texts.{table_name, client_state}
 
 -- ---- statements
 

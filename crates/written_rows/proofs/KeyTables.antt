@@ -13,6 +13,7 @@ use Rattle.gho_schema.specs.Tables.{Ascends}
 use Rattle.row_store.specs.RowLists.{is_at}
 use Rattle.row_store.specs.Databases.{TableRows, row_at_key}
 use Rattle.row_store.proofs.Orders.{Row}
+use Rattle.row_store.proofs.Ascending.{none_parts}
 use Rattle.gho_schema.proofs.Orders.{all-with_row}
 use Rattle.plain_server.specs.Rows.{same_row, stands}
 use Rattle.written_rows.specs.Written.{with_key}
@@ -95,11 +96,6 @@ found_stands places key (first ∷ keys) are =
     some_or (is_at places key first) first (find (is_at places key) keys)
     ∙ ap (λ (k : Row). same_row key k || is_some (find (is_at places key) keys)) are.0
     ∙ ap (λ (b : Bool). same_row key first || b) (found_stands places key keys are.1)
-
--- a new key goes where its row goes
-none_parts : (b : Bool) (row : Row) (rest : Option Row) → cond b (Some row) rest ≡ None → (b ≡ false) × (rest ≡ None)
-none_parts true row rest none = absurd (cc)
-none_parts false row rest none = (refl, none)
 
 new_here : (o : Ordering) (key first : Row) (keys placed other : List Row) → is_eq o ≡ false → placed ≡ other → match_ordering o (key ∷ first ∷ keys) (key ∷ first ∷ keys) (first ∷ placed) ≡ match_ordering o (key ∷ first ∷ keys) (first ∷ keys) (first ∷ other)
 new_here Less key first keys placed other apart same = refl

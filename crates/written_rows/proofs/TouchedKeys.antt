@@ -11,15 +11,10 @@ use Rattle.plain_server.specs.Rows.{same_row, stands}
 use Rattle.written_rows.specs.Written.{with_key, with_keys, is_touched}
 use Rattle.written_rows.specs.Fitting.{KeysAscend}
 use Rattle.statement_laws.proofs.Tests.{or_swapped}
-
--- two keys are equal either way about
-reversed : (o : Ordering) → is_eq (ordering_reverse o) ≡ is_eq o
-reversed Less = refl
-reversed Equal = refl
-reversed Greater = refl
+use Rattle.row_pages.proofs.RowPlaces.{eq_turned}
 
 pub same_both : (a b : Row) → same_row a b ≡ same_row b a
-same_both a b = ap is_eq (turned a b) ∙ reversed (compare_keys b a)
+same_both a b = ap is_eq (turned a b) ∙ eq_turned (compare_keys b a)
 
 -- whether a key stands among keys with one more
 twice : (b c : Bool) → (b || c) ≡ (b || (b || c))

@@ -9,7 +9,7 @@ use Rattle.run_laws.specs.Counting.{busy_count}
 use Rattle.turn_book.specs.declared.book.Book.{Book}
 use Rattle.turn_book.specs.Books.{is_planned, IsBook}
 use Rattle.due_turns.specs.Due.{next_entry}
-use Rattle.due_calls.specs.Ranges.{IsTold}
+use Rattle.due_turns.specs.DueCalls.Ranges.{IsTold}
 use Rattle.run_turns.specs.Running.{IsRun}
 use Rattle.run_turns.proofs.Served.{carried, planned_entry, told_ahead, work_told, load_told, busy_told, run_more}
 use Rattle.run_turns.proofs.taking.take.Goals as goal

@@ -1,7 +1,7 @@
 use Rattle.std.proofs.Common.{ap, ◌∙◌}
 use Rattle.std.specs.Option.{option_map}
 use Rattle.row_store.specs.Databases.{database}
-use Rattle.txn_laws.proofs.Kept.{begins}
+use Rattle.kept_txns.proofs.TxnLaws.Kept.{begins}
 use Rattle.open_txns.specs.declared.txns.OpenTxn.{OpenTxn}
 use Rattle.open_txns.specs.Open.{written_in}
 use Rattle.kept_txns.proofs.Ended.{kept_may_be_committed}

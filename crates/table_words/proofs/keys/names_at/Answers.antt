@@ -3,7 +3,7 @@ use Rattle.std.proofs.lemmas.Result.{err_from_is_err_and}
 use Rattle.table_words.specs.declared.code.SchemaCode.TheVariants.{Syntax}
 use Rattle.table_words.specs.Keys.{names_at}
 use Rattle.table_words.specs.Pieces.{name_at}
-use Rattle.table_words.proofs.Lists.{goes_on, is_last, is_over, fails, starts}
+use Rattle.table_words.proofs.Lists.{goes_on, is_last, is_over, fails}
 use Rattle.table_words.proofs.keys.names_at.Goals as goal
 
 pub returns-in_err-name : goal.returns-in_err-name

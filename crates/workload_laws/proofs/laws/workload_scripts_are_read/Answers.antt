@@ -1,6 +1,6 @@
 use Rattle.workload_gen.specs.Workloads.{row_count}
-use Rattle.workload_document.specs.Texts.{client_state}
-use Rattle.workload_document.proofs.Texts.{rows_counted}
+use Rattle.workload_laws.specs.WorkloadDocument.Texts.{client_state}
+use Rattle.workload_laws.proofs.WorkloadDocument.Texts.{rows_counted}
 use Rattle.workload_laws.proofs.ScriptsRead.{script_read}
 use Rattle.workload_laws.proofs.laws.workload_scripts_are_read.Goals as goal
 

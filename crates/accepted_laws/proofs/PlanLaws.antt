@@ -1,0 +1,3 @@
+-- What holds of every accepted plan.
+pub mod Accepted
+pub mod Named

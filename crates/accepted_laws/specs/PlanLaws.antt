@@ -1,0 +1,2 @@
+-- What holds of every accepted plan.
+pub mod PlanLaws

@@ -1,5 +1,0 @@
-pub mod Clauses
-pub mod Declared
-pub mod Names
-pub mod Prints
-pub mod Whole

@@ -1,9 +1,0 @@
-pub mod Names
-pub mod Keys
-pub mod Statements
-pub mod Answers
-pub mod Planning
-pub mod Knowing
-pub mod Busy
-pub mod Appliers
-pub mod Stated

@@ -1,0 +1,2 @@
+-- How far an attempt is once the RENAME is done: each function's contract is a law.
+pub mod Laws

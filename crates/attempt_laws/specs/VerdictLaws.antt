@@ -1,0 +1,2 @@
+-- A revert's cause stands in the journal: each function's contract is a law.
+pub mod Laws

@@ -1,4 +1,0 @@
-//! The copier's and the applier's turns leave the cut-over what the sentry relation asks.
-#![tactic(auto)]
-
-pub mod laws;

@@ -1,2 +1,0 @@
-pub mod Sentry
-mod Spent

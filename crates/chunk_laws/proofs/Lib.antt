@@ -1,4 +1,0 @@
-mod Sparing
-mod Uncopied
-mod Sizes
-mod Onlines

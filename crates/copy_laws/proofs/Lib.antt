@@ -1,6 +1,0 @@
-pub mod Journals
-pub mod Served
-pub mod Knowing
-pub mod Chunks
-pub mod Rows
-pub mod Copiers

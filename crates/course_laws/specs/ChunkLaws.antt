@@ -1,0 +1,2 @@
+-- Chunks are as small as the operator asks: each function's contract is a law.
+pub mod Laws

@@ -1,0 +1,2 @@
+-- Until the RENAME is done every journal that follows the program is a run of its plan, of which the laws of histories hold.
+pub mod Laws

@@ -1,0 +1,2 @@
+-- The log: the events of the committed transactions, in the order of the commits.
+pub mod Logs

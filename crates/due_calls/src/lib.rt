@@ -1,4 +1,0 @@
-//! What the turn that is due may ask of the server, and that the range of keys that it is told is known before it.
-#![tactic(auto)]
-
-pub mod laws;

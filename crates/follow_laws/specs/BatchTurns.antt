@@ -1,0 +1,2 @@
+-- The copier's and the applier's turns leave the cut-over what the sentry relation asks.
+pub mod Laws

@@ -1,0 +1,19 @@
+-- The ghost relation on rows, events and images: what every step of the copier, the applier and the clients keeps, whatever their order.
+pub mod Finding
+pub mod StayingKeys
+pub mod TimelineLaws
+pub mod Replacing
+pub mod Events
+pub mod Growing
+pub mod Altering
+pub mod Overlays
+pub mod Copying
+pub mod Chunking
+pub mod Applying
+pub mod Finishing
+pub mod Removed
+pub mod Beside
+pub mod Committing
+pub mod Writing
+pub mod Resting
+pub mod Steps

@@ -1,6 +1,0 @@
-pub mod Tests
-pub mod Events
-pub mod OneView
-pub mod Statements
-pub mod Carrying
-pub mod AllViews

@@ -1,4 +1,0 @@
-pub mod Timelines
-pub mod Views
-pub mod Applying
-pub mod Laws

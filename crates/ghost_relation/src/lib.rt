@@ -1,4 +1,0 @@
-//! The ghost relation: while rows are copied and events applied in any order, each row of the new table is the image of its row at a moment that the applier hasn't passed.
-#![tactic(auto)]
-
-pub mod laws;

@@ -1,8 +1,0 @@
-pub mod Writes
-pub mod Logging
-pub mod Telling
-pub mod Phases
-pub mod Asked
-pub mod States
-pub mod Courses
-pub mod Known

@@ -1,4 +1,0 @@
-//! What is logged of the hint rows, and what the applier knows of the last one.
-#![tactic(auto)]
-
-pub mod laws;

@@ -1,0 +1,2 @@
+-- What one turn of a session leaves to the others: names, waits, rows under locks, and the tables that stand.
+pub mod Others

@@ -1,4 +1,0 @@
-pub mod Fitting
-pub mod Keeping
-pub mod Hints
-pub mod Inspectors

@@ -1,0 +1,3 @@
+-- That a plan has one replay.
+pub mod Turns
+pub mod Replays

@@ -1,0 +1,2 @@
+-- What holds of the tool's program: laws over journals, as contracts of functions that do nothing.
+pub mod Laws

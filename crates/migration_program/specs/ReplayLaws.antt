@@ -1,0 +1,2 @@
+-- That a plan has one replay.
+pub mod Laws

@@ -1,3 +1,0 @@
-pub mod Past
-pub mod Once
-pub mod Whole

@@ -1,4 +1,0 @@
-//! What holds of every accepted plan.
-#![tactic(auto)]
-
-pub mod laws;

@@ -1,0 +1,24 @@
+-- The clustered key of a lawful schema has columns, none of which may be null.
+use Rattle.std.proofs.Common.{◌≡◌, ◌<◌, true, length, Option, Some, None, refl, ℕ}
+use Rattle.std.specs.List.{AllByRecursion, slice_get}
+use Rattle.gho_schema.specs.declared.schema.Index.{Index}
+use Rattle.gho_schema.specs.declared.schema.Schema.{Schema}
+use Rattle.gho_schema.specs.Clustering.{is_not_null, unique_at, clustered_place, clustered_key}
+use Rattle.gho_schema.specs.Rows.{places_of}
+use Rattle.schema_rules.proofs.Lists.{list_all-All, All-at}
+use Rattle.schema_rules.specs.Lawful.{IsKey, IsNotNull, IsLawful}
+use Rattle.row_store.specs.ClusteredKeys.{HasClusteredKey}
+
+pub one_keyed : (schema : Schema) (o : Option Index) → ((index : Index) → o ≡ Some index → IsKey (length schema.columns) index) → IsNotNull schema.columns o
+    → (0 < length (places_of o)) × AllByRecursion (λ place. is_not_null (slice_get schema.columns place) ≡ true) (places_of o)
+one_keyed schema None is_key all = absurd all
+one_keyed schema (Some index) is_key all = ((is_key index refl).some, list_all-All (λ place. is_not_null (slice_get schema.columns place)) index.places all)
+
+pub unique_is_key : (schema : Schema) (place : Option ℕ) (index : Index) → IsLawful schema → unique_at schema.uniques place ≡ Some index → IsKey (length schema.columns) index
+unique_is_key schema None index lawful is = absurd (cc)
+unique_is_key schema (Some place) index lawful is = All-at (IsKey (length schema.columns)) schema.uniques place index lawful.uniques is
+
+pub lawful_keyed : (schema : Schema) → IsLawful schema → HasClusteredKey schema
+lawful_keyed schema lawful =
+    let both = one_keyed schema (clustered_key schema) (λ index is. unique_is_key schema (clustered_place schema) index lawful is) lawful.clustered in
+    record { some = both.0; not_null = both.1 }

@@ -1,2 +1,0 @@
-pub mod OldPlaces
-pub mod Planned

@@ -1,6 +1,0 @@
-pub mod Lexing
-pub mod Numbers
-pub mod Pieces
-pub mod Reading
-pub mod Tables
-pub mod Written

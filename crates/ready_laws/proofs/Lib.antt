@@ -1,5 +1,0 @@
-mod Ends
-pub mod Going
-mod Idle
-mod Orders
-pub mod Ready

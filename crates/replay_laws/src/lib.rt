@@ -1,4 +1,0 @@
-//! That a plan has one replay.
-#![tactic(auto)]
-
-pub mod laws;

@@ -1,0 +1,2 @@
+-- In every journal that is kept the RENAME is done once at most: the function's contract is the law.
+pub mod Laws

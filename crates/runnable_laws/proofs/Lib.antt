@@ -1,2 +1,0 @@
-mod Origins
-pub mod Runnable

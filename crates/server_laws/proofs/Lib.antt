@@ -1,8 +1,0 @@
-pub mod Others
-mod Alone
-mod Locking
-pub mod Agreements
-pub mod Spans
-mod Beginning
-mod Defining
-mod Holding

@@ -1,4 +1,0 @@
-//! What one turn of a session leaves to the others: names, waits, rows under locks, and the tables that stand.
-#![tactic(auto)]
-
-pub mod laws;

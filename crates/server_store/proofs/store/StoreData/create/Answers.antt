@@ -1,5 +1,0 @@
-use Rattle.state_laws.proofs.Lawful.{lawful_table}
-use Rattle.server_store.proofs.store.StoreData.create.Goals as goal
-
-pub create_table-requires-clause-orderly : goal.create_table-requires-clause-orderly
-create_table-requires-clause-orderly c = lawful_table c.args.schema.now c.requires.formed.lawful

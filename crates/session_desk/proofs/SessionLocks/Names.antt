@@ -1,0 +1,52 @@
+-- Who holds a name, session by session.
+use Rattle.std.proofs.Common.{◌≡◌, ℕ, Bool, true, false, not, ◌&&◌, ◌||◌, nat_eq, Some, List, [], ◌∷◌, map, refl, ap, ◌∙◌, arith}
+use Rattle.std.proofs.lemmas.List.{drop_more, drop_all}
+use Rattle.std.specs.List.{list_any}
+use Rattle.std.specs.Str.{bytes_eq}
+use Rattle.metadata_locks.specs.Granting.{holds, holding_session, least_holder}
+use Rattle.metadata_locks.proofs.Holders.{least_holder-append, least_holder-none, holds-append}
+use Rattle.plain_server.specs.declared.session.HeldName.{HeldName}
+use Rattle.plain_server.specs.declared.session.Session.{Session}
+use Rattle.plain_server.specs.States.{name_held, names_held}
+use Rattle.session_desk.specs.SessionLocks.Names.{has_held}
+use Rattle.session_desk.proofs.SessionLocks.Leasts.{counted, not_counted, counted_once}
+use Rattle.least_session.specs.Least.{least}
+use Rattle.least_session.proofs.Sessions.{least-least, least-none}
+
+nowhere : (own : Bool) → false ≡ (own && false)
+nowhere true = refl
+nowhere false = refl
+
+somewhere : (own here there : Bool) → ((own && here) || (own && there)) ≡ (own && (here || there))
+somewhere true here there = refl
+somewhere false here there = refl
+
+holds_one : (session : ℕ) (held : List HeldName) (number : ℕ) (name : List ℕ) (exclusive : Bool) → holds (map (name_held session) held) number name exclusive ≡ (nat_eq session number && has_held held name exclusive)
+unfolding holds
+holds_one session [] number name exclusive = nowhere (nat_eq session number)
+holds_one session (one ∷ held) number name exclusive =
+    ap (λ rest. (nat_eq session number && (bytes_eq one.name name && (one.exclusive || not exclusive))) || rest) (holds_one session held number name exclusive)
+    ∙ somewhere (nat_eq session number) (bytes_eq one.name name && (one.exclusive || not exclusive)) (has_held held name exclusive)
+
+holds_none : (number : ℕ) (name : List ℕ) (exclusive : Bool) → holds [] number name exclusive ≡ false
+unfolding holds
+holds_none number name exclusive = refl
+
+pub holds_each : (sessions : List Session) (number : ℕ) (name : List ℕ) (exclusive : Bool) → holds (names_held sessions) number name exclusive ≡ list_any (λ session. nat_eq session.number number && has_held session.names name exclusive) sessions
+holds_each [] number name exclusive = holds_none number name exclusive
+holds_each (session ∷ sessions) number name exclusive =
+    holds-append (map (name_held session.number) session.names) (names_held sessions) number name exclusive
+    ∙ ap (λ here. here || holds (names_held sessions) number name exclusive) (holds_one session.number session.names number name exclusive)
+    ∙ ap (λ rest. (nat_eq session.number number && has_held session.names name exclusive) || rest) (holds_each sessions number name exclusive)
+
+pub min_same : (n : ℕ) → least (Some n) (Some n) ≡ Some n
+min_same n = ap Some (omega arith)
+
+pub holder_one : (session : ℕ) (held : List HeldName) (number : ℕ) (name : List ℕ) (exclusive : Bool) → least_holder (map (name_held session) held) number name exclusive ≡ counted (not (nat_eq session number)) (has_held held name exclusive) session
+unfolding least_holder
+holder_one session [] number name exclusive = not_counted (not (nat_eq session number)) session
+holder_one session (one ∷ held) number name exclusive =
+    ap (λ rest. least (holding_session number name exclusive (name_held session one)) rest) (holder_one session held number name exclusive)
+    ∙ counted_once least (λ b. refl) (λ n. refl) min_same (not (nat_eq session number)) (bytes_eq one.name name && (one.exclusive || not exclusive)) (has_held held name exclusive) session
+
+pub ruleset steps = (least-least, least-none, least_holder-append, least_holder-none, drop_more, drop_all)

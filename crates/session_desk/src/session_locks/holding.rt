@@ -1,0 +1,52 @@
+//! Who holds a name.
+
+ghost use Rattle.std.specs.Prelude.{◌≡◌, ◌==◌, ◌&&◌, map};
+ghost use Rattle.std.specs.List.{list_any};
+ghost use Rattle.metadata_locks.specs.Granting.{least_holder};
+ghost use Rattle.plain_server.specs.States.{name_held, names_held};
+ghost use Rattle.session_desk.specs.SessionLocks.Names.{has_held};
+
+use gho_values::Name;
+use least_session::least;
+use plain_server::{HeldName, Session};
+
+/// Whether the name is held, exclusively where that is asked.
+fn has_held(held: &[HeldName], name: &Name, exclusive: bool) -> bool
+    ensures { result ≡ has_held held.now name.now exclusive }
+{
+    held.iter()
+        .any(|one| one.name == *name && (one.exclusive || !exclusive))
+}
+
+/// Whether the session holds the name, exclusively where that is asked.
+pub fn holds(sessions: &[Session], number: u32, name: &Name, exclusive: bool) -> bool
+    ensures { result ≡ list_any (λ session. session.number == number && has_held session.names name.now exclusive) sessions.now }
+{
+    sessions.iter().any(|session| {
+        session.number == number && has_held(session.names.as_slice(), name, exclusive)
+    })
+}
+
+/// This session, where it is another one and holds the name, exclusively where that is asked.
+#[tactic(auto, using(crate::proofs::SessionLocks::Names::holder_one))]
+fn holder(session: &Session, number: u32, name: &Name, exclusive: bool) -> Option<u32>
+    ensures { result ≡ least_holder (map (name_held session.now.number) session.now.names) number name.now exclusive }
+{
+    if session.number != number && has_held(session.names.as_slice(), name, exclusive) {
+        Some(session.number)
+    } else {
+        None
+    }
+}
+
+/// The least other session that holds the name, exclusively where that is asked.
+#[tactic(auto, using(crate::proofs::SessionLocks::Names::steps))]
+pub fn least_holder(sessions: &[Session], number: u32, name: &Name, exclusive: bool) -> Option<u32>
+    ensures { result ≡ least_holder (names_held sessions.now) number name.now exclusive }
+{
+    let mut by = None;
+    for session in sessions {
+        by = least(by, holder(session, number, name, exclusive));
+    }
+    by
+}

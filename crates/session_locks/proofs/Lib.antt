@@ -1,9 +1,0 @@
-pub mod Distinct
-pub mod Leasts
-pub mod Mentioned
-pub mod Names
-pub mod Pairs
-pub mod Places
-pub mod RowHolders
-pub mod Shown
-pub mod Waiters

@@ -1,6 +1,0 @@
-mod Grounds
-mod Known
-mod Refusals
-mod Copies
-mod Applies
-mod Unfit

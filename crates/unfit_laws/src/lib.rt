@@ -1,4 +1,0 @@
-//! That a row without an image, as a verdict names it, stands: each function's contract is a law.
-#![tactic(auto)]
-
-pub mod laws;

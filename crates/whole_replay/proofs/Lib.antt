@@ -1,6 +1,0 @@
-mod Choices
-mod GoingOn
-mod Lists
-mod PassChoices
-mod Passing
-mod WordChoices

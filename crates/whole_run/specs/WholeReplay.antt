@@ -1,0 +1,3 @@
+-- The replay of a plan: its turns are taken in their order, until its run is over.
+pub mod Places
+pub mod Replays

@@ -1,0 +1,4 @@
+pub mod WorkedCopies
+pub mod WorkedMarks
+pub mod WorkedStall
+pub mod WorkedMachines

@@ -1,0 +1,262 @@
+-- One worked run of an alterable plan, that a client waits in behind a chunk's lock: all that the law over journals asks holds of its
+-- journal until the RENAME is done, so by the law its new table is then the altered one.
+use Rattle.std.proofs.Common.{pos, true, false, ◌≡◌, List, [], ◌∷◌, take, None, Some, Ok, refl, arith}
+use Rattle.std.specs.Prelude.{codes}
+use Rattle.gho_values.specs.declared.kind.Kind.TheVariants.{Int}
+use Rattle.gho_values.specs.declared.value.Value.TheVariants.{Null, Num}
+use Rattle.gho_schema.specs.declared.schema.Schema.{Schema}
+use Rattle.schema_rules.specs.Lawful.{IsLawful}
+use Rattle.alter_image.specs.declared.clause.Clause.{Clause}
+use Rattle.alter_image.specs.declared.clause.Clause.TheVariants as clauses
+use Rattle.alter_image.specs.declared.clause.Spot.TheVariants.{Unsaid}
+use Rattle.alter_image.specs.declared.map.Origin.TheVariants as from
+use Rattle.alter_schema.specs.Altering.{altered}
+use Rattle.alter_laws.proofs.ImageTables.{clustered_keys_kept}
+use Rattle.alter_laws.proofs.KeepingKeys.{stay_apart}
+use Rattle.alter_laws.proofs.TableNames.{keep_names}
+use Rattle.row_store.specs.Databases.{TableRows}
+use Rattle.plain_server.specs.declared.entry.Entry.{Entry}
+use Rattle.plan_words.specs.PlanData.{Altered}
+use Rattle.journal_words.specs.Journals.{IsFaithful, state_at}
+use Rattle.journal_words.specs.Keeping.{KeepsPlan}
+use Rattle.journal_words.specs.Sessions.{KeepsSessions}
+use Rattle.migration_program.specs.Programs.{Follows}
+use Rattle.migration_program.specs.Tools.{Course, Migrating, Work, moment, new_work}
+use Rattle.history_laws.specs.Plans as plans
+use Rattle.history_laws.specs.Plans.{IsSerialPlan}
+use Rattle.ghost_laws.specs.Copies.{IsAltered}
+use Rattle.migration_laws.specs.PlanningLaws.Laws.{migration_of}
+use Rattle.run_laws.specs.Kept.{IsKept}
+use Rattle.course_laws.specs.RunnableLaws.Laws.{IsAlterable, IsWorded}
+use Rattle.follow_laws.specs.FollowTurns.Laws.{IsMark}
+use Rattle.follow_laws.specs.Laws.{FollowersAlter}
+use Rattle.worked_runs.proofs.Computing.{computing}
+use Rattle.worked_runs.proofs.SmallPlans1.{plan_behind_chunk, journal_behind_chunk}
+
+infixr 5 ◌▸◌
+-- one turn, and those behind it
+abbrev ◌▸◌ : {A B : Type 0} → A → B → A × B
+first ▸ others = (first, others)
+
+-- the journal until the RENAME is done
+abbrev journal_to_mark : List Entry
+journal_to_mark = take 25 journal_behind_chunk
+
+-- THE PLAN
+
+abbrev old_schema : Schema
+old_schema = record { name = codes "t"; columns = (record { name = codes "id"; kind = Int 4 false; nullable = false; default = None } ∷ []); uniques = (record { name = None; places = (0 ∷ []) } ∷ []); indexes = []; comment = [] }
+
+abbrev old_table : TableRows
+old_table = record { schema = old_schema; rows = (((Num (pos 1)) ∷ []) ∷ ((Num (pos 2)) ∷ []) ∷ []) }
+
+abbrev made_schema : Schema
+made_schema = record { name = codes "t"; columns = (record { name = codes "id"; kind = Int 4 false; nullable = false; default = None } ∷ record { name = codes "b"; kind = Int 4 false; nullable = true; default = (Some Null) } ∷ []); uniques = (record { name = None; places = (0 ∷ []) } ∷ []); indexes = []; comment = [] }
+
+abbrev new_table : Altered
+new_table = (made_schema, (record { kind = Int 4 false; nullable = false; origin = from.Old 0 } ∷ record { kind = Int 4 false; nullable = true; origin = from.Added Null } ∷ []))
+
+abbrev alter : List Clause
+alter = (clauses.Add (record { name = codes "b"; kind = Int 4 false; nullable = None; default = None }) Unsaid ∷ [])
+
+lawful : IsLawful old_schema
+unfolding computing
+lawful = record {
+  some = grind (arith);
+  few = grind (arith);
+  names = refl;
+  columns = (record { kind = refl; default = tt }, tt);
+  uniques = (record { some = grind (arith); within = (grind (arith), tt) }, tt);
+  indexes = tt;
+  clustered = refl;
+}
+
+altered_so : altered false old_schema alter ≡ Ok new_table
+unfolding computing
+altered_so = refl
+
+alterable : IsAlterable plan_behind_chunk
+unfolding computing
+alterable = record {
+  tables = (record { keyed = record { some = grind (arith); not_null = (refl, tt) }; defaults = (tt, tt); is_table = record { rows_fit = ((refl, tt), ((refl, tt), tt)); ascends = ((refl, tt), (tt, tt)); apart = ((refl, tt), (tt, tt)) } }, tt);
+  table = old_table;
+  found = refl;
+  is_table = record { rows_fit = ((refl, tt), ((refl, tt), tt)); ascends = ((refl, tt), (tt, tt)); apart = ((refl, tt), (tt, tt)) };
+  lawful = lawful;
+  new = new_table;
+  alters = refl;
+  keeps = record {
+    name = keep_names false old_schema alter new_table altered_so;
+    key = λ row made fits image_is. clustered_keys_kept false old_schema alter new_table row made lawful altered_so fits image_is;
+    apart = λ row other made others fits too image_is other_is clashes. stay_apart false old_schema alter new_table row other made others lawful altered_so fits too image_is other_is clashes;
+  };
+}
+
+worded : IsWorded plan_behind_chunk
+unfolding computing
+worded = record {
+  scripts = ((tt, tt), tt);
+  names = (
+    record { some = grind (arith); characters = grind (arith); bytes = grind (arith) },
+    (record { some = grind (arith); characters = grind (arith); bytes = grind (arith) }, (record { some = grind (arith); characters = grind (arith); bytes = grind (arith) }, (record { some = grind (arith); characters = grind (arith); bytes = grind (arith) }, tt))),
+  );
+  chunk = grind (arith);
+  commands = tt;
+  batch = grind (arith);
+  clauses = (refl, tt);
+}
+
+serial : IsSerialPlan plan_behind_chunk
+unfolding computing plans.client_names plans.client_tables plans.script_names
+serial = record {
+  tables = (record { keyed = record { some = grind (arith); not_null = (refl, tt) }; defaults = (tt, tt); is_table = record { rows_fit = ((refl, tt), ((refl, tt), tt)); ascends = ((refl, tt), (tt, tt)); apart = ((refl, tt), (tt, tt)) } }, tt);
+  scripts = (refl, tt);
+}
+
+-- THE JOURNAL
+
+faithful : IsFaithful plan_behind_chunk journal_to_mark
+unfolding computing
+faithful =
+    record { sides = λ is. refl; answer = refl; missed = refl }
+    ▸ record { sides = λ is. refl; answer = refl; missed = refl }
+    ▸ record { sides = λ is. refl; answer = refl; missed = refl }
+    ▸ record { sides = λ is. refl; answer = refl; missed = refl }
+    ▸ record { sides = λ is. refl; answer = refl; missed = refl }
+    ▸ record { sides = λ is. refl; answer = refl; missed = refl }
+    ▸ record { sides = λ is. refl; answer = refl; missed = refl }
+    ▸ record { sides = λ is. refl; answer = refl; missed = refl }
+    ▸ record { sides = λ is. refl; answer = refl; missed = refl }
+    ▸ record { sides = λ is. refl; answer = refl; missed = refl }
+    ▸ record { sides = λ is. refl; answer = refl; missed = refl }
+    ▸ record { sides = λ is. refl; answer = refl; missed = refl }
+    ▸ record { sides = λ is. refl; answer = refl; missed = refl }
+    ▸ record { sides = λ is. refl; answer = refl; missed = refl }
+    ▸ record { sides = λ is. refl; answer = refl; missed = refl }
+    ▸ record { sides = λ is. refl; answer = refl; missed = refl }
+    ▸ record { sides = λ is. refl; answer = refl; missed = refl }
+    ▸ record { sides = λ is. refl; answer = refl; missed = refl }
+    ▸ record { sides = λ is. refl; answer = refl; missed = refl }
+    ▸ record { sides = λ is. refl; answer = refl; missed = refl }
+    ▸ record { sides = λ is. refl; answer = refl; missed = refl }
+    ▸ record { sides = λ is. refl; answer = refl; missed = refl }
+    ▸ record { sides = λ is. refl; answer = refl; missed = refl }
+    ▸ record { sides = λ is. refl; answer = refl; missed = refl }
+    ▸ record { sides = λ is. refl; answer = refl; missed = refl }
+    ▸ tt
+
+planned : KeepsPlan plan_behind_chunk journal_to_mark
+unfolding computing KeepsPlan
+planned =
+    record { next = refl; struck = (λ is. cc, refl) }
+    ▸ record { next = refl; struck = (λ is. cc, refl) }
+    ▸ record { next = refl; struck = (λ is. cc, refl) }
+    ▸ record { next = refl; struck = (λ is. cc, refl) }
+    ▸ record { next = refl; struck = (λ is. cc, refl) }
+    ▸ record { next = refl; struck = (λ is. cc, refl) }
+    ▸ record { next = refl; struck = (λ is. cc, refl) }
+    ▸ record { next = refl; struck = (λ is. cc, refl) }
+    ▸ record { next = refl; struck = (λ is. cc, refl) }
+    ▸ record { next = refl; struck = (λ is. cc, refl) }
+    ▸ record { next = refl; struck = (λ is. cc, refl) }
+    ▸ record { next = refl; struck = (λ is. cc, refl) }
+    ▸ record { next = refl; struck = (λ is. cc, refl) }
+    ▸ record { next = refl; struck = (λ is. cc, refl) }
+    ▸ record { next = refl; struck = (λ is. cc, refl) }
+    ▸ record { next = refl; struck = (λ is. cc, refl) }
+    ▸ record { next = refl; struck = (λ is. cc, refl) }
+    ▸ record { next = refl; struck = (λ is. cc, refl) }
+    ▸ record { next = refl; struck = (λ is. cc, refl) }
+    ▸ record { next = refl; struck = (λ is. cc, refl) }
+    ▸ record { next = refl; struck = (λ is. cc, refl) }
+    ▸ record { next = refl; struck = (λ is. cc, refl) }
+    ▸ record { next = refl; struck = (λ is. cc, refl) }
+    ▸ record { next = refl; struck = (λ is. cc, refl) }
+    ▸ record { next = refl; struck = (λ is. cc, refl) }
+    ▸ tt
+
+follows : Follows plan_behind_chunk journal_to_mark
+unfolding computing Follows
+follows =
+    record { given = refl; session = grind (arith) }
+    ▸ record { given = refl; session = refl }
+    ▸ record { given = refl; session = refl }
+    ▸ record { given = refl; session = refl }
+    ▸ record { given = refl; session = refl }
+    ▸ record { given = refl; session = grind (arith) }
+    ▸ record { given = refl; session = refl }
+    ▸ record { given = refl; session = refl }
+    ▸ record { given = refl; session = grind (arith) }
+    ▸ record { given = refl; session = refl }
+    ▸ record { given = refl; session = refl }
+    ▸ record { given = refl; session = refl }
+    ▸ record { given = refl; session = grind (arith) }
+    ▸ record { given = refl; session = refl }
+    ▸ record { given = refl; session = refl }
+    ▸ record { given = refl; session = refl }
+    ▸ record { given = refl; session = grind (arith) }
+    ▸ record { given = refl; session = refl }
+    ▸ record { given = refl; session = refl }
+    ▸ record { given = refl; session = refl }
+    ▸ record { given = refl; session = grind (arith) }
+    ▸ record { given = refl; session = refl }
+    ▸ record { given = refl; session = refl }
+    ▸ record { given = refl; session = refl }
+    ▸ record { given = refl; session = refl }
+    ▸ tt
+
+seated : KeepsSessions journal_to_mark
+unfolding computing KeepsSessions
+seated =
+    record { session = grind (arith) }
+    ▸ record { session = refl }
+    ▸ record { session = refl }
+    ▸ record { session = refl }
+    ▸ record { session = refl }
+    ▸ record { session = grind (arith) }
+    ▸ record { session = refl }
+    ▸ record { session = refl }
+    ▸ record { session = grind (arith) }
+    ▸ record { session = refl }
+    ▸ record { session = refl }
+    ▸ record { session = refl }
+    ▸ record { session = grind (arith) }
+    ▸ record { session = refl }
+    ▸ record { session = refl }
+    ▸ record { session = refl }
+    ▸ record { session = grind (arith) }
+    ▸ record { session = refl }
+    ▸ record { session = refl }
+    ▸ record { session = refl }
+    ▸ record { session = grind (arith) }
+    ▸ record { session = refl }
+    ▸ record { session = refl }
+    ▸ record { session = refl }
+    ▸ record { session = refl }
+    ▸ tt
+
+kept : IsKept plan_behind_chunk journal_to_mark
+kept = record { faithful = faithful; planned = planned; follows = follows; sessions = seated }
+
+-- THE MARK
+
+abbrev work_of : Course → Work
+work_of (Migrating work) = work
+work_of course = new_work plan_behind_chunk 0 0 None
+
+mark : IsMark plan_behind_chunk journal_to_mark
+unfolding computing
+mark = record {
+  work = work_of (moment plan_behind_chunk journal_to_mark).tool.course;
+  course = refl;
+  going = refl;
+  unaltered = refl;
+  copied = refl;
+  idle = refl;
+  applied = refl;
+}
+
+-- *By the law the new table is the altered one when the RENAME comes.*
+altered_by_then : FollowersAlter → IsAltered (migration_of old_schema new_table) (state_at plan_behind_chunk journal_to_mark).tables
+unfolding alterable
+altered_by_then followers_alter = followers_alter plan_behind_chunk alterable worded serial journal_to_mark kept mark

@@ -1,9 +1,0 @@
-pub mod Digits
-pub mod Texts
-pub mod Bytes
-pub mod StringsRead
-pub mod ArraysRead
-pub mod Spelled
-pub mod Sizes
-pub mod DocumentRead
-pub mod KeysRead

@@ -1,0 +1,3 @@
+-- Every workload is a plan: each function's contract is a law.
+pub mod Scripts
+pub mod PlansRead
