@@ -9,7 +9,7 @@ use crate::clients::push_clients;
 use crate::replies::are_the_same;
 use crate::tables::push_tables;
 use accepted_laws::laws::read_plans_are_worded;
-use accepted_laws::plan_laws::laws::read_plans_are_accepted;
+use accepted_laws::plan_laws::read_plans_are_accepted;
 use accepted_laws::read_accepted_plan;
 use alone_model::{InOrder, PlainTables, alone, plain_tables, run_in_order, tables_left};
 use gho_values::{Sequence, Text};
