@@ -55,7 +55,7 @@ fn pass<V: Serve>(run: &mut Run<'_, V>, place: &mut Place) -> Stepped
 
 /// Takes the turns of the plan's replay until its run is over, or nobody is ready. Where there is no memory for a turn, those
 /// before it stay.
-#[tactic(auto, using(crate::proofs::GoingOn::begins, crate::proofs::GoingOn::is_replay, crate::proofs::GoingOn::still_replay, crate::proofs::GoingOn::it_stops, crate::proofs::GoingOn::still_stops))]
+#[tactic(auto, using(crate::proofs::WholeReplay::GoingOn::begins, crate::proofs::WholeReplay::GoingOn::is_replay, crate::proofs::WholeReplay::GoingOn::still_replay, crate::proofs::WholeReplay::GoingOn::it_stops, crate::proofs::WholeReplay::GoingOn::still_stops))]
 pub fn replay<V: Serve>(run: &mut Run<'_, V>) -> Replayed
     requires { IsFresh run.old }
     ensures plan { run.new.plan ≡ run.old.plan }

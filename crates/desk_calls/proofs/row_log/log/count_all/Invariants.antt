@@ -1,7 +1,7 @@
 use Rattle.std.proofs.Common.{◌≡◌, ◌+◌, ◌++◌, List, take}
 use Rattle.event_codec.specs.declared.event.RowEvent.{RowEvent}
 use Rattle.desk_calls.specs.RowLog.Logs.{IsCounted}
-use Rattle.desk_calls.proofs.RowLog.log.count_all.Given as goal
+use Rattle.desk_calls.proofs.row_log.log.count_all.Given as goal
 
 -- the events so far are counted, and took as much room
 abbrev pub invariant-loop-event : goal.invariant-loop-event
