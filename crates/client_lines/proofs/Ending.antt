@@ -1,10 +1,10 @@
 -- The history, as the code finds it.
-use Rattle.std.proofs.Common.{◌≡◌, ℕ, zero, suc, ◌+◌, ◌-◌, ◌==◌, Bool, true, false, cond, List, [], ◌∷◌, ◌++◌, map, Option, Some, None, is_some, option_map, fold, refl, sym, ◌∙◌, ap, ap₂, append-nil, append_assoc, arith, true≢false, codes}
+use Rattle.std.proofs.Common.{◌≡◌, ℕ, zero, suc, ◌+◌, ◌-◌, ◌==◌, Bool, true, false, cond, List, [], ◌∷◌, ◌++◌, map, Option, Some, None, is_some, option_map, refl, sym, ◌∙◌, ap, ap₂, append-nil, append_assoc, arith, true≢false, codes}
 use Rattle.std.proofs.lemmas.Bool.Decides.{nat_tests}
 use Rattle.std.proofs.lemmas.Grind.{flat_map-append}
 use Rattle.std.proofs.lemmas.List.Sums.{fold-append}
+use Rattle.std.proofs.lemmas.Option.{slice_get-map}
 use Rattle.std.specs.List.{flat_map, slice_get}
-use Rattle.std.specs.Prelude.{unwrap_or}
 use Rattle.script_text.specs.declared.actor.Actor.{Actor}
 use Rattle.script_text.specs.declared.actor.Actor.TheVariants.{Op, Insp, Copy, Apply, Lock, Ren, Client}
 use Rattle.script_text.specs.declared.script.ScriptLine.{ScriptLine}
@@ -20,12 +20,13 @@ use Rattle.plain_server.specs.declared.transaction.TxnEnd.{TxnEnd}
 use Rattle.plain_server.specs.Along.{gathered}
 use Rattle.plain_server.specs.Entries.{is_client, same_actor}
 use Rattle.plan_words.specs.PlanData.{PlanData}
-use Rattle.journal_words.specs.Clients.{Became, Nothing, Waits, Marked, Broken, Reached, after_turn, became, client_after, client_at, ends_with, is_inside, marked, new_client, number_of, script_of}
+use Rattle.journal_words.specs.Clients.{Became, Nothing, Waits, Marked, Broken, Reached, became, client_at, ends_with, is_inside, number_of, script_of}
 use Rattle.journal_words.specs.Histories.{about, adds, alters, asked_about, client_ends, ends_so, entry_adds, history, line_ends, renames_away, request_waiting, told_in, waits_behind, waits_in}
 use Rattle.client_lines.specs.declared.renaming.Renaming.{Renaming}
 use Rattle.client_lines.specs.Pasts.{alter_text, history_line, item_text, past_text}
-use Rattle.client_lines.specs.Walks.{Walk, added_by, became_now, client_added, ended_text, ends_now, history_from, is_done, is_open, new_walk, nobody_renames, number_in, renames_at, renames_behind, renames_in, renaming_after, tool_added, walk_after, walk_at, walk_of, walks_after, with_renaming}
+use Rattle.client_lines.specs.Walks.{AreRenaming, Walk, added_by, became_now, client_added, ended_text, ends_now, history_from, is_done, is_open, new_walk, nobody_renames, number_in, renames_at, renames_behind, renames_in, renaming_after, tool_added, walk_after, walk_at, walk_of, walks_after, with_renaming}
 use Rattle.client_lines.proofs.Actors.{same_is}
+use Rattle.client_lines.proofs.Strangers.{stranger_ends}
 use Rattle.client_lines.proofs.Walking.{after_is, number_is, open_is, other_turn, own_turn}
 
 -- ---- what a client's turn ends
@@ -49,41 +50,6 @@ ended_is number client Nothing = refl
 ended_is number client Waits = refl
 ended_is number client (Marked mark reply) = marked_text number client mark reply client.left
 ended_is number client Broken = broken_text number client (is_inside client.lines) refl ∙ ap (λ (b : Bool). cond b (past_text number client.begun) []) (sym (open_is client.lines))
-
--- ---- clients that the plan doesn't have
-
--- no line is left and none is open
-record IsNobody (client : Reached) : Type 0 where
-  left : client.left ≡ []
-  lines : client.lines ≡ []
-
-nobody_marked : (client : Reached) (mark : Mark) (reply : Option Reply) (left : List ScriptLine) → left ≡ [] → IsNobody client → IsNobody (marked client mark reply left)
-nobody_marked client mark reply [] none is = is
-nobody_marked client mark reply (line ∷ lines) none is = absurd (cc)
-
-nobody_goes : (what : Became) (client : Reached) → IsNobody client → IsNobody (client_after what client)
-nobody_goes Nothing client is = is
-nobody_goes Waits client is = record { left = is.left; lines = is.lines }
-nobody_goes (Marked mark reply) client is = nobody_marked client mark reply client.left is.left is
-nobody_goes Broken client is = record { left = is.left; lines = refl }
-
-nobody_passes : (number : ℕ) (entry : Entry) (client : Reached) (b : Bool) → same_actor entry.actor (Client number) ≡ b → IsNobody client → IsNobody (after_turn number client entry)
-nobody_passes number entry client true is nobody = rw is (nobody_goes (became client entry) client nobody)
-nobody_passes number entry client false is nobody = rw is nobody
-
-nobody_folds : (number : ℕ) (entries : List Entry) (client : Reached) → IsNobody client → IsNobody (fold (after_turn number) client entries)
-nobody_folds number [] client nobody = nobody
-nobody_folds number (entry ∷ entries) client nobody = nobody_folds number entries (after_turn number client entry) (nobody_passes number entry client (same_actor entry.actor (Client number)) refl nobody)
-
-nobody_at : (plan : PlanData) (journal : List Entry) (number : ℕ) → script_of number plan ≡ None → IsNobody (client_at plan journal number)
-unfolding client_at
-nobody_at plan journal number none = nobody_folds number journal (new_client (unwrap_or (script_of number plan) [])) (rw none (record { left = refl; lines = refl }))
-
-nobody_ends : (number : ℕ) (client : Reached) (what : Became) → IsNobody client → flat_map item_text (client_ends number client what) ≡ []
-nobody_ends number client Nothing nobody = refl
-nobody_ends number client Waits nobody = refl
-nobody_ends number client (Marked mark reply) nobody = rw nobody.left refl
-nobody_ends number client Broken nobody = rw nobody.lines refl
 
 -- ---- the walks of all clients
 
@@ -123,11 +89,6 @@ walks_more plan before entry walks are = λ number.
     ∙ mapped (passed number entry) (walk_of (client_at plan before number)) (script_of number plan)
     ∙ ap (λ (walk : Walk). option_map (λ (script : List ScriptLine). walk) (script_of number plan)) (passed_is plan before entry number (same_actor entry.actor (Client number)) refl)
 
-get_mapped : {A B : Type 0} (f : A → B) (xs : List A) (place : ℕ) → slice_get (map f xs) place ≡ option_map f (slice_get xs place)
-get_mapped f [] place = refl
-get_mapped f (x ∷ xs) zero = refl
-get_mapped f (x ∷ xs) (suc place) = get_mapped f xs place
-
 at_begin : (plan : PlanData) (number : ℕ) (o : Option (List ScriptLine)) → script_of number plan ≡ o → option_map new_walk o ≡ option_map (λ (script : List ScriptLine). walk_of (client_at plan [] number)) o
 unfolding client_at
 at_begin plan number None is = refl
@@ -135,14 +96,14 @@ at_begin plan number (Some script) is = rw is refl
 
 scripts_begin : (plan : PlanData) (number : ℕ) (b : Bool) → (number == 0) ≡ b → walk_at number (map new_walk plan.clients) ≡ option_map new_walk (script_of number plan)
 scripts_begin plan number true none = rw none refl
-scripts_begin plan number false some = rw some (get_mapped new_walk plan.clients (number - 1))
+scripts_begin plan number false some = rw some (slice_get-map new_walk plan.clients (number - 1))
 
 walks_begin : (plan : PlanData) → AreWalks plan [] (map new_walk plan.clients)
 walks_begin plan = λ number. scripts_begin plan number (number == 0) refl ∙ at_begin plan number (script_of number plan) refl
 
 client_text : (plan : PlanData) (before : List Entry) (entry : Entry) (number : ℕ) (script : Option (List ScriptLine)) → script_of number plan ≡ script
     → flat_map item_text (client_ends number (client_at plan before number) (became (client_at plan before number) entry)) ≡ client_added number (option_map (λ (s : List ScriptLine). walk_of (client_at plan before number)) script) entry
-client_text plan before entry number None none = nobody_ends number (client_at plan before number) (became (client_at plan before number) entry) (nobody_at plan before number none)
+client_text plan before entry number None none = ap (flat_map item_text) (stranger_ends plan before entry number none)
 client_text plan before entry number (Some script) is = ended_is number (client_at plan before number) (became (client_at plan before number) entry)
 
 -- ---- the RENAME
@@ -237,10 +198,6 @@ behind_is name Cut (answers.Waits by) old = refl
 behind_is name Cut (answers.TimedOut waited) old = refl
 behind_is name Cut answers.Lost old = refl
 
--- which of the tool's actors wait with the RENAME is told by the requests that wait
-abbrev AreRenaming : PlanData → List Entry → Renaming → Type 0
-AreRenaming plan before renaming = (actor : Actor) → is_client actor ≡ false → renames_at renaming actor ≡ renames_away plan.table (request_waiting before actor)
-
 set_at : (actor other : Actor) (now : Bool) (renaming : Renaming) → is_client other ≡ false → renames_at (with_renaming actor now renaming) other ≡ cond (same_actor actor other) now (renames_at renaming other)
 set_at Op Op now renaming tool = refl
 set_at Op Insp now renaming tool = refl
@@ -302,7 +259,8 @@ waits_own before entry actor same = waiting_more before entry actor ∙ rw same 
 waits_other : (before : List Entry) (entry : Entry) (actor : Actor) → same_actor entry.actor actor ≡ false → request_waiting (before ++ entry ∷ []) actor ≡ request_waiting before actor
 waits_other before entry actor same = waiting_more before entry actor ∙ rw same refl
 
-renaming_more : (plan : PlanData) (before : List Entry) (entry : Entry) (renaming : Renaming) → AreRenaming plan before renaming → AreRenaming plan (before ++ entry ∷ []) (renaming_after plan.table entry renaming)
+-- who waits with it behind one turn more
+pub renaming_more : (plan : PlanData) (before : List Entry) (entry : Entry) (renaming : Renaming) → AreRenaming plan before renaming → AreRenaming plan (before ++ entry ∷ []) (renaming_after plan.table entry renaming)
 renaming_more plan before entry renaming are = λ actor tool. go actor tool (same_actor entry.actor actor) refl
   where
     go : (actor : Actor) → is_client actor ≡ false → (b : Bool) → same_actor entry.actor actor ≡ b → renames_at (renaming_after plan.table entry renaming) actor ≡ renames_away plan.table (request_waiting (before ++ entry ∷ []) actor)
@@ -318,7 +276,8 @@ renaming_more plan before entry renaming are = λ actor tool. go actor tool (sam
         ∙ rw same (are actor tool)
         ∙ sym (ap (renames_away plan.table) (waits_other before entry actor same))
 
-renaming_begins : (plan : PlanData) → AreRenaming plan [] nobody_renames
+-- before the first turn nobody does
+pub renaming_begins : (plan : PlanData) → AreRenaming plan [] nobody_renames
 unfolding request_waiting
 renaming_begins plan = go
   where

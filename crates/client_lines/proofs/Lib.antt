@@ -1,5 +1,6 @@
 pub mod Actors
 pub mod Walking
 pub mod Replying
+pub mod Strangers
 pub mod Ending
 pub mod Passing

@@ -33,7 +33,8 @@ tool_only Lock not = refl
 tool_only Ren not = refl
 tool_only (Client number) not = absurd (not number refl)
 
-apart : (entry : Entry) (client number : ℕ) → entry.actor ≡ Client client → (client == number) ≡ false → same_actor entry.actor (Client number) ≡ false
+-- a turn of a client is none of another's
+pub apart : (entry : Entry) (client number : ℕ) → entry.actor ≡ Client client → (client == number) ≡ false → same_actor entry.actor (Client number) ≡ false
 apart entry client number is differ = rw is differ
 
 -- a turn of a client below or above them leaves them

@@ -1,6 +1,6 @@
 -- How the code finds what clients got and what they ended: it goes through the journal once, and keeps how far each client
 -- is in its script and who waits with the RENAME. The laws say that this is what the definitions of replies and history say.
-use Rattle.std.specs.Prelude.{ℕ, ◌+◌, ◌-◌, ◌<◌, ◌^◌, ◌==◌, Bool, true, false, not, if◌then◌else◌, List, [], ◌∷◌, ◌++◌, length, Option, Some, None, is_some, option_and_then}
+use Rattle.std.specs.Prelude.{◌≡◌, ℕ, ◌+◌, ◌-◌, ◌<◌, ◌^◌, ◌==◌, Bool, true, false, not, if◌then◌else◌, List, [], ◌∷◌, ◌++◌, length, Option, Some, None, is_some, option_and_then}
 use Rattle.std.specs.List.{slice_get}
 use Rattle.script_text.specs.declared.actor.Actor.{Actor}
 use Rattle.script_text.specs.declared.actor.Actor.TheVariants.{Op, Insp, Copy, Apply, Lock, Ren, Client}
@@ -12,9 +12,10 @@ use Rattle.plain_server.specs.declared.entry.Asked.{Asked}
 use Rattle.plain_server.specs.declared.entry.Asked.TheVariants.{Call, Poll, Command}
 use Rattle.plain_server.specs.declared.entry.Entry.{Entry}
 use Rattle.plain_server.specs.Alone.{reply_of}
-use Rattle.plain_server.specs.Entries.{same_actor}
+use Rattle.plain_server.specs.Entries.{is_client, same_actor}
+use Rattle.plan_words.specs.PlanData.{PlanData}
 use Rattle.journal_words.specs.Clients.{Became, Nothing, Waits, Marked, Broken, Reached, became_in, ends_with, left_behind}
-use Rattle.journal_words.specs.Histories.{NumberedReply, renames_away, told_in}
+use Rattle.journal_words.specs.Histories.{NumberedReply, renames_away, request_waiting, told_in}
 use Rattle.client_lines.specs.declared.became.Became.{Became as Happened}
 use Rattle.client_lines.specs.declared.became.Became.TheVariants as happened
 use Rattle.client_lines.specs.declared.renaming.Renaming.{Renaming}
@@ -137,6 +138,10 @@ renames_at renaming Apply = renaming.apply
 renames_at renaming Lock = renaming.lock
 renames_at renaming Ren = renaming.ren
 renames_at renaming (Client number) = false
+
+-- *Are renaming*: they are those whose request, which waits behind the turns of a journal, takes the plan's table away.
+abbrev pub AreRenaming : PlanData → List Entry → Renaming → Type 0
+AreRenaming plan before renaming = (actor : Actor) → is_client actor ≡ false → renames_at renaming actor ≡ renames_away plan.table (request_waiting before actor)
 
 abbrev pub with_renaming : Actor → Bool → Renaming → Renaming
 with_renaming Op now renaming = record renaming { op = now }

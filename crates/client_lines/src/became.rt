@@ -11,7 +11,7 @@ use script_text::{Actor, ScriptWord, Side};
 
 /// What became of it.
 #[derive(Debug, Drop)]
-pub(crate) enum Became<'a> {
+pub enum Became<'a> {
     /// Nothing.
     Nothing,
     /// It waits.
@@ -75,7 +75,7 @@ fn cut_off<'a>(waits: bool) -> Became<'a>
 }
 
 /// What became of a client's line in its turn, where it waited before that or didn't.
-pub(crate) fn became_in(waits: bool, entry: &Entry) -> Became<'_>
+pub fn became_in(waits: bool, entry: &Entry) -> Became<'_>
     ensures { became_view result ≡ became_in waits entry.now.asked entry.now.side entry.now.answer entry.now.missed }
 {
     match (&entry.asked, entry.side) {

@@ -12,7 +12,7 @@ use script_text::{Actor, Side};
 
 /// Which of the tool's actors wait with a RENAME that takes the table's name away.
 #[derive(Clone, Copy, Debug)]
-pub(crate) struct Renaming {
+pub struct Renaming {
     op: bool,
     insp: bool,
     copy: bool,
@@ -79,7 +79,7 @@ pub(crate) fn is_done_in(entry: &Entry) -> bool
 
 impl Renaming {
     /// Nobody waits with it.
-    pub(crate) fn nobody() -> Renaming
+    pub fn nobody() -> Renaming
         ensures { result ≡ nobody_renames }
     {
         Renaming {
@@ -93,7 +93,7 @@ impl Renaming {
     }
 
     /// Whether this actor does.
-    pub(crate) fn at(&self, actor: Actor) -> bool
+    pub fn at(&self, actor: Actor) -> bool
         ensures { result ≡ renames_at self.now actor }
     {
         match actor {
@@ -122,7 +122,7 @@ impl Renaming {
     }
 
     /// Who waits with it behind a turn.
-    pub(crate) fn pass(&mut self, name: &Name, entry: &Entry)
+    pub fn pass(&mut self, name: &Name, entry: &Entry)
         ensures { self.new ≡ renaming_after name.now entry.now self.old }
     {
         let waits = renames_behind(name, self.at(entry.actor), &entry.asked, &entry.answer);

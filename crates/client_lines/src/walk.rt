@@ -53,7 +53,7 @@ fn behind_transaction(lines: &[ScriptLine]) -> &[ScriptLine]
 }
 
 /// The script behind its first line, which got this mark.
-fn behind_line(inside: bool, mark: Mark, left: &[ScriptLine]) -> &[ScriptLine]
+pub fn behind_line(inside: bool, mark: Mark, left: &[ScriptLine]) -> &[ScriptLine]
     ensures { result.now ≡ behind_line inside mark left.now }
 {
     match mark {
