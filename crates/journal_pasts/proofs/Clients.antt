@@ -2,7 +2,7 @@
 use Rattle.std.proofs.Common.{◌≡◌, ℕ, zero, suc, ◌-◌, ◌<◌, ◌==◌, Bool, true, false, List, [], ◌∷◌, ◌++◌, map, length, get_or, Option, Some, None, option_map, refl, sym, ap, ◌∙◌, subst, arith, ◌⊎◌, inl, inr}
 use Rattle.std.proofs.lemmas.Bool.{ne_eqb}
 use Rattle.std.proofs.lemmas.Bool.Decides.{nat_tests}
-use Rattle.std.proofs.lemmas.Option.{slice_get_past, slice_get_read}
+use Rattle.std.proofs.lemmas.Option.{slice_get-map, slice_get_past, slice_get_read}
 use Rattle.std.specs.List.{slice_get, slice_set}
 use Rattle.script_text.specs.declared.actor.Actor.TheVariants.{Client}
 use Rattle.script_text.specs.declared.script.ScriptLine.{ScriptLine}
@@ -10,10 +10,11 @@ use Rattle.plain_server.specs.declared.entry.Entry.{Entry}
 use Rattle.plain_server.specs.Entries.{same_actor}
 use Rattle.plan_words.specs.PlanData.{PlanData}
 use Rattle.journal_words.specs.Clients.{Reached, became, client_after, client_at, new_client, script_of}
-use Rattle.journal_words.specs.Histories.{HistoryItem, client_ends, entry_adds}
-use Rattle.journal_pasts.specs.Walks.{AreReached, client_in, kept}
-use Rattle.journal_pasts.proofs.Strangers.{stranger_ends}
-use Rattle.journal_pasts.proofs.Turns.{kept_after, kept_ends, other_turn, own_turn}
+use Rattle.journal_words.specs.Histories.{client_ends, entry_adds}
+use Rattle.client_lines.proofs.Passing.{apart}
+use Rattle.client_lines.proofs.Strangers.{stranger_ends}
+use Rattle.client_lines.proofs.Walking.{other_turn, own_turn}
+use Rattle.journal_pasts.specs.Walks.{AreReached, client_in}
 
 -- ---- a list with one item set
 
@@ -31,19 +32,14 @@ set_other (first ∷ xs) (suc place) (suc other) x differ = set_other xs place o
 
 -- ---- before the first turn
 
-get_mapped : {A B : Type 0} (f : A → B) (xs : List A) (place : ℕ) → slice_get (map f xs) place ≡ option_map f (slice_get xs place)
-get_mapped f [] place = refl
-get_mapped f (x ∷ xs) zero = refl
-get_mapped f (x ∷ xs) (suc place) = get_mapped f xs place
-
-at_begin : (plan : PlanData) (number : ℕ) (script : Option (List ScriptLine)) → script_of number plan ≡ script → option_map new_client script ≡ option_map (λ (s : List ScriptLine). kept (client_at plan [] number)) script
+at_begin : (plan : PlanData) (number : ℕ) (script : Option (List ScriptLine)) → script_of number plan ≡ script → option_map new_client script ≡ option_map (λ (s : List ScriptLine). client_at plan [] number) script
 unfolding client_at
 at_begin plan number None is = refl
 at_begin plan number (Some script) is = rw is refl
 
 scripts_begin : (plan : PlanData) (number : ℕ) (b : Bool) → (number == 0) ≡ b → client_in number (map new_client plan.clients) ≡ option_map new_client (script_of number plan)
 scripts_begin plan number true none = rw none refl
-scripts_begin plan number false some = rw some (get_mapped new_client plan.clients (number - 1))
+scripts_begin plan number false some = rw some (slice_get-map new_client plan.clients (number - 1))
 
 pub all_begin : (plan : PlanData) → AreReached plan [] (map new_client plan.clients)
 all_begin plan = λ number. scripts_begin plan number (number == 0) refl ∙ at_begin plan number (script_of number plan) refl
@@ -58,16 +54,15 @@ some_script old a None is = absurd (cc)
 some_script old a (Some script) is = some_is old a is
 
 -- the client that is found is so far as it should be
-pub found_is : (plan : PlanData) (before : List Entry) (clients : List Reached) (number : ℕ) (old : Reached) → AreReached plan before clients → client_in number clients ≡ Some old → old ≡ kept (client_at plan before number)
-found_is plan before clients number old are found = some_script old (kept (client_at plan before number)) (script_of number plan) (sym found ∙ are number)
+pub found_is : (plan : PlanData) (before : List Entry) (clients : List Reached) (number : ℕ) (old : Reached) → AreReached plan before clients → client_in number clients ≡ Some old → old ≡ client_at plan before number
+found_is plan before clients number old are found = some_script old (client_at plan before number) (script_of number plan) (sym found ∙ are number)
 
 -- what it ends is what the turn adds
 pub adds_so : (plan : PlanData) (before : List Entry) (entry : Entry) (clients : List Reached) (number : ℕ) (old : Reached) → entry.actor ≡ Client number → AreReached plan before clients → client_in number clients ≡ Some old
     → client_ends number old (became old entry) ≡ entry_adds plan before entry
 adds_so plan before entry clients number old is are found =
-    let so_far : old ≡ kept (client_at plan before number) = found_is plan before clients number old are found in
+    let so_far : old ≡ client_at plan before number = found_is plan before clients number old are found in
     ap (λ (client : Reached). client_ends number client (became client entry)) so_far
-    ∙ kept_ends number (became (client_at plan before number) entry) (client_at plan before number)
     ∙ sym (rw is refl)
 
 no_script : {A : Type 0} (a : A) (script : Option (List ScriptLine)) → None ≡ option_map (λ (s : List ScriptLine). a) script → script ≡ None
@@ -77,16 +72,13 @@ no_script a (Some script) is = absurd (cc)
 -- a client that isn't found adds nothing
 pub adds_none : (plan : PlanData) (before : List Entry) (entry : Entry) (clients : List Reached) (number : ℕ) → entry.actor ≡ Client number → AreReached plan before clients → client_in number clients ≡ None → [] ≡ entry_adds plan before entry
 adds_none plan before entry clients number is are missing =
-    let none : script_of number plan ≡ None = no_script (kept (client_at plan before number)) (script_of number plan) (sym missing ∙ are number) in
+    let none : script_of number plan ≡ None = no_script (client_at plan before number) (script_of number plan) (sym missing ∙ are number) in
     sym (rw is (stranger_ends plan before entry number none))
-
-apart : (entry : Entry) (client number : ℕ) → entry.actor ≡ Client client → (client == number) ≡ false → same_actor entry.actor (Client number) ≡ false
-apart entry client number is differ = rw is differ
 
 -- the clients whose turn it isn't
 other_stays : (plan : PlanData) (before : List Entry) (entry : Entry) (number : ℕ) → same_actor entry.actor (Client number) ≡ false
-    → option_map (λ (s : List ScriptLine). kept (client_at plan before number)) (script_of number plan) ≡ option_map (λ (s : List ScriptLine). kept (client_at plan (before ++ entry ∷ []) number)) (script_of number plan)
-other_stays plan before entry number other = ap (λ (client : Reached). option_map (λ (s : List ScriptLine). kept client) (script_of number plan)) (sym (other_turn plan before entry number other))
+    → option_map (λ (s : List ScriptLine). client_at plan before number) (script_of number plan) ≡ option_map (λ (s : List ScriptLine). client_at plan (before ++ entry ∷ []) number) (script_of number plan)
+other_stays plan before entry number other = ap (λ (client : Reached). option_map (λ (s : List ScriptLine). client) (script_of number plan)) (sym (other_turn plan before entry number other))
 
 -- a turn of nobody's among these
 pub others_turn : (plan : PlanData) (before : List Entry) (entry : Entry) (clients : List Reached) → ((number : ℕ) → same_actor entry.actor (Client number) ≡ false) → AreReached plan before clients → AreReached plan (before ++ entry ∷ []) clients
@@ -104,11 +96,11 @@ none_if a b (Some script) is = absurd (cc)
 pub missing_turn : (plan : PlanData) (before : List Entry) (entry : Entry) (clients : List Reached) (client : ℕ) → entry.actor ≡ Client client → client_in client clients ≡ None → AreReached plan before clients → AreReached plan (before ++ entry ∷ []) clients
 missing_turn plan before entry clients client is missing are = λ number. go number (client == number) refl
   where
-    go : (number : ℕ) (b : Bool) → (client == number) ≡ b → client_in number clients ≡ option_map (λ (s : List ScriptLine). kept (client_at plan (before ++ entry ∷ []) number)) (script_of number plan)
+    go : (number : ℕ) (b : Bool) → (client == number) ≡ b → client_in number clients ≡ option_map (λ (s : List ScriptLine). client_at plan (before ++ entry ∷ []) number) (script_of number plan)
     go number true same =
         let one : client ≡ number = grind (arith, nat_tests) in
         let none : client_in number clients ≡ None = subst (λ (n : ℕ). client_in n clients ≡ None) one missing in
-        none ∙ none_if (kept (client_at plan before number)) (kept (client_at plan (before ++ entry ∷ []) number)) (script_of number plan) (sym none ∙ are number)
+        none ∙ none_if (client_at plan before number) (client_at plan (before ++ entry ∷ []) number) (script_of number plan) (sym none ∙ are number)
     go number false differ = are number ∙ other_stays plan before entry number (apart entry client number is differ)
 
 set_in : (clients : List Reached) (client : ℕ) (new : Reached) → (client == 0) ≡ false → client - 1 < length clients → client_in client (slice_set clients (client - 1) new) ≡ Some new
@@ -122,29 +114,28 @@ set_beside clients client number new false one some differ =
 
 -- a turn of a client that is found moves it alone
 pub found_turn : (plan : PlanData) (before : List Entry) (entry : Entry) (clients : List Reached) (client : ℕ) (old new : Reached) → entry.actor ≡ Client client → (client == 0) ≡ false → client - 1 < length clients
-    → client_in client clients ≡ Some old → new ≡ kept (client_after (became old entry) old) → AreReached plan before clients → AreReached plan (before ++ entry ∷ []) (slice_set clients (client - 1) new)
+    → client_in client clients ≡ Some old → new ≡ client_after (became old entry) old → AreReached plan before clients → AreReached plan (before ++ entry ∷ []) (slice_set clients (client - 1) new)
 found_turn plan before entry clients client old new is some within found made are = λ number. go number (client == number) refl
   where
     own_is : same_actor entry.actor (Client client) ≡ true
     own_is = rw is (let same : (client == client) ≡ true = grind (arith, nat_tests) in same)
 
-    new_is : new ≡ kept (client_at plan (before ++ entry ∷ []) client)
+    new_is : new ≡ client_at plan (before ++ entry ∷ []) client
     new_is =
-        let so_far : old ≡ kept (client_at plan before client) = found_is plan before clients client old are found in
+        let so_far : old ≡ client_at plan before client = found_is plan before clients client old are found in
         made
-        ∙ ap (λ (c : Reached). kept (client_after (became c entry) c)) so_far
-        ∙ kept_after (became (client_at plan before client) entry) (client_at plan before client)
-        ∙ sym (ap kept (own_turn plan before entry client own_is))
+        ∙ ap (λ (c : Reached). client_after (became c entry) c) so_far
+        ∙ sym (own_turn plan before entry client own_is)
 
-    own_found : client_in client (slice_set clients (client - 1) new) ≡ option_map (λ (s : List ScriptLine). kept (client_at plan (before ++ entry ∷ []) client)) (script_of client plan)
+    own_found : client_in client (slice_set clients (client - 1) new) ≡ option_map (λ (s : List ScriptLine). client_at plan (before ++ entry ∷ []) client) (script_of client plan)
     own_found =
         set_in clients client new some within
-        ∙ some_if plan old new (script_of client plan) (kept (client_at plan before client)) (kept (client_at plan (before ++ entry ∷ []) client)) (sym found ∙ are client) new_is
+        ∙ some_if plan old new (script_of client plan) (client_at plan before client) (client_at plan (before ++ entry ∷ []) client) (sym found ∙ are client) new_is
 
-    go : (number : ℕ) (b : Bool) → (client == number) ≡ b → client_in number (slice_set clients (client - 1) new) ≡ option_map (λ (s : List ScriptLine). kept (client_at plan (before ++ entry ∷ []) number)) (script_of number plan)
+    go : (number : ℕ) (b : Bool) → (client == number) ≡ b → client_in number (slice_set clients (client - 1) new) ≡ option_map (λ (s : List ScriptLine). client_at plan (before ++ entry ∷ []) number) (script_of number plan)
     go number true same =
         let one : client ≡ number = grind (arith, nat_tests) in
-        subst (λ (n : ℕ). client_in n (slice_set clients (client - 1) new) ≡ option_map (λ (s : List ScriptLine). kept (client_at plan (before ++ entry ∷ []) n)) (script_of n plan)) one own_found
+        subst (λ (n : ℕ). client_in n (slice_set clients (client - 1) new) ≡ option_map (λ (s : List ScriptLine). client_at plan (before ++ entry ∷ []) n) (script_of n plan)) one own_found
     go number false differ =
         set_beside clients client number new (number == 0) refl some differ
         ∙ are number
@@ -173,7 +164,7 @@ place_adds plan before entry clients client old is some within at are = adds_so 
 
 -- it moves that client alone
 pub place_turn : (plan : PlanData) (before : List Entry) (entry : Entry) (clients : List Reached) (client : ℕ) (old new : Reached) → entry.actor ≡ Client client → 0 < client → client - 1 < length clients → old ≡ get_or clients (client - 1) old
-    → new ≡ kept (client_after (became old entry) old) → AreReached plan before clients → AreReached plan (before ++ entry ∷ []) (slice_set clients (client - 1) new)
+    → new ≡ client_after (became old entry) old → AreReached plan before clients → AreReached plan (before ++ entry ∷ []) (slice_set clients (client - 1) new)
 place_turn plan before entry clients client old new is some within at made are = found_turn plan before entry clients client old new is (not_zero client some) within (one_there clients client old some within at) made are
 
 -- the clients before the first turn

@@ -1,5 +1,3 @@
-pub mod Turns
-pub mod Strangers
 pub mod Clients
 pub mod Tool
 pub mod Whole

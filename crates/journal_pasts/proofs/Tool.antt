@@ -1,55 +1,16 @@
 -- What a turn of the tool's adds.
-use Rattle.std.proofs.Common.{◌≡◌, ℕ, Bool, true, false, cond, List, [], ◌∷◌, map, Option, Some, None, refl, sym, ap, ◌∙◌, true≢false}
-use Rattle.std.specs.Prelude.{option_to_list}
-use Rattle.std.specs.List.{list_any, slice_get}
+use Rattle.std.proofs.Common.{◌≡◌, Bool, true, false, cond, List, [], ◌∷◌, Option, Some, None, refl, sym, ap, ◌∙◌, true≢false}
+use Rattle.std.specs.List.{list_any}
 use Rattle.script_text.specs.declared.actor.Actor.{Actor}
 use Rattle.script_text.specs.declared.actor.Actor.TheVariants.{Op, Insp, Copy, Apply, Lock, Ren, Client}
 use Rattle.plain_server.specs.declared.request.Request.{Request}
 use Rattle.plain_server.specs.declared.answer.Answer.{Answer}
 use Rattle.plain_server.specs.declared.answer.Answer.TheVariants as answers
 use Rattle.plain_server.specs.declared.entry.Entry.{Entry}
-use Rattle.plain_server.specs.Entries.{is_client, same_actor}
+use Rattle.plain_server.specs.Entries.{is_client}
 use Rattle.plan_words.specs.PlanData.{PlanData}
-use Rattle.journal_words.specs.Histories.{HistoryItem, about, adds, alters, entry_adds, is_alter, renames_away, request_waiting, told_in}
+use Rattle.journal_words.specs.Histories.{HistoryItem, about, adds, alters, entry_adds, is_alter, renames_away, told_in}
 use Rattle.journal_words.specs.Histories as histories
-use Rattle.journal_words.specs.Sessions.{live_session}
-use Rattle.actor_seats.specs.declared.seat.ActorSeat.{ActorSeat}
-use Rattle.actor_seats.specs.Seats.{seat_at}
-use Rattle.journal_pasts.specs.Walks.{free_seat, place_of, renames_of, tool_seats}
-
--- ---- seats
-
--- before the first turn
-pub seats_begin : (table : List ℕ) (all : List Actor) → map free_seat all ≡ map (seat_at table []) all
-unfolding live_session request_waiting
-seats_begin table [] = refl
-seats_begin table (actor ∷ all) = ap (λ seats. free_seat actor ∷ seats) (seats_begin table all)
-
--- the seat at an actor's place
-pub seat_found : (table : List ℕ) (before : List Entry) (actor : Actor) → is_client actor ≡ false → slice_get (tool_seats table before) (place_of actor) ≡ Some (seat_at table before actor)
-seat_found table before Op tool = refl
-seat_found table before Insp tool = refl
-seat_found table before Copy tool = refl
-seat_found table before Apply tool = refl
-seat_found table before Lock tool = refl
-seat_found table before Ren tool = refl
-seat_found table before (Client number) tool = absurd (true≢false tool)
-
--- whether the actor waits with the RENAME, by its seat
-pub renames_is : (table : List ℕ) (before : List Entry) (actor : Actor) (seats : List ActorSeat) → seats ≡ tool_seats table before → is_client actor ≡ false → renames_of (slice_get seats (place_of actor)) ≡ renames_away table (request_waiting before actor)
-renames_is table before actor seats are tool = ap (λ (all : List ActorSeat). renames_of (slice_get all (place_of actor))) are ∙ ap renames_of (seat_found table before actor tool)
-
--- a turn of the tool's is none of a client's
-pub no_client : (actor : Actor) → ((number : ℕ) → actor ≡ Client number → ⊥) → (number : ℕ) → same_actor actor (Client number) ≡ false
-no_client Op not number = refl
-no_client Insp not number = refl
-no_client Copy not number = refl
-no_client Apply not number = refl
-no_client Lock not number = refl
-no_client Ren not number = refl
-no_client (Client client) not number = absurd (not client refl)
-
--- ---- the ALTER
 
 abbrev alter_if : Bool → List HistoryItem
 alter_if b = cond b (histories.Alter ∷ []) []

@@ -9,6 +9,7 @@ use alone_model::Happening;
 use gho_values::{Duplicate, Sequence};
 use std::alloc::{AllocError, Global};
 
+/// What happened, without the replies that were given.
 fn happening_of(item: &PastItem) -> Result<Happening, AllocError>
     ensures { IfOk result (λ happening. happening ≡ model.happening_of (item_as item.now)) }
 {
@@ -18,7 +19,7 @@ fn happening_of(item: &PastItem) -> Result<Happening, AllocError>
     }
 }
 
-/// What happened, without the replies that were given.
+/// All that happened, in order, without the replies that were given.
 pub fn happenings_of(alloc: Global, items: &[PastItem]) -> Result<Sequence<Happening>, AllocError>
     ensures { IfOk result (λ all. all ≡ map model.happening_of (map item_as items.now)) }
 {

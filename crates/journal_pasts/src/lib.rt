@@ -2,10 +2,10 @@
 //! place, and how far each client is in its script.
 #![tactic(auto)]
 
-mod became;
 mod happenings;
 mod pasts;
 mod reached;
+mod replies;
 mod walking;
 
 pub use happenings::happenings_of;

@@ -1,14 +1,14 @@
 //! How far a client is in its script, with the lines of its open transaction and the replies to them.
 
-ghost use Rattle.std.specs.Prelude.{◌≡◌, [], ◌∷◌, false, IfOk, OnOk};
-ghost use Rattle.script_text.specs.declared.script.ScriptLine.{ScriptLine};
-ghost use Rattle.journal_words.specs.Clients.{Broken, behind_transaction, client_after, closes, is_inside, left_behind, marked, new_client, number_of, with_line, with_reply};
+ghost use Rattle.std.specs.Prelude.{◌≡◌, [], false, IfOk, OnOk};
+ghost use Rattle.journal_words.specs.Clients.{Broken, client_after, ends_with, is_inside, is_loss, marked, new_client, number_of, with_line, with_reply};
 ghost use Rattle.journal_words.specs.Clients as clients;
 ghost use Rattle.journal_words.specs.Histories.{breaks, client_ends, line_ends};
-ghost use Rattle.journal_pasts.specs.Walks.{ended_items, kept};
+ghost use Rattle.journal_pasts.specs.Walks.{ended_items};
 
-use crate::became::{Became, became_in, ends_with};
 use crate::pasts::Past;
+use crate::replies::heard_reply;
+use client_lines::{Became, became_in, behind_line};
 use gho_values::{Duplicate, Sequence};
 use plain_server::{EndedTxn, Entry, Mark, Replies, Reply, TxnEnd, TxnLine, TxnLines};
 use script_text::{ScriptLine, ScriptWord};
@@ -24,52 +24,28 @@ pub struct Reached<'a> {
     lines: TxnLines,
     replies: Replies,
     waits: bool,
+    is_lost: bool,
 }
 
 impl<'a> Model for Reached<'a> {
-    ghost use Rattle.std.specs.Prelude.{false};
     ghost use Rattle.journal_words.specs.Clients.{Reached as ReachedView};
 
     ghost Value = { ReachedView };
 
-    ghost view = { λ r. record { left = r.left.now; begun = r.begun; lines = r.lines; replies = r.replies; waits = r.waits; is_lost = false } };
+    ghost view = { λ r. record { left = r.left.now; begun = r.begun; lines = r.lines; replies = r.replies; waits = r.waits; is_lost = r.is_lost } };
 }
 
-fn closes(word: &ScriptWord) -> bool
-    ensures { result ≡ closes word.now }
+/// How the transaction ends with a line of this mark, where it does.
+fn ends_with(inside: bool, word: &ScriptWord, mark: Mark) -> Option<TxnEnd>
+    ensures { result ≡ ends_with inside word.now mark }
 {
-    match word {
-        ScriptWord::Commit | ScriptWord::Rollback => true,
-        ScriptWord::Begin | ScriptWord::Do(_) => false,
-    }
-}
-
-/// The script behind the open transaction.
-fn behind_transaction(lines: &[ScriptLine]) -> &[ScriptLine]
-    ensures { result.now ≡ behind_transaction lines.now }
-{
-    let mut rest = lines;
-    while let Some((line, others)) = rest.split_first() {
-        if closes(&line.word) {
-            return others;
-        }
-        rest = others;
-    }
-    &[]
-}
-
-/// The script behind its first line, which got this mark, and behind which these lines stand.
-fn left_behind<'a>(
-    inside: bool,
-    mark: Mark,
-    left: &'a [ScriptLine],
-    lines: &'a [ScriptLine],
-) -> &'a [ScriptLine]
-    ensures { (line : ScriptLine) → left.now ≡ line ∷ lines.now → result.now ≡ left_behind inside mark line lines.now }
-{
-    match mark {
-        Mark::TimedOut if inside => behind_transaction(left),
-        _ => lines,
+    match (mark, word) {
+        (Mark::TimedOut, _) => Some(TxnEnd::TimedOut),
+        (Mark::Lost(_), _) => Some(TxnEnd::Lost),
+        (Mark::Answered, ScriptWord::Begin) => None,
+        (Mark::Answered, ScriptWord::Commit) => Some(TxnEnd::Committed),
+        (Mark::Answered, ScriptWord::Rollback) => Some(TxnEnd::RolledBack),
+        (Mark::Answered, ScriptWord::Do(_)) => { if inside { None } else { Some(TxnEnd::Single) } }
     }
 }
 
@@ -84,6 +60,7 @@ impl<'a> Reached<'a> {
             lines: Sequence::new(alloc),
             replies: Sequence::new(alloc),
             waits: false,
+            is_lost: false,
         }
     }
 
@@ -129,7 +106,7 @@ impl<'a> Reached<'a> {
     /// Its open transaction, which ended so, with the client's number. It takes no memory.
     fn end(&mut self, alloc: Global, client: u32, ended: TxnEnd) -> Past
         ensures past { result ≡ record { client = client; number = self.old.begun; txn = record { lines = self.old.lines; ended = ended }; replies = self.old.replies } }
-        ensures rest { self.new ≡ kept (record self.old { lines = []; replies = [] }) }
+        ensures rest { self.new ≡ record self.old { lines = []; replies = [] } }
     {
         let lines = mem::replace(&mut self.lines, Sequence::new(alloc));
         let replies = mem::replace(&mut self.replies, Sequence::new(alloc));
@@ -148,7 +125,7 @@ impl<'a> Reached<'a> {
         mark: Mark,
         reply: Option<Reply>,
     ) -> Result<(), AllocError>
-        ensures { OnOk result (self.new ≡ record self.old { begun = number_of self.old; lines = with_line self.old line.now.word mark; replies = with_reply self.old reply; waits = false }) }
+        ensures { OnOk result (self.new ≡ record self.old { begun = number_of self.old; lines = with_line self.old line.now.word mark; replies = with_reply self.old reply; waits = false; is_lost = is_loss mark }) }
     {
         self.begun = self.number()?;
         self.lines.push(TxnLine {
@@ -159,6 +136,7 @@ impl<'a> Reached<'a> {
             self.replies.push(reply)?;
         }
         self.waits = false;
+        self.is_lost = matches!(mark, Mark::Lost(_));
         Ok(())
     }
 
@@ -171,14 +149,14 @@ impl<'a> Reached<'a> {
         reply: Option<Reply>,
     ) -> Result<Option<Past>, AllocError>
         ensures ended { IfOk result (λ past. ended_items past ≡ line_ends client self.old mark reply self.old.left) }
-        ensures rest { OnOk result (self.new ≡ kept (marked self.old mark reply self.old.left)) }
+        ensures rest { OnOk result (self.new ≡ marked self.old mark reply self.old.left) }
     {
         let left = self.left;
-        let Some((line, lines)) = left.split_first() else {
+        let Some((line, _)) = left.split_first() else {
             return Ok(None);
         };
         let inside = self.is_inside();
-        self.left = left_behind(inside, mark, left, lines);
+        self.left = behind_line(inside, mark, left);
         self.take_line(line, mark, reply)?;
         match ends_with(inside, &line.word, mark) {
             Some(ended) => Ok(Some(self.end(alloc, client, ended))),
@@ -189,10 +167,11 @@ impl<'a> Reached<'a> {
     /// Its session is lost between lines: the transaction that was open, where one was. It takes no memory.
     fn broken(&mut self, alloc: Global, client: u32) -> Option<Past>
         ensures ended { ended_items result ≡ breaks client self.old (is_inside self.old.lines) }
-        ensures rest { self.new ≡ kept (client_after Broken self.old) }
+        ensures rest { self.new ≡ client_after Broken self.old }
     {
         let inside = self.is_inside();
         let past = self.end(alloc, client, TxnEnd::Lost);
+        self.is_lost = true;
         if inside { Some(past) } else { None }
     }
 
@@ -204,15 +183,15 @@ impl<'a> Reached<'a> {
         entry: &Entry,
     ) -> Result<Option<Past>, AllocError>
         ensures ended { IfOk result (λ past. ended_items past ≡ client_ends client self.old (clients.became self.old entry.now)) }
-        ensures rest { OnOk result (self.new ≡ kept (client_after (clients.became self.old entry.now) self.old)) }
+        ensures rest { OnOk result (self.new ≡ client_after (clients.became self.old entry.now) self.old) }
     {
-        match became_in(self.waits, entry)? {
+        match became_in(self.waits, entry) {
             Became::Nothing => Ok(None),
             Became::Waits => {
                 self.waits = true;
                 Ok(None)
             }
-            Became::Marked(mark, reply) => self.mark(alloc, client, mark, reply),
+            Became::Marked(mark, heard) => self.mark(alloc, client, mark, heard_reply(heard)?),
             Became::Broken => Ok(self.broken(alloc, client)),
         }
     }

@@ -1,4 +1,4 @@
-use Rattle.std.proofs.Common.{◌≡◌, ◌⊎◌, ◌<◌, length, inl, inr, sym, ap, ◌∙◌, arith}
+use Rattle.std.proofs.Common.{inl, inr, sym, ap, ◌∙◌, arith}
 use Rattle.journal_pasts.specs.Walks.{ended_items}
 use Rattle.journal_pasts.proofs.Clients.{adds_none, missing_turn, none_there, place_adds, place_turn}
 use Rattle.journal_pasts.proofs.walking.client_turn.Goals as goal
