@@ -1,30 +1,20 @@
 //! Whether an event is encoded. Nothing here takes memory.
 
-ghost use Rattle.std.specs.Prelude.{◌≡◌, ◌<◌, ◌≤◌, ◌+◌, ◌^◌, ◌&&◌, length, true, nat_lt, IfSome, IfNone};
+ghost use Rattle.std.specs.Prelude.{◌≡◌, ◌<◌, ◌≤◌, ◌+◌, ◌^◌, ◌&&◌, length, nat_lt, IsTrue, ◌↔◌, IfSome, IfNone};
 ghost use Rattle.std.specs.List.{list_all, AllByRecursion};
-ghost use Rattle.gho_values.specs.Storing.{character_count};
 ghost use Rattle.event_codec.specs.Encoding.{body_of, columns_of, value_bytes, values_bytes, values_of, IsEncodable};
 ghost use Rattle.txn_costs.specs.Fitting.{are_alike, has_columns, is_column_value, is_encodable, is_event_name};
 
 use event_codec::{Change, RowEvent};
 use gho_values::{Name, Value};
+use schema_rules::is_column_name;
 
-/// How many characters a text has.
-#[tactic(auto, unfolding(gho_values::specs::Storing::character_count))]
-fn character_count(text: &str) -> usize
-    ensures { result ≡ character_count text.now }
-{
-    text.as_bytes()
-        .iter()
-        .filter(|byte| **byte < 128 || **byte >= 192)
-        .count()
-}
-
+/// Whether an event's table may have this name.
 fn is_event_name(name: &Name) -> bool
     ensures { result ≡ is_event_name name.now }
 {
     let text = name.as_str();
-    1 <= text.len() && text.len() <= 255 && character_count(text) <= 64
+    text.len() <= 255 && is_column_name(text)
 }
 
 /// How many values each row of the change has.
@@ -36,6 +26,7 @@ fn columns_of(change: &Change) -> usize
     }
 }
 
+/// Whether the rows of the change have equally many values.
 fn are_alike(change: &Change) -> bool
     ensures { result ≡ are_alike change.now }
 {
@@ -45,6 +36,7 @@ fn are_alike(change: &Change) -> bool
     }
 }
 
+/// Whether each row of the change has 1 to 64 values, and each equally many.
 fn has_columns(change: &Change) -> bool
     ensures { result ≡ has_columns change.now }
 {
@@ -52,6 +44,7 @@ fn has_columns(change: &Change) -> bool
     1 <= columns && columns <= 64 && are_alike(change)
 }
 
+/// Whether a column can hold the value: a number is one of BIGINT or BIGINT UNSIGNED.
 fn is_column_value(value: &Value) -> bool
     ensures { result ≡ is_column_value value.now }
 {
@@ -61,6 +54,7 @@ fn is_column_value(value: &Value) -> bool
     }
 }
 
+/// Whether columns can hold the values of the row.
 fn are_column_values(row: &[Value]) -> bool
     ensures { result ≡ list_all is_column_value row.now }
 {
@@ -142,14 +136,14 @@ fn passes(event: &RowEvent) -> bool
 }
 
 /// Whether the event is encoded: the condition of its cost.
-#[tactic(auto, using(crate::proofs::Fits::test_holds))]
+#[tactic(auto, using(crate::proofs::Fits::test_is))]
 pub fn is_encodable(event: &RowEvent) -> bool
-    ensures test { result ≡ is_encodable event.now }
-    ensures holds { result ≡ true → IsEncodable event.now }
+    ensures { IsTrue result ↔ IsEncodable event.now }
 {
     passes(event)
 }
 
+/// Whether each of the events passes each test.
 fn pass(events: &[RowEvent]) -> bool
     ensures { result ≡ list_all is_encodable events.now }
 {
@@ -157,10 +151,9 @@ fn pass(events: &[RowEvent]) -> bool
 }
 
 /// Whether all of the events are encoded: the condition of their cost.
-#[tactic(auto, using(crate::proofs::Fits::tests_hold))]
+#[tactic(auto, using(crate::proofs::Fits::tests_are))]
 pub fn are_encodable(events: &[RowEvent]) -> bool
-    ensures test { result ≡ list_all is_encodable events.now }
-    ensures holds { result ≡ true → AllByRecursion IsEncodable events.now }
+    ensures { IsTrue result ↔ AllByRecursion IsEncodable events.now }
 {
     pass(events)
 }
