@@ -6,7 +6,9 @@ ghost use Rattle.alone_model.specs.Histories.{alone_in_order, happening_of};
 ghost use Rattle.journal_pasts.specs.Walks.{item_as};
 
 use crate::clients::push_clients;
+use crate::history::{has_alter, push_history};
 use crate::replies::are_the_same;
+use crate::saying::{Said, says};
 use crate::tables::push_tables;
 use accepted_laws::laws::read_plans_are_worded;
 use accepted_laws::plan_laws::read_plans_are_accepted;
@@ -75,15 +77,29 @@ fn middle(
     Ok(text)
 }
 
-/// Whether the report says this between its first line, the verdict, and the line of the tables' names.
-fn says(report: &str, middle: &str) -> bool {
-    match report.split_once('\n') {
-        Some((_, rest)) => match rest.strip_prefix(middle) {
-            Some(names) => names.starts_with("tables"),
-            None => false,
-        },
-        None => false,
+/// The line of the history, where the report has it.
+fn history_line(alloc: Global, plan: &Plan, walked: &Walked<'_>) -> Result<Text, AllocError> {
+    let mut text = Text::new(alloc);
+    if plan.options().show_history {
+        push_history(&mut text, walked.items.as_slice())?;
     }
+    Ok(text)
+}
+
+/// What the report must say, where the history gave this.
+fn wanted(
+    alloc: Global,
+    plan: &Plan,
+    walked: &Walked<'_>,
+    ran: &InOrder,
+    open: &[Replies],
+) -> Result<Said, AllocError> {
+    Ok(Said {
+        altered: has_alter(walked.items.as_slice()),
+        middle: middle(alloc, plan, walked, ran, open)?,
+        history: history_line(alloc, plan, walked)?,
+        shows_turns: plan.options().show_turns,
+    })
 }
 
 /// Whether what the history gave alone is what the journal and the report have.
@@ -95,11 +111,11 @@ fn is_given(
     report: &str,
 ) -> Result<bool, AllocError> {
     let open = open_replies(alloc, &ran.tables, walked.clients.as_slice())?;
-    let text = middle(alloc, plan, walked, ran, open.as_slice())?;
+    let said = wanted(alloc, plan, walked, ran, open.as_slice())?;
     Ok(
         got_these(walked.items.as_slice(), ran.replies.as_slice())
             && go_on_with_these(walked.clients.as_slice(), open.as_slice())
-            && says(report, text.as_str()),
+            && says(report, &said),
     )
 }
 
