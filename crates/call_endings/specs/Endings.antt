@@ -1,10 +1,10 @@
 -- How a call of the program ends: the number of its status, what it took from the source and what it gave to the sink.
-use Rattle.std.specs.Prelude.{◌≡◌, ℕ, Bool, true, false, List, [], Option, Some, None, ◌⊎◌}
+use Rattle.std.specs.Prelude.{◌≡◌, ◌≤◌, ℕ, Bool, true, false, List, [], Option, Some, None, ◌⊎◌}
 use Rattle.std.specs.Io.KnownBytes.{Appends, Consumes}
 use Rattle.gho_edges.specs.Edges.{Rose}
 use Rattle.gho_edges.specs.Whole.{GivesPart}
 use Rattle.command_words.specs.declared.command.Command.{Command}
-use Rattle.command_words.specs.declared.command.Command.TheVariants.{Check, Replay, Run, Generate}
+use Rattle.command_words.specs.declared.command.Command.TheVariants.{Check, Replay, Run}
 use Rattle.call_endings.specs.declared.command.PlanCommand.{PlanCommand}
 use Rattle.call_endings.specs.declared.command.PlanCommand.TheVariants as plans
 use Rattle.call_endings.specs.declared.printed.Printed.{Printed}
@@ -52,7 +52,7 @@ pub record IsWorkload (number : ℕ) (source : Taking) (printed : Printed) : Typ
   pub text_is : printed.text ≡ workload number
   pub takes_none : Consumes source.before source.after []
 
--- faulty words, or those of a command that isn't built: nothing is taken, and the usage is printed
+-- faulty words: nothing is taken, and the usage is printed
 pub record IsUsage (source : Taking) (printed : Printed) : Type 0 where
   pub status_is : printed.status ≡ Usage
   pub text_is : printed.text ≡ usage_text
@@ -87,17 +87,18 @@ Gives (Some printed) sink status = GivesAll printed sink status ⊎ GivesFront p
 abbrev pub asked : PlanCommand → Command
 asked plans.Check = Check
 asked plans.Replay = Replay
+asked (plans.Run workers) = Run workers
 
--- the words are a command whose program is built: any but `run`
-abbrev pub is_built : Option Command → Bool
-is_built None = false
-is_built (Some (Run workers)) = false
-is_built (Some told) = true
+-- a run has 1 to 16 workers
+abbrev pub HasWorkers : Command → Type 0
+HasWorkers (Run workers) = (1 ≤ workers) × (workers ≤ 16)
+HasWorkers told = Unit {0}
 
 -- the words are a command that reads a plan
 abbrev pub reads_plan : Option Command → Bool
 reads_plan (Some Check) = true
 reads_plan (Some Replay) = true
+reads_plan (Some (Run workers)) = true
 reads_plan told = false
 
 -- the number is 1, 5 or 6

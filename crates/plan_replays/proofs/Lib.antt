@@ -1,2 +1,2 @@
 mod AtOpening
-mod WholeRuns
+pub mod WholeRuns

@@ -5,4 +5,5 @@
 mod opening;
 mod replaying;
 
-pub use replaying::{End, Left, replay_plan};
+pub use opening::open_plan;
+pub use replaying::{End, Left, end_with, replay_plan};

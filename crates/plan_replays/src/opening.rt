@@ -33,7 +33,7 @@ fn watched_in(alloc: Global, plan: &Plan) -> Result<Names, AllocError> {
 
 /// The final server at the plan's opening.
 #[tactic(auto, using(crate::proofs::AtOpening::orderly, crate::proofs::AtOpening::at_opening))]
-pub(crate) fn open_plan(alloc: Global, plan: &Plan) -> Result<FinalServer, AllocError>
+pub fn open_plan(alloc: Global, plan: &Plan) -> Result<FinalServer, AllocError>
     requires { WasRead plan.now }
     ensures { IfOk result (λ server. server ≡ opening plan.now) }
 {

@@ -19,7 +19,7 @@ use std::alloc::{AllocError, Global};
 use whole_run::Run;
 use whole_run::whole_replay::{Replayed, replay};
 
-/// How a replay ended.
+/// How a run ended.
 #[derive(Drop)]
 pub struct End<V: Serve> {
     /// The verdict.
@@ -48,8 +48,8 @@ fn verdict_after<V: Serve>(run: &Run<'_, V>, replayed: Replayed) -> Option<Verdi
     }
 }
 
-/// How a replay ended, where there is a verdict.
-fn end_with<V: Serve>(verdict: Option<Verdict>, server: V) -> Option<End<V>>
+/// How a run ended, where there is a verdict.
+pub fn end_with<V: Serve>(verdict: Option<Verdict>, server: V) -> Option<End<V>>
     ensures { IfSome result (λ end. (verdict ≡ Some end.verdict) × (V.state end.server ≡ V.state server)) }
 {
     match verdict {

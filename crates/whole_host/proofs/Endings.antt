@@ -1,7 +1,6 @@
 -- How a call ends, from what its words and its source come to and what was given of it.
-use Rattle.std.proofs.Common.{◌≡◌, ℕ, ◌==◌, ◌≤◌, true, false, List, [], ◌∷◌, length, Option, Some, None, Result, Ok, Err, ◌⊎◌, inl, inr, refl, sym, ap, ◌∙◌, subst, arith}
+use Rattle.std.proofs.Common.{◌≡◌, ℕ, true, List, Option, Some, None, Result, Ok, Err, inl, inr, refl, sym, ap, ◌∙◌, subst}
 use Rattle.std.specs.Io.KnownBytes.{Appends}
-use Rattle.std.proofs.lemmas.Bool.{true≢false, false≢true}
 use Rattle.plain_server.specs.declared.entry.Entry.{Entry}
 use Rattle.plain_server.specs.declared.outcome.Verdict.{Verdict}
 use Rattle.plain_server.specs.declared.outcome.Verdict.TheVariants as verdicts
@@ -20,15 +19,15 @@ use Rattle.call_endings.specs.declared.printed.Printed.{Printed}
 use Rattle.call_endings.specs.declared.status.Status.{Status}
 use Rattle.call_endings.specs.declared.status.Status.TheVariants as statuses
 use Rattle.call_endings.specs.declared.turn.Turn.{Turn}
-use Rattle.call_endings.specs.Endings.{Taking, Giving, IsReadFault, IsUsage, IsWorkload, Gives, asked, is_built, reads_plan, status_number, IsUsageOrLost}
+use Rattle.call_endings.specs.Endings.{Taking, Giving, IsReadFault, IsUsage, IsWorkload, Gives, asked, reads_plan}
 use Rattle.call_endings.specs.Checks.{IsSchema}
 use Rattle.call_endings.specs.Texts.{IsRefusal}
 use Rattle.whole_host.specs.Comings.{IsRead, TellsPlan, ComesTo, Does}
 use Rattle.whole_host.specs.Outcomes.{IsTaken, TakesNone, Comes, status_of}
-use Rattle.whole_host.specs.Promises.{Ends, EndsUnder, PrintsDone, PrintsReport, Replays}
-use Rattle.whole_host.proofs.Headline.{replays_of}
+use Rattle.whole_host.specs.Promises.{Ends, EndsUnder, PrintsDone, PrintsReport}
 use Rattle.whole_host.specs.Standing.{Laws}
-use Rattle.whole_host.proofs.Taken.{ends_as, is_taken, tells_alter}
+use Rattle.whole_host.proofs.Headline.{runs_of}
+use Rattle.whole_host.proofs.Taken.{KeepsAll, keeps_all, ends_as, is_taken, tells_alter}
 
 -- WHAT IS PRINTED WHOLE
 
@@ -45,8 +44,9 @@ module _ (words : List (List ℕ)) (source : Taking) (sink : Giving) (turns : Li
   reads_by : (told : PlanCommand) → command words ≡ Some (asked told) → reads_plan (command words) ≡ true
   reads_by plans.Check is = ap reads_plan is
   reads_by plans.Replay is = ap reads_plan is
+  reads_by (plans.Run workers) is = ap reads_plan is
 
-  usage_under : (printed : Printed) → is_built (command words) ≡ false → Gave printed → TakesNone (IsUsage source) (Some printed) turns journal → Under printed.status
+  usage_under : (printed : Printed) → command words ≡ None → Gave printed → TakesNone (IsUsage source) (Some printed) turns journal → Under printed.status
   usage_under printed faulty given comes =
       subst Under (sym comes.shows.status_is) (record { faulty = faulty; untaken = comes.untaken; takes_none = comes.shows.takes_none; given = text_given printed _ comes.shows.text_is given })
 
@@ -87,14 +87,22 @@ module _ (words : List (List ℕ)) (source : Taking) (sink : Giving) (turns : Li
         untaken = comes.untaken;
       })
 
-  module _ (laws : Laws) (printed : Printed) (was : IsRead plans.Replay source (Some printed) turns journal) (plan : PlanData) (is : command words ≡ Some Replay) (said : read was.bytes ≡ Ok plan) (given : Gave printed) (taken : IsTaken plan (Some printed) turns journal) where
-    report_given : (verdict : Verdict) → verdict_of plan journal ≡ verdict → PrintsReport verdict source sink turns journal
+  printed_done : (told : PlanCommand) → PrintsReport told verdicts.Done source sink turns journal → PrintsDone (Some (asked told)) source sink turns journal
+  printed_done plans.Check prints = absurd prints.runs.takes
+  printed_done plans.Replay prints = prints
+  printed_done (plans.Run workers) prints = prints
+
+  module _ (laws : Laws) (told : PlanCommand) (printed : Printed) (was : IsRead told source (Some printed) turns journal) (plan : PlanData) (is : command words ≡ Some (asked told)) (said : read was.bytes ≡ Ok plan) (given : Gave printed) (taken : IsTaken told plan (Some printed) turns journal) where
+    all : KeepsAll plan journal
+    all = keeps_all told plan turns journal taken.takes
+
+    report_given : (verdict : Verdict) → verdict_of plan journal ≡ verdict → PrintsReport told verdict source sink turns journal
     report_given verdict same =
-        let tells = tells_alter laws plan journal taken.was_read taken.replay.replay.faithful taken.replay.replay.follows in
+        let tells = tells_alter laws plan journal taken.was_read all.kept.faithful all.kept.follows in
         record {
-          replays = replays_of laws source (Some printed) turns journal was plan said taken;
+          runs = runs_of laws told source (Some printed) turns journal was plan said taken;
           taken = is_taken plan journal (laws.allow was.bytes plan said).turns taken.reports.over;
-          over = ends_as plan journal verdict tells taken.reports.over taken.replay.bound same;
+          over = ends_as plan journal verdict tells taken.reports.over all.bound same;
           verdict_is = same;
           tells = tells;
           given = text_given printed _ (taken.reports.text_is ∙ ap (λ (v : Verdict). report plan journal v (state_at plan journal).tables) same) given;
@@ -102,24 +110,27 @@ module _ (words : List (List ℕ)) (source : Taking) (sink : Giving) (turns : Li
 
     verdict_under : (verdict : Verdict) → verdict_of plan journal ≡ verdict → printed.status ≡ status_of verdict → Under printed.status
     unfolding report_given
-    verdict_under verdicts.Done same status = done_under (Some Replay) printed is status (report_given verdicts.Done same)
-    verdict_under verdicts.Unfinished same status = subst Under (sym status) (record { command_is = is; prints = report_given verdicts.Unfinished same })
+    verdict_under verdicts.Done same status = done_under (Some (asked told)) printed is status (printed_done told (report_given verdicts.Done same))
+    verdict_under verdicts.Unfinished same status = subst Under (sym status) (record { told = told; command_is = is; prints = report_given verdicts.Unfinished same })
     verdict_under (verdicts.Reverted cause) same status =
         subst Under (sym status) (record {
+          told = told;
           command_is = is;
           cause = cause;
           prints = report_given (verdicts.Reverted cause) same;
-          stands = taken.replay.causes cause same;
+          stands = all.causes cause same;
         })
 
     report_under : Under printed.status
     report_under = verdict_under (verdict_of plan journal) refl taken.reports.status_is
 
   said_under : Laws → (told : PlanCommand) (printed : Printed) (was : IsRead told source (Some printed) turns journal) (said : Result PlanData PlanRefusal) → command words ≡ Some (asked told) → read was.bytes ≡ said → Gave printed → Comes told said (Some printed) turns journal → Under printed.status
-  said_under laws plans.Replay printed was (Ok plan) is said given comes = report_under laws printed was plan is said given comes
   said_under laws plans.Check printed was (Ok plan) is said given comes = schema_under printed was plan is said given comes
-  said_under laws plans.Replay printed was (Err refusal) is said given comes = refusal_under plans.Replay printed was refusal is said given comes
+  said_under laws plans.Replay printed was (Ok plan) is said given comes = report_under laws plans.Replay printed was plan is said given comes
+  said_under laws (plans.Run workers) printed was (Ok plan) is said given comes = report_under laws (plans.Run workers) printed was plan is said given comes
   said_under laws plans.Check printed was (Err refusal) is said given comes = refusal_under plans.Check printed was refusal is said given comes
+  said_under laws plans.Replay printed was (Err refusal) is said given comes = refusal_under plans.Replay printed was refusal is said given comes
+  said_under laws (plans.Run workers) printed was (Err refusal) is said given comes = refusal_under (plans.Run workers) printed was refusal is said given comes
 
   plan_under : Laws → (told : PlanCommand) (printed : Printed) → command words ≡ Some (asked told) → Gave printed → TellsPlan told source (Some printed) turns journal → Under printed.status
   plan_under laws told printed is given (inl was) = said_under laws told printed was (read was.bytes) is refl given was.comes
@@ -127,8 +138,8 @@ module _ (words : List (List ℕ)) (source : Taking) (sink : Giving) (turns : Li
 
   whole_under : Laws → (told : Option Command) (printed : Printed) → command words ≡ told → Gave printed → ComesTo told source (Some printed) turns journal → Under printed.status
   unfolding ComesTo
-  whole_under laws None printed is given comes = usage_under printed (ap is_built is) given comes
-  whole_under laws (Some (Run workers)) printed is given comes = usage_under printed (ap is_built is) given comes
+  whole_under laws None printed is given comes = usage_under printed is given comes
+  whole_under laws (Some (Run workers)) printed is given comes = plan_under laws (plans.Run workers) printed is given comes
   whole_under laws (Some (Generate number)) printed is given comes = workload_under number printed is given comes
   whole_under laws (Some Check) printed is given comes = plan_under laws plans.Check printed is given comes
   whole_under laws (Some Replay) printed is given comes = plan_under laws plans.Replay printed is given comes

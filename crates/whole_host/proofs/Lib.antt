@@ -4,3 +4,5 @@ mod Headline
 mod Numbers
 mod Taken
 mod Untaken
+mod Words
+mod Worked

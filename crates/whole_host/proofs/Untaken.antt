@@ -35,7 +35,7 @@ unfolding ComesTo
 nothing_comes None source = nothing_shown (IsUsage source)
 nothing_comes (Some Check) source = nothing_told plans.Check source
 nothing_comes (Some Replay) source = nothing_told plans.Replay source
-nothing_comes (Some (Run workers)) source = nothing_shown (IsUsage source)
+nothing_comes (Some (Run workers)) source = nothing_told (plans.Run workers) source
 nothing_comes (Some (Generate number)) source = nothing_shown (IsWorkload number source)
 
 -- what comes under the commands that read a plan
@@ -46,6 +46,10 @@ check_comes source printed turns journal tells = tells
 pub replay_comes : (source : Taking) (printed : Option Printed) (turns : List Turn) (journal : List Entry) → TellsPlan plans.Replay source printed turns journal → ComesTo (Some Replay) source printed turns journal
 unfolding ComesTo
 replay_comes source printed turns journal tells = tells
+
+pub run_comes : (workers : ℕ) (source : Taking) (printed : Option Printed) (turns : List Turn) (journal : List Entry) → TellsPlan (plans.Run workers) source printed turns journal → ComesTo (Some (Run workers)) source printed turns journal
+unfolding ComesTo
+run_comes workers source printed turns journal tells = tells
 
 -- the source failed
 pub fault_told : (told : PlanCommand) (source : Taking) (printed : Option Printed) → IfSome printed (λ one. one ≡ record { status = statuses.ReadFault; text = read_fault_text }) → Rose source.faults_before source.faults_after → TellsPlan told source printed [] []
@@ -71,11 +75,6 @@ usage_shown left faults (Some printed) is = record { untaken = no_turn; shows = 
 pub faulty_comes : (left : Option (List ℕ)) (faults : ℕ) (printed : Option Printed) → IfSome printed (λ one. one ≡ record { status = statuses.Usage; text = usage_text }) → ComesTo None (Unmoved left faults) printed [] []
 unfolding ComesTo
 faulty_comes left faults printed is = usage_shown left faults printed is
-
--- and where they are the command that isn't built
-pub run_comes : (workers : ℕ) (left : Option (List ℕ)) (faults : ℕ) (printed : Option Printed) → IfSome printed (λ one. one ≡ record { status = statuses.Usage; text = usage_text }) → ComesTo (Some (Run workers)) (Unmoved left faults) printed [] []
-unfolding ComesTo
-run_comes workers left faults printed is = usage_shown left faults printed is
 
 -- the plan of a number
 pub workload_comes : (number : ℕ) (left : Option (List ℕ)) (faults : ℕ) (printed : Option Printed) → IfSome printed (λ one. one ≡ record { status = statuses.Done; text = workload number }) → ComesTo (Some (Generate number)) (Unmoved left faults) printed [] []

@@ -26,12 +26,12 @@ pub record IsRead (told : PlanCommand) (source : Taking) (printed : Option Print
 abbrev pub TellsPlan : PlanCommand → Taking → Option Printed → List Turn → List Entry → Type 0
 TellsPlan told source printed turns journal = IsRead told source printed turns journal ⊎ TakesNone (IsReadFault source) printed turns journal
 
--- *Comes to*: what the words and the source come to. (`run` isn't built yet.)
+-- *Comes to*: what the words and the source come to
 unfoldable pub ComesTo : Option Command → Taking → Option Printed → List Turn → List Entry → Type 0
 ComesTo None source = TakesNone (IsUsage source)
 ComesTo (Some Check) source = TellsPlan plans.Check source
 ComesTo (Some Replay) source = TellsPlan plans.Replay source
-ComesTo (Some (Run workers)) source = TakesNone (IsUsage source)
+ComesTo (Some (Run workers)) source = TellsPlan (plans.Run workers) source
 ComesTo (Some (Generate number)) source = TakesNone (IsWorkload number source)
 
 -- *Does*: what a call did. Its words and the source come to what is printed, with its turns and its journal; of this so much

@@ -20,33 +20,39 @@ use Rattle.report_print.specs.Reports.{report}
 use Rattle.command_words.specs.Commands.{command}
 use Rattle.command_words.specs.declared.command.Command.{Command}
 use Rattle.command_words.specs.declared.command.Command.TheVariants as commands
+use Rattle.call_endings.specs.declared.command.PlanCommand.{PlanCommand}
+use Rattle.call_endings.specs.declared.command.PlanCommand.TheVariants as plans
 use Rattle.call_endings.specs.declared.printed.Printed.{Printed}
 use Rattle.call_endings.specs.declared.status.Status.{Status}
 use Rattle.call_endings.specs.declared.status.Status.TheVariants.{Done, Usage, Refused, Reverted, ReadFault, WriteFault, NoMemory, TurnsSpent}
 use Rattle.call_endings.specs.declared.turn.Turn.{Turn}
 use Rattle.call_endings.specs.Checks.{IsSchemaText}
-use Rattle.call_endings.specs.Endings.{Taking, Giving, is_built, reads_plan, status_number}
+use Rattle.call_endings.specs.Endings.{Taking, Giving, asked, reads_plan, status_number}
 use Rattle.call_endings.specs.Texts.{refused_text, usage_text, read_fault_text}
 use Rattle.workload_gen.specs.Workloads.{workload}
 use Rattle.whole_host.specs.Comings.{ComesTo}
-use Rattle.whole_host.specs.Outcomes.{IsUntaken, turns_of}
-use Rattle.plan_replays.specs.Replays.{IsWholeReplay}
+use Rattle.whole_host.specs.Outcomes.{IsUntaken, Takes}
 
 -- *Completes*: where a plan has no client, no command and no loss, each row of its table has an image, no limit is met and the
 -- run has ended, the ALTER was done.
 abbrev pub Completes : PlanData → List Entry → Type 0
 Completes plan journal = IsQuiet plan → RowsHaveImages plan → IsWithinLimits plan journal → has_ended plan journal ≡ true → verdict_of plan journal ≡ verdicts.Done
 
--- *The headline*, of the journal that a call leaves: the source was read whole, its bytes are an accepted plan, and the
--- journal is that of the plan's whole replay.
-pub record Replays (source : Taking) (turns : List Turn) (journal : List Entry) : Type 0 where
+-- *The headline*, of the turns that a call leaves: the source was read whole, its bytes are an accepted plan, and the turns
+-- are those of the plan's whole replay, or of its whole run by so many workers, as the command says.
+pub record Runs (told : PlanCommand) (source : Taking) (turns : List Turn) (journal : List Entry) : Type 0 where
   pub bytes : List ℕ
   pub whole : ReadsWhole PLAN_LIMIT source.before source.after bytes
   pub plan : PlanData
   pub accepted : read bytes ≡ Ok plan
-  pub replay : IsWholeReplay plan journal
+  pub takes : Takes told plan turns journal
   pub completes : Completes plan journal
-  pub turns_are : turns ≡ turns_of journal
+
+-- the same of the command that the words are
+pub record RunsBy (words : List (List ℕ)) (source : Taking) (turns : List Turn) (journal : List Entry) : Type 0 where
+  pub told : PlanCommand
+  pub command_is : command words ≡ Some (asked told)
+  pub runs : Runs told source turns journal
 
 -- Where the verdict is done or reverted, the run has ended; where it is unfinished, the run hasn't, and took as many turns
 -- as the plan allows.
@@ -56,13 +62,13 @@ EndsBy plan journal verdict = has_ended plan journal ≡ true
 
 -- The report is given: turns were taken, the run is over as this verdict says, which is that of the journal and tells whether
 -- the ALTER was done; what is given is the report of it, of the verdict and of the tables at its end.
-pub record PrintsReport (verdict : Verdict) (source : Taking) (sink : Giving) (turns : List Turn) (journal : List Entry) : Type 0 where
-  pub replays : Replays source turns journal
+pub record PrintsReport (told : PlanCommand) (verdict : Verdict) (source : Taking) (sink : Giving) (turns : List Turn) (journal : List Entry) : Type 0 where
+  pub runs : Runs told source turns journal
   pub taken : (length journal == 0) ≡ false
-  pub over : EndsBy replays.plan journal verdict
-  pub verdict_is : verdict_of replays.plan journal ≡ verdict
-  pub tells : has_ended replays.plan journal ≡ true → TellsAlter replays.plan journal
-  pub given : Appends sink.before sink.after (report replays.plan journal verdict (state_at replays.plan journal).tables)
+  pub over : EndsBy runs.plan journal verdict
+  pub verdict_is : verdict_of runs.plan journal ≡ verdict
+  pub tells : has_ended runs.plan journal ≡ true → TellsAlter runs.plan journal
+  pub given : Appends sink.before sink.after (report runs.plan journal verdict (state_at runs.plan journal).tables)
 
 -- Status 0 of `check`: the text of the schema that the ALTER of an accepted plan leaves is given.
 pub record PrintsSchema (source : Taking) (sink : Giving) (turns : List Turn) (journal : List Entry) : Type 0 where
@@ -85,13 +91,13 @@ pub record PrintsWorkload (number : ℕ) (source : Taking) (sink : Giving) (turn
 abbrev pub PrintsDone : Option Command → Taking → Giving → List Turn → List Entry → Type 0
 PrintsDone None source sink turns journal = ⊥
 PrintsDone (Some commands.Check) source sink turns journal = PrintsSchema source sink turns journal
-PrintsDone (Some commands.Replay) source sink turns journal = PrintsReport verdicts.Done source sink turns journal
-PrintsDone (Some (commands.Run workers)) source sink turns journal = ⊥
+PrintsDone (Some commands.Replay) source sink turns journal = PrintsReport plans.Replay verdicts.Done source sink turns journal
+PrintsDone (Some (commands.Run workers)) source sink turns journal = PrintsReport (plans.Run workers) verdicts.Done source sink turns journal
 PrintsDone (Some (commands.Generate number)) source sink turns journal = PrintsWorkload number source sink turns journal
 
--- Status 1: the words are no command that is built; the usage is given, and nothing is taken.
+-- Status 1: the words are no command; the usage is given, and nothing is taken.
 pub record PrintsUsage (words : List (List ℕ)) (source : Taking) (sink : Giving) (turns : List Turn) (journal : List Entry) : Type 0 where
-  pub faulty : is_built (command words) ≡ false
+  pub faulty : command words ≡ None
   pub untaken : IsUntaken turns journal
   pub takes_none : Consumes source.before source.after []
   pub given : Appends sink.before sink.after usage_text
@@ -109,10 +115,11 @@ pub record PrintsRefusal (words : List (List ℕ)) (source : Taking) (sink : Giv
 -- Status 3: the report says why the migration was reverted, and that cause stands in the journal: a row that didn't fit, tries
 -- that failed, or panic.
 pub record PrintsRevert (words : List (List ℕ)) (source : Taking) (sink : Giving) (turns : List Turn) (journal : List Entry) : Type 0 where
-  pub command_is : command words ≡ Some commands.Replay
+  pub told : PlanCommand
+  pub command_is : command words ≡ Some (asked told)
   pub cause : Cause
-  pub prints : PrintsReport (verdicts.Reverted cause) source sink turns journal
-  pub stands : Stands prints.replays.plan journal cause
+  pub prints : PrintsReport told (verdicts.Reverted cause) source sink turns journal
+  pub stands : Stands prints.runs.plan journal cause
 
 -- Status 4: the source's fault count increased, and that is said.
 pub record PrintsReadFault (words : List (List ℕ)) (source : Taking) (sink : Giving) (turns : List Turn) (journal : List Entry) : Type 0 where
@@ -135,8 +142,9 @@ pub record PrintsNone (words : List (List ℕ)) (source : Taking) (sink : Giving
 
 -- Status 7: the report is given of a run that hasn't ended, and has as many turns as the plan allows.
 pub record PrintsUnfinished (words : List (List ℕ)) (source : Taking) (sink : Giving) (turns : List Turn) (journal : List Entry) : Type 0 where
-  pub command_is : command words ≡ Some commands.Replay
-  pub prints : PrintsReport verdicts.Unfinished source sink turns journal
+  pub told : PlanCommand
+  pub command_is : command words ≡ Some (asked told)
+  pub prints : PrintsReport told verdicts.Unfinished source sink turns journal
 
 -- what stands after a call that ended so
 abbrev pub EndsUnder : Status → List (List ℕ) → Taking → Giving → List Turn → List Entry → Type 0

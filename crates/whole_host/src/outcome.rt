@@ -1,23 +1,29 @@
 //! What comes of a plan's bytes.
 
-ghost use Rattle.std.specs.Prelude.{◌≡◌, [], IfSome, IfOk};
+ghost use Rattle.std.specs.Prelude.{◌≡◌, ◌≤◌, [], IfSome, IfOk};
 ghost use Rattle.plan_document.specs.Plans.{read};
 ghost use Rattle.accepted_laws.specs.Laws.{WasRead};
+ghost use Rattle.call_endings.specs.declared.command.PlanCommand.TheVariants as plans;
+ghost use Rattle.call_endings.specs.Endings.{asked, HasWorkers};
 ghost use Rattle.plan_replays.specs.Replays.{IsEnd};
 ghost use Rattle.whole_host.specs.Outcomes.{Comes, IsReport, IsTaken};
 
 use crate::status::status_of;
-use crate::turns::turns_in;
+use crate::turns::{turns_in, turns_of_workers};
 use accepted_laws::read_accepted_plan;
 use call_endings::{PlanCommand, Printed, Turns, plan_checked, refused};
+use gho_edges::Gate;
 use gho_values::Sequence;
 use plain_server::Journal;
 use plan_document::PlanFault;
 use plan_replays::{End, replay_plan};
 use plan_words::Plan;
+use plan_works::work_plan;
 use report_print::report;
 use serving::Serve;
 use std::alloc::{AllocError, Global};
+use std::sync::Wait;
+use std::thread::Threads;
 
 /// What the words and the source come to.
 #[derive(Drop)]
@@ -41,7 +47,7 @@ pub(crate) fn untaken(alloc: Global, printed: Option<Printed>) -> Outcome
     }
 }
 
-/// The report of a replay that ended.
+/// The report of a run that ended.
 fn reported<V: Serve>(
     alloc: Global,
     plan: &Plan,
@@ -65,7 +71,7 @@ fn reported<V: Serve>(
 /// What comes of the replay of a plan. Where there is no memory for the list of turns, or for the server, no turn is taken.
 fn plan_replayed(alloc: Global, plan: &Plan) -> Result<Outcome, AllocError>
     requires { WasRead plan.now }
-    ensures { IfOk result (λ outcome. IsTaken plan.now outcome.printed outcome.turns outcome.journal) }
+    ensures { IfOk result (λ outcome. IsTaken plans.Replay plan.now outcome.printed outcome.turns outcome.journal) }
 {
     // The room for the turns is made before the first, so that none that was taken is thrown away.
     let room = Vec::with_capacity(alloc, plan.options().turn_limit as usize)?;
@@ -77,17 +83,45 @@ fn plan_replayed(alloc: Global, plan: &Plan) -> Result<Outcome, AllocError>
     })
 }
 
+/// What comes of the run of a plan by so many workers. Where there is no memory for the list of turns, for the server or for the
+/// desk, no turn is taken.
+#[tactic(auto, using(crate::proofs::Worked::few_turns, crate::proofs::Worked::taken_by))]
+fn plan_worked<R: Threads + Wait + Sync, G: Gate + Sync>(
+    rt: &R,
+    alloc: Global,
+    plan: &Plan,
+    workers: u32,
+    gate: &G,
+) -> Result<Outcome, AllocError>
+    requires some { 1 ≤ workers }
+    requires few { workers ≤ 16 }
+    requires read { WasRead plan.now }
+    ensures { IfOk result (λ outcome. IsTaken (plans.Run workers) plan.now outcome.printed outcome.turns outcome.journal) }
+{
+    let room = Vec::with_capacity(alloc, plan.options().turn_limit as usize)?;
+    let left = work_plan(rt, alloc, plan, workers, gate)?;
+    Ok(Outcome {
+        printed: reported(alloc, plan, &left.journal, &left.end),
+        turns: turns_of_workers(room, left.turns.as_slice()),
+        journal: left.journal,
+    })
+}
+
 /// What comes of a plan's bytes under a command; `AllocError` where there was no memory before the first turn.
-pub(crate) fn outcome_of(
+pub(crate) fn outcome_of<R: Threads + Wait + Sync, G: Gate + Sync>(
+    rt: &R,
     alloc: Global,
     command: PlanCommand,
     bytes: &[u8],
+    gate: &G,
 ) -> Result<Outcome, AllocError>
+    requires { HasWorkers (asked command) }
     ensures { IfOk result (λ outcome. Comes command (read bytes.now) outcome.printed outcome.turns outcome.journal) }
 {
     match (read_accepted_plan(alloc, bytes), command) {
         (Ok(plan), PlanCommand::Check) => Ok(untaken(alloc, plan_checked(alloc, &plan))),
         (Ok(plan), PlanCommand::Replay) => plan_replayed(alloc, &plan),
+        (Ok(plan), PlanCommand::Run(workers)) => plan_worked(rt, alloc, &plan, workers, gate),
         (Err(PlanFault::Refused(refusal)), _) => Ok(untaken(alloc, refused(alloc, refusal))),
         (Err(PlanFault::Memory), _) => Err(AllocError),
     }

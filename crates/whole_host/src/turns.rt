@@ -1,12 +1,13 @@
-//! Whose turns a replay took.
+//! Whose turns a run took.
 
 ghost use Rattle.std.specs.Prelude.{◌≡◌, ◌≤◌, [], length};
 ghost use Rattle.std.specs.Vec.{vec_len, vec_capacity};
-ghost use Rattle.whole_host.specs.Outcomes.{turns_of};
+ghost use Rattle.whole_host.specs.Outcomes.{turns_of, worker_turns};
 
 use call_endings::{Turn, Turns};
 use gho_values::Sequence;
 use plain_server::Entry;
+use worker_run::WorkerTurn;
 
 /// Whose turns a replay's journal has, in the room that was made for them. It takes no memory.
 pub(crate) fn turns_in(room: Vec<Turn>, journal: &[Entry]) -> Turns
@@ -20,6 +21,23 @@ pub(crate) fn turns_in(room: Vec<Turn>, journal: &[Entry]) -> Turns
         turns.push_reserved(Turn {
             worker: 0,
             actor: entry.actor,
+        });
+    }
+    Sequence::from_vec(turns)
+}
+
+/// Whose turns a run by workers has, in the room that was made for them. It takes no memory.
+pub(crate) fn turns_of_workers(room: Vec<Turn>, taken: &[WorkerTurn]) -> Turns
+    requires empty { room.items ≡ [] }
+    requires none { vec_len room ≡ 0 }
+    requires capacity { length taken.now ≤ vec_capacity room }
+    ensures { worker_turns result ≡ taken.now }
+{
+    let mut turns = room;
+    for turn in taken {
+        turns.push_reserved(Turn {
+            worker: turn.worker(),
+            actor: turn.actor(),
         });
     }
     Sequence::from_vec(turns)

@@ -1,5 +1,5 @@
 use Rattle.std.proofs.Common.{Some}
-use Rattle.command_words.specs.declared.command.Command.TheVariants.{Check, Generate, Replay}
+use Rattle.command_words.specs.declared.command.Command.TheVariants.{Check, Generate, Replay, Run}
 use Rattle.call_endings.specs.declared.status.Status.TheVariants.{Usage, Refused, Reverted, ReadFault, WriteFault, NoMemory, TurnsSpent}
 use Rattle.whole_host.proofs.Faulty.{faulty_words}
 use Rattle.whole_host.proofs.Numbers.{under, under_done}
@@ -7,6 +7,9 @@ use Rattle.whole_host.proofs.top.ghost_.Goals as goal
 
 pub returns-clause-done : goal.returns-clause-done
 returns-clause-done g c = under_done (Some Replay) c.args.line.now _ _ c.ending.result.turns c.ending.result.journal c.ending.result.status c.ending.ensures.ends
+
+pub returns-clause-done_by_workers : goal.returns-clause-done_by_workers
+returns-clause-done_by_workers g c = λ workers. under_done (Some (Run workers)) c.args.line.now _ _ c.ending.result.turns c.ending.result.journal c.ending.result.status c.ending.ensures.ends
 
 pub returns-clause-checked : goal.returns-clause-checked
 returns-clause-checked g c = under_done (Some Check) c.args.line.now _ _ c.ending.result.turns c.ending.result.journal c.ending.result.status c.ending.ensures.ends
@@ -41,5 +44,5 @@ returns-clause-turns_spent g c = under TurnsSpent c.args.line.now _ _ c.ending.r
 pub returns-clause-ends : goal.returns-clause-ends
 returns-clause-ends g c = c.ending.ensures.ends
 
-pub returns-clause-replay : goal.returns-clause-replay
-returns-clause-replay g c = c.ending.ensures.replay
+pub returns-clause-runs : goal.returns-clause-runs
+returns-clause-runs g c = c.ending.ensures.runs
