@@ -1,0 +1,49 @@
+//! A gate at which two workers meet.
+
+use gho_edges::Gate;
+use std::sync::atomic::{AtomicU64, Ordering};
+use std::thread;
+
+/// How many turns of each worker the gate holds.
+const TURNS: u64 = 8;
+
+/// How often a worker looks for the other, at most.
+const LOOKS: u32 = 100_000_000;
+
+/// Keeps each of the workers 0 and 1 before its `nth` turn until the other has reached its `nth` too, for `nth` from 1 to 8.
+/// Only threads can meet: where one worker goes first, it looks for the other in vain, and then goes on.
+pub struct Meeting {
+    reached: [AtomicU64; 2],
+}
+
+impl Meeting {
+    /// Nobody has reached a turn.
+    pub fn new() -> Meeting {
+        Meeting {
+            reached: [AtomicU64::new(0), AtomicU64::new(0)],
+        }
+    }
+}
+
+impl Gate for Meeting {
+    fn before(&self, worker: u32, nth: u64) {
+        let [first, second] = &self.reached;
+        let (own, other) = if worker == 0 {
+            (first, second)
+        } else {
+            (second, first)
+        };
+        own.store(nth, Ordering::SeqCst);
+        if nth > TURNS {
+            return;
+        }
+        for _ in 0..LOOKS {
+            if other.load(Ordering::SeqCst) >= nth {
+                return;
+            }
+            thread::yield_now();
+        }
+    }
+
+    fn after(&self, _worker: u32, _nth: u64) {}
+}
