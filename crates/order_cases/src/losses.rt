@@ -47,7 +47,7 @@ fn run_loss<R: Print + Threads + Wait + Sync + AllocGlobal>(
 ) -> io::Result<()> {
     let faults = format!(in rt.alloc(); "faults = [\"{loss}\"]")?;
     count.losses = count.losses.saturating_add(1);
-    if run(rt, faults.as_str(), plan)?.is_as_alone {
+    if run(rt, &["replay"], faults.as_str(), plan)?.is_as_alone {
         count.as_alone = count.as_alone.saturating_add(1);
         Ok(())
     } else {
@@ -110,7 +110,7 @@ pub fn run_losses<R: Print + Threads + Wait + Sync + AllocGlobal>(
         losses: 0,
         as_alone: 0,
     };
-    let whole = run(rt, "# No session is lost.", plan)?;
+    let whole = run(rt, &["replay"], "# No session is lost.", plan)?;
     run_turn_losses(rt, plan, whole.turns.as_slice(), &mut count)?;
     for place in 0..whole.turns.len() {
         run_losses_before(rt, plan, place.saturating_add(1), &mut count)?;

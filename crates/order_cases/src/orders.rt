@@ -71,7 +71,8 @@ pub fn run_orders<R: Print + Threads + Wait + Sync + AllocGlobal>(
     let mut earlier: Vec<Turns> = Vec::new(rt.alloc());
     let mut count = 0u64;
     for number in 1..=orders {
-        let ran = run(rt, order_line(rt.alloc(), number)?.as_str(), plan)?;
+        let line = order_line(rt.alloc(), number)?;
+        let ran = run(rt, &["replay"], line.as_str(), plan)?;
         let is_new = !earlier.iter().any(|turns| are_the_same(
             turns.as_slice(),
             ran.turns.as_slice(),
