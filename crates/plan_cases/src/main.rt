@@ -1,76 +1,39 @@
-//! Runs the top call over the cases of the folder `data`, and says of which the status or the text is another than the one
-//! that stands in it, or than the plain model's. The file `files` names the files of cases.
+//! Runs the top call over the folders of `data`, and says what isn't as it must be. The file `files` of a folder names the
+//! files that are run.
+//!
+//! `cases` has plans with the status and the text that a call must end with; where turns were taken, the replies and the tables
+//! must also be those that one transaction at a time gives, in the order in which they ended.
+//!
+//! `orders` has plans with three clients each and no order of their own, which are run in 200 different orders of turns; and
+//! `losses` plans that are run once for each turn and each side of it, with that turn's session lost, and once for each turn and
+//! each actor, with the actor's session lost before that turn. Each run must be as one transaction at a time. The plans of
+//! `workers` are run by one worker thread, two, four and sixteen, and then replayed in the order that the report prints: the two
+//! reports are the same.
+//!
+//! `altered_reports` and `other_plans` show that the comparison with one at a time can say no: a report that was altered by
+//! hand isn't that of the run, and the run of a plan isn't one of another plan. `edges` has plans that are also run between
+//! sources which fail at each byte of the plan and sinks which fail behind each byte of the report.
 #![tactic(auto)]
 
-mod cases;
-mod model;
-mod run;
+mod case_files;
+mod folder;
+mod losses;
+mod orders;
+mod workers;
 
-use crate::cases::Case;
-use crate::run::is_as_expected;
-use std::alloc::AllocError;
-use std::rt::Files;
-use std::sync::Wait;
-use std::thread::Threads;
-use std::{fs, io};
-
-/// How many cases a file has, and how many of them are as expected.
-#[derive(Clone, Copy)]
-struct Count {
-    cases: u64,
-    expected: u64,
-}
-
-/// Runs a case, and says so where it isn't as expected.
-fn run_case<R: Print + Threads + Wait + Sync + AllocGlobal>(
-    rt: &R,
-    count: &mut Count,
-    case: &Case<'_>,
-) -> io::Result<()> {
-    count.cases = count.cases.saturating_add(1);
-    if is_as_expected(rt, case)? {
-        count.expected = count.expected.saturating_add(1);
-        Ok(())
-    } else {
-        println!(rt; "{} is not as expected", case.name)
-    }
-}
-
-/// Runs the cases of a text, and counts them.
-fn run_cases<R: Print + Threads + Wait + Sync + AllocGlobal>(
-    rt: &R,
-    text: &str,
-) -> io::Result<Count> {
-    let mut count = Count {
-        cases: 0,
-        expected: 0,
-    };
-    let mut case: Option<Case<'_>> = None;
-    for line in text.lines() {
-        if let Some(head) = line.strip_prefix("#### case ") {
-            if let Some(case) = case {
-                run_case(rt, &mut count, &case)?;
-            }
-            case = Some(Case::new(rt.alloc(), head));
-        } else if let Some(case) = &mut case {
-            case.add(line)?;
-        }
-    }
-    if let Some(case) = case {
-        run_case(rt, &mut count, &case)?;
-    }
-    Ok(count)
-}
+use crate::case_files::run_case_files;
+use crate::losses::run_loss_files;
+use crate::orders::run_order_files;
+use crate::workers::run_worker_files;
+use case_runs::Asked;
+use std::io;
 
 fn main(rt: HostRuntime) -> io::Result<()> {
-    let names = fs::read_to_string(&rt, "files")?;
-    for name in names.lines() {
-        let text = fs::read_to_string(&rt, name)?;
-        let count = run_cases(&rt, text.as_str())?;
-        println!(&rt;
-            "{name}: {} of {} cases are as expected",
-            count.expected, count.cases
-        )?;
-    }
-    Ok(())
+    run_case_files(&rt, "cases", Asked::Prints)?;
+    run_order_files(&rt)?;
+    run_loss_files(&rt)?;
+    run_worker_files(&rt)?;
+    run_case_files(&rt, "altered_reports", Asked::TellsReport)?;
+    run_case_files(&rt, "other_plans", Asked::TellsPlan)?;
+    run_case_files(&rt, "edges", Asked::EndsAtEdges)
 }

@@ -1,23 +1,22 @@
 //! Single losses of sessions.
 
-use crate::run::run;
+use crate::folder::{names_in, text_in};
+use case_runs::{Turn, turns_as_alone};
 use script_text::Actor;
 use std::alloc::{AllocError, Global};
 use std::io;
+use std::rt::Files;
 use std::sync::Wait;
 use std::thread::Threads;
-use whole_host::Turn;
 
 /// The actors of the plan.
 const ACTORS: [&str; 6] = ["insp", "copy", "apply", "lock", "ren", "c1"];
 
 /// How many losses a plan was run with, and how many of the runs are as one at a time.
 #[derive(Clone, Copy)]
-pub struct Count {
-    /// The losses.
-    pub losses: u64,
-    /// Those of which the run is.
-    pub as_alone: u64,
+struct Count {
+    losses: u64,
+    as_alone: u64,
 }
 
 /// The word of an actor of the plan.
@@ -47,7 +46,7 @@ fn run_loss<R: Print + Threads + Wait + Sync + AllocGlobal>(
 ) -> io::Result<()> {
     let faults = format!(in rt.alloc(); "faults = [\"{loss}\"]")?;
     count.losses = count.losses.saturating_add(1);
-    if run(rt, &["replay"], faults.as_str(), plan)?.is_as_alone {
+    if turns_as_alone(rt, faults.as_str(), plan)?.is_some() {
         count.as_alone = count.as_alone.saturating_add(1);
         Ok(())
     } else {
@@ -101,19 +100,46 @@ fn run_losses_before<R: Print + Threads + Wait + Sync + AllocGlobal>(
     Ok(())
 }
 
-/// Runs a plan with each single loss that its run could meet.
-pub fn run_losses<R: Print + Threads + Wait + Sync + AllocGlobal>(
+/// Runs a plan with each single loss that a run of these turns could meet.
+fn run_losses<R: Print + Threads + Wait + Sync + AllocGlobal>(
     rt: &R,
     plan: &str,
+    turns: &[Turn],
 ) -> io::Result<Count> {
     let mut count = Count {
         losses: 0,
         as_alone: 0,
     };
-    let whole = run(rt, &["replay"], "# No session is lost.", plan)?;
-    run_turn_losses(rt, plan, whole.turns.as_slice(), &mut count)?;
-    for place in 0..whole.turns.len() {
+    run_turn_losses(rt, plan, turns, &mut count)?;
+    for place in 0..turns.len() {
         run_losses_before(rt, plan, place.saturating_add(1), &mut count)?;
     }
     Ok(count)
+}
+
+/// Runs a plan, and then with each single loss that its run could meet, and says of how many the run is as one at a time.
+fn run_plan<R: Print + Threads + Wait + Sync + AllocGlobal>(
+    rt: &R,
+    name: &str,
+    plan: &str,
+) -> io::Result<()> {
+    let Some(turns) = turns_as_alone(rt, "# No session is lost.", plan)? else {
+        return println!(rt; "{name} itself is not");
+    };
+    let count = run_losses(rt, plan, turns.as_slice())?;
+    println!(rt;
+        "{name}: {} of {} losses are as one at a time",
+        count.as_alone, count.losses
+    )
+}
+
+/// Runs each plan of the folder `losses` with its losses.
+pub fn run_loss_files<R: Print + Threads + Wait + Sync + AllocGlobal + Files>(
+    rt: &R,
+) -> io::Result<()> {
+    let names = names_in(rt, "losses")?;
+    for name in names.lines() {
+        run_plan(rt, name, text_in(rt, "losses", name)?.as_str())?;
+    }
+    Ok(())
 }

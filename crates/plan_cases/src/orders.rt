@@ -2,12 +2,16 @@
 
 ghost use Rattle.std.specs.Prelude.{◌<◌};
 
-use crate::run::run;
+use crate::folder::{names_in, text_in};
+use case_runs::{Turn, Turns, turns_as_alone};
 use std::alloc::{AllocError, Global};
 use std::io;
+use std::rt::Files;
 use std::sync::Wait;
 use std::thread::Threads;
-use whole_host::{Turn, Turns};
+
+/// How many orders each plan is run in.
+const ORDERS: u64 = 200;
 
 /// The actors that are drawn.
 const ACTORS: [&str; 8] = ["insp", "copy", "apply", "lock", "ren", "c1", "c2", "c3"];
@@ -61,28 +65,38 @@ fn are_the_same(turns: &[Turn], others: &[Turn]) -> bool {
             .all(|(turn, other)| turn.actor == other.actor)
 }
 
-/// Runs a plan in so many orders, and counts those that are as one at a time, each unlike all before it.
-pub fn run_orders<R: Print + Threads + Wait + Sync + AllocGlobal>(
+/// Whether these turns are unlike all of the earlier ones.
+fn is_new(earlier: &[Turns], turns: &[Turn]) -> bool {
+    !earlier
+        .iter()
+        .any(|others| are_the_same(others.as_slice(), turns))
+}
+
+/// Runs a plan in the orders, and counts those that are as one at a time, each unlike all before it.
+fn run_orders<R: Print + Threads + Wait + Sync + AllocGlobal>(
     rt: &R,
     name: &str,
     plan: &str,
-    orders: u64,
 ) -> io::Result<u64> {
     let mut earlier: Vec<Turns> = Vec::new(rt.alloc());
-    let mut count = 0u64;
-    for number in 1..=orders {
-        let line = order_line(rt.alloc(), number)?;
-        let ran = run(rt, &["replay"], line.as_str(), plan)?;
-        let is_new = !earlier.iter().any(|turns| are_the_same(
-            turns.as_slice(),
-            ran.turns.as_slice(),
-        ));
-        if is_new && ran.is_as_alone {
-            count = count.saturating_add(1);
-        } else {
-            println!(rt; "{name}: order {number} is not")?;
+    for number in 1..=ORDERS {
+        match turns_as_alone(rt, order_line(rt.alloc(), number)?.as_str(), plan)? {
+            Some(turns) if is_new(earlier.as_slice(), turns.as_slice()) => earlier.push(turns)?,
+            _ => println!(rt; "{name}: order {number} is not")?,
         }
-        earlier.push(ran.turns)?;
     }
-    Ok(count)
+    Ok(earlier.len() as u64)
+}
+
+/// Runs each plan of the folder `orders` in the orders.
+pub fn run_order_files<R: Print + Threads + Wait + Sync + AllocGlobal + Files>(
+    rt: &R,
+) -> io::Result<()> {
+    let names = names_in(rt, "orders")?;
+    for name in names.lines() {
+        let plan = text_in(rt, "orders", name)?;
+        let count = run_orders(rt, name, plan.as_str())?;
+        println!(rt; "{name}: {count} of {ORDERS} orders are as one at a time")?;
+    }
+    Ok(())
 }

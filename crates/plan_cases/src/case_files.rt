@@ -1,0 +1,76 @@
+//! Files of cases.
+
+use crate::folder::{names_in, text_in};
+use case_runs::{Asked, Case, is_as_expected};
+use std::io;
+use std::rt::Files;
+use std::sync::Wait;
+use std::thread::Threads;
+
+/// How many cases a file has, and how many of them are as expected.
+#[derive(Clone, Copy)]
+struct Count {
+    cases: u64,
+    expected: u64,
+}
+
+/// Runs a case, and says so where it isn't as expected.
+fn run_case<R: Print + Threads + Wait + Sync + AllocGlobal>(
+    rt: &R,
+    asked: Asked,
+    count: &mut Count,
+    case: &Case<'_>,
+) -> io::Result<()> {
+    count.cases = count.cases.saturating_add(1);
+    if is_as_expected(rt, asked, case)? {
+        count.expected = count.expected.saturating_add(1);
+        Ok(())
+    } else {
+        println!(rt; "{} is not as expected", case.name)
+    }
+}
+
+/// Runs the cases of a text, and counts them.
+fn run_cases<R: Print + Threads + Wait + Sync + AllocGlobal>(
+    rt: &R,
+    asked: Asked,
+    text: &str,
+) -> io::Result<Count> {
+    let mut count = Count {
+        cases: 0,
+        expected: 0,
+    };
+    let mut case: Option<Case<'_>> = None;
+    for line in text.lines() {
+        if let Some(head) = line.strip_prefix("#### case ") {
+            if let Some(case) = case {
+                run_case(rt, asked, &mut count, &case)?;
+            }
+            case = Some(Case::new(rt.alloc(), head));
+        } else if let Some(case) = &mut case {
+            case.add(line)?;
+        }
+    }
+    if let Some(case) = case {
+        run_case(rt, asked, &mut count, &case)?;
+    }
+    Ok(count)
+}
+
+/// Runs the files of cases of this folder.
+pub fn run_case_files<R: Print + Threads + Wait + Sync + AllocGlobal + Files>(
+    rt: &R,
+    folder: &str,
+    asked: Asked,
+) -> io::Result<()> {
+    let names = names_in(rt, folder)?;
+    for name in names.lines() {
+        let text = text_in(rt, folder, name)?;
+        let count = run_cases(rt, asked, text.as_str())?;
+        println!(rt;
+            "{name}: {} of {} cases are as expected",
+            count.expected, count.cases
+        )?;
+    }
+    Ok(())
+}
