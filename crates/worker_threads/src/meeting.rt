@@ -12,6 +12,7 @@ const LOOKS: u32 = 100_000_000;
 
 /// Keeps each of the workers 0 and 1 before its `nth` turn until the other has reached its `nth` too, for `nth` from 1 to 8.
 /// Only threads can meet: where one worker goes first, it looks for the other in vain, and then goes on.
+#[derive(Drop)]
 pub struct Meeting {
     reached: [AtomicU64; 2],
 }
