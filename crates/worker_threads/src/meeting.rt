@@ -4,13 +4,15 @@ use gho_edges::Gate;
 use std::sync::atomic::{AtomicU64, Ordering};
 use std::thread;
 
-/// How many turns of each worker the gate holds.
-const TURNS: u64 = 8;
+/// How many turns of each worker the gate holds: one more than the pairs that it makes, since a worker that has had its turn of
+/// a pair must not take the other one's.
+const TURNS: u64 = 9;
 
 /// How often a worker looks for the other, at most.
 const LOOKS: u32 = 100_000_000;
 
-/// Keeps each of the workers 0 and 1 before its `nth` turn until the other has reached its `nth` too, for `nth` from 1 to 8.
+/// Keeps each of the workers 0 and 1 before its `nth` turn until the other has reached its `nth` too, for `nth` from 1 to 9:
+/// so the first eight turns of both go in pairs, one turn of each worker.
 /// Only threads can meet: where one worker goes first, it looks for the other in vain, and then goes on.
 #[derive(Drop)]
 pub struct Meeting {
