@@ -6,17 +6,17 @@ use Rattle.plan_words.specs.PlanData.{PlanData}
 use Rattle.journal_words.specs.Journals.{state_at}
 use Rattle.migration_program.specs.Orders.{WorkerTurn, RunOrder}
 use Rattle.whole_run.specs.Runs.{RunView, is_over, Stops}
-use Rattle.worker_run.specs.WorkedRuns.{turns_of, journal_of, IsWorkersRun, WasOver, WorkedView}
+use Rattle.worker_run.specs.WorkedRuns.{taken_turns, journal_of, IsWorkersRun, WasOver, WorkedView}
 use Rattle.worker_run.proofs.Listing.{run_ordered, stopped, was_over}
 
 -- what a closed desk's run leaves is in run order
 pub ran_ordered : (done : WorkedView) (plan : PlanData) (workers : ℕ) (journal : List Entry) (turns : List WorkerTurn) → IsWorkersRun done.plan done.workers done.list → done.plan ≡ plan → done.workers ≡ workers → All (λ taken. taken.worker < workers) done.list
-    → journal ≡ journal_of done.list → turns ≡ turns_of done.list → RunOrder plan journal turns workers
+    → journal ≡ journal_of done.list → turns ≡ taken_turns done.list → RunOrder plan journal turns workers
 ran_ordered done plan workers journal turns is plan_is workers_are below journal_is turns_are =
     subst (λ (p : PlanData). RunOrder p journal turns workers) plan_is
     (subst (λ (all : List Entry). RunOrder done.plan all turns workers) (sym journal_is)
     (subst (λ (all : List WorkerTurn). RunOrder done.plan (journal_of done.list) all workers) (sym turns_are)
-    (subst (λ (n : ℕ). All (λ taken. taken.worker < n) done.list → RunOrder done.plan (journal_of done.list) (turns_of done.list) n) workers_are (run_ordered done.plan done.workers done.list is.rule) below)))
+    (subst (λ (n : ℕ). All (λ taken. taken.worker < n) done.list → RunOrder done.plan (journal_of done.list) (taken_turns done.list) n) workers_are (run_ordered done.plan done.workers done.list is.rule) below)))
 
 -- where its book was over, the run is over
 pub ran_over : (done : WorkedView) (plan : PlanData) (journal : List Entry) → IsWorkersRun done.plan done.workers done.list → done.plan ≡ plan → journal ≡ journal_of done.list → WasOver done.plan (journal_of done.list) → is_over plan journal ≡ true

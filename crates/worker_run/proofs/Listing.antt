@@ -10,7 +10,7 @@ use Rattle.plan_words.specs.PlanData.{PlanData}
 use Rattle.migration_program.specs.Orders.{WorkerTurn, Paired, IsWorkersTurn, RunOrder}
 use Rattle.turn_desk.specs.declared.book.Entry.{Entry as Taken}
 use Rattle.whole_run.specs.Runs.{is_over, Stops}
-use Rattle.worker_run.specs.WorkedRuns.{turn_of, turns_of, journal_of, paired_of, taken_of, listed, IsByRule, WasOver}
+use Rattle.worker_run.specs.WorkedRuns.{turn_of, taken_turns, journal_of, paired_of, taken_of, listed, IsByRule, WasOver}
 
 -- LISTS
 
@@ -32,7 +32,7 @@ zip_more (first ∷ xs) (other ∷ ys) x y same = let rest : length xs ≡ lengt
 pub journal_more : (list : List (Taken Entry)) (taken : Taken Entry) → journal_of (list ++ taken ∷ []) ≡ journal_of list ++ taken.event ∷ []
 journal_more list taken = map-append (λ (one : Taken Entry). one.event) list (taken ∷ [])
 
-pub turns_more : (list : List (Taken Entry)) (taken : Taken Entry) → turns_of (list ++ taken ∷ []) ≡ turns_of list ++ turn_of taken ∷ []
+pub turns_more : (list : List (Taken Entry)) (taken : Taken Entry) → taken_turns (list ++ taken ∷ []) ≡ taken_turns list ++ turn_of taken ∷ []
 turns_more list taken = map-append turn_of list (taken ∷ [])
 
 pub paired_more : (list : List (Taken Entry)) (taken : Taken Entry) → paired_of (list ++ taken ∷ []) ≡ paired_of list ++ (turn_of taken, taken.event) ∷ []
@@ -43,7 +43,7 @@ pub paired_entries : (list : List (Taken Entry)) → map (λ (pair : Paired). pa
 paired_entries list = maps_maps (λ (one : Taken Entry). (turn_of one, one.event)) (λ (pair : Paired). pair.1) list
 
 -- turns beside a journal are as many as its entries
-pub listed_length : (turns : List WorkerTurn) (journal : List Entry) → journal_of (listed turns journal) ≡ journal → turns_of (listed turns journal) ≡ turns → length turns ≡ length journal
+pub listed_length : (turns : List WorkerTurn) (journal : List Entry) → journal_of (listed turns journal) ≡ journal → taken_turns (listed turns journal) ≡ turns → length turns ≡ length journal
 listed_length turns journal entries takers =
     sym (ap length takers) ∙ length-map (listed turns journal) turn_of ∙ sym (length-map (listed turns journal) (λ (one : Taken Entry). one.event)) ∙ ap length entries
 
@@ -98,7 +98,7 @@ along_pairs plan count before (taken ∷ list) kept below = (
 )
 
 -- a list by the rule, whose workers' numbers are below their count, is in run order
-pub run_ordered : (plan : PlanData) (count : ℕ) (list : List (Taken Entry)) → Along (IsByRule plan count) [] list → All (λ taken. taken.worker < count) list → RunOrder plan (journal_of list) (turns_of list) count
+pub run_ordered : (plan : PlanData) (count : ℕ) (list : List (Taken Entry)) → Along (IsByRule plan count) [] list → All (λ taken. taken.worker < count) list → RunOrder plan (journal_of list) (taken_turns list) count
 run_ordered plan count list kept below = record {
   actors = maps_maps turn_of (λ (turn : WorkerTurn). turn.actor) list ∙ sym (maps_maps (λ (one : Taken Entry). one.event) (λ (entry : Entry). entry.actor) list);
   each = subst (Along (IsWorkersTurn plan count) []) (sym (zip_maps turn_of (λ (one : Taken Entry). one.event) list)) (along_pairs plan count [] list kept below);

@@ -36,7 +36,7 @@ use Rattle.whole_run.specs.Runs.{Steps}
 use Rattle.worker_run.specs.declared.seats.Member.{Member}
 use Rattle.worker_run.specs.declared.seats.Seat.{Seat}
 use Rattle.worker_run.specs.Workers.{IsGoing, GoesOnFrom, places_after}
-use Rattle.worker_run.specs.WorkedRuns.{turn_of, turns_of, journal_of, paired_of, listed, IsByRule, IsWorkersRun, WasOver, WorkedView, TakesOne, IsWorked}
+use Rattle.worker_run.specs.WorkedRuns.{turn_of, taken_turns, journal_of, paired_of, listed, IsByRule, IsWorkersRun, WasOver, WorkedView, TakesOne, IsWorked}
 use Rattle.worker_run.proofs.Listing.{journal_more, turns_more, paired_more, paired_entries, listed_length, listed_more, was_over, over_now}
 use Rattle.worker_run.proofs.Picking.{someone_picked, due_ready}
 use Rattle.worker_run.proofs.Rotating.{last_more, begins_at, length-places_after, rotated}
@@ -114,7 +114,7 @@ module _ (before : RunView) (workers worker : ℕ) (noted : List WorkerTurn) (us
     more_journal : journal_of more ≡ grown
     more_journal = journal_more list next ∙ ap (λ (journal : List Entry). journal ++ entry ∷ []) is.journal
 
-    more_turns : turns_of more ≡ noted ++ note ∷ []
+    more_turns : taken_turns more ≡ noted ++ note ∷ []
     more_turns = turns_more list next ∙ ap (λ (turns : List WorkerTurn). turns ++ note ∷ []) is.turns
 
     -- what is kept
@@ -176,7 +176,7 @@ module _ (before : RunView) (workers worker : ℕ) (noted : List WorkerTurn) (us
     grown_worked = record {
       going = is.going;
       journal = ap journal_of list_more ∙ more_journal;
-      turns = ap turns_of list_more ∙ more_turns;
+      turns = ap taken_turns list_more ∙ more_turns;
       worked = subst (IsWorkersRun before.plan workers) (sym list_more) worked_now;
       server = λ fed. server_more;
       short = λ short. absurd (true≢false (sym short));

@@ -23,12 +23,13 @@ use Rattle.worker_run.specs.Workers.{IsGoing, GoesOnFrom}
 
 -- THE LIST OF TURNS
 
--- the turns of a list, with their workers
+-- a turn, with its worker
 abbrev pub turn_of : Taken Entry → WorkerTurn
 turn_of taken = record { worker = taken.worker; actor = taken.event.actor }
 
-abbrev pub turns_of : List (Taken Entry) → List WorkerTurn
-turns_of list = map turn_of list
+-- the turns of a list
+abbrev pub taken_turns : List (Taken Entry) → List WorkerTurn
+taken_turns list = map turn_of list
 
 -- the journal of a list
 abbrev pub journal_of : List (Taken Entry) → List Entry
@@ -38,6 +39,7 @@ journal_of list = map (λ taken. taken.event) list
 abbrev pub paired_of : List (Taken Entry) → List Paired
 paired_of list = map (λ taken. (turn_of taken, taken.event)) list
 
+-- a turn beside its entry, as the list has it
 abbrev pub taken_of : Paired → Taken Entry
 taken_of pair = record { worker = pair.0.worker; event = pair.1 }
 
@@ -105,7 +107,7 @@ Works before worker NoMemory after = after ≡ record before { is_short = true }
 pub record IsWorked (run : RunView) (workers : ℕ) (noted : List WorkerTurn) (used spare : ℕ) (places : List ℕ) (is_short : Bool) : Type 0 where
   pub going : IsGoing run.plan
   pub journal : journal_of (listed noted run.journal) ≡ run.journal
-  pub turns : turns_of (listed noted run.journal) ≡ noted
+  pub turns : taken_turns (listed noted run.journal) ≡ noted
   pub worked : IsWorkersRun run.plan workers (listed noted run.journal)
   pub server : is_short ≡ false → run.server ≡ state_at run.plan run.journal
   pub short : is_short ≡ true → is_over run.plan run.journal ≡ false

@@ -4,7 +4,7 @@ ghost use Rattle.std.specs.Prelude.{◌≡◌, ◌≢◌, ◌≤◌, ◌↔◌, 
 ghost use Rattle.journal_words.specs.Journals.{opening, state_at};
 ghost use Rattle.turn_desk.specs.declared.book.Turned.TheVariants as turned;
 ghost use Rattle.worker_run.specs.Workers.{IsGoing};
-ghost use Rattle.worker_run.specs.WorkedRuns.{journal_of, listed, turns_of, WasOver, Works, IsWorkersRun};
+ghost use Rattle.worker_run.specs.WorkedRuns.{journal_of, listed, taken_turns, WasOver, Works, IsWorkersRun};
 ghost use Rattle.whole_run.specs.Runs.{is_over};
 
 use crate::choosing::pick;
@@ -124,7 +124,7 @@ impl<'a, V: Serve> Worked<'a, V> {
     pub fn stop(self) -> (Run<'a, V>, Turns)
         ensures plan { result.0.plan ≡ self.entry.plan }
         ensures journal { result.0.journal ≡ journal_of self.entry.list }
-        ensures turns { result.1.items ≡ turns_of self.entry.list }
+        ensures turns { result.1.items ≡ taken_turns self.entry.list }
         ensures worked { IsWorkersRun self.entry.plan self.entry.workers self.entry.list }
         ensures list { listed result.1.items result.0.journal ≡ self.entry.list }
         ensures server { is_over result.0.plan result.0.journal ≡ true → result.0.server ≡ state_at result.0.plan result.0.journal }
