@@ -17,6 +17,7 @@ use Rattle.migration_laws.specs.PlanningLaws.Laws.{migration_of}
 use Rattle.run_laws.specs.Kept.{IsKept}
 use Rattle.revert_laws.specs.RenameLaws.Laws.{IsRename}
 use Rattle.accepted_laws.specs.Laws.{WasRead}
+use Rattle.accepted_runs.specs.Tables.{FindsTable, KeepsOldTable}
 
 -- *Accepted runs are serial*: clients' replies and the tables that are left are those of the ended transactions run one at a
 -- time, in the order they ended, with the ALTER applied to the whole table at one instant or not at all.
@@ -29,6 +30,15 @@ abbrev pub AcceptedRenamesFindTheAltered : Type 0
 AcceptedRenamesFindTheAltered =
     (plan : PlanData) (table : TableRows) (new : Altered) (journal : List Entry) (entry : Entry) → WasRead plan → find_table plan.table plan.tables ≡ Some table → altered_by plan table.schema ≡ Some new → IsRename plan journal entry
     → IsAltered (migration_of table.schema new) (state_at plan journal).tables
+
+-- *Accepted runs find the table*: what names the migrated table alone, as each client's statement on it does, is never answered
+-- 1146.
+abbrev pub AcceptedRunsFindTheTable : Type 0
+AcceptedRunsFindTheTable = (plan : PlanData) (journal : List Entry) → WasRead plan → IsKept plan journal → FindsTable plan journal
+
+-- *Accepted runs keep the old table*: behind the RENAME what stands under the old table's name is the table of just before it.
+abbrev pub AcceptedRunsKeepTheOldTable : Type 0
+AcceptedRunsKeepTheOldTable = (plan : PlanData) (journal : List Entry) → WasRead plan → IsKept plan journal → KeepsOldTable plan journal
 
 -- *Accepted runs are online*: the clients' table is used while the migration goes on, and changed by two calls alone.
 abbrev pub AcceptedRunsAreOnline : Type 0
