@@ -1,2 +1,3 @@
 mod Accepted
 pub mod CompleteLaws
+pub mod Tables

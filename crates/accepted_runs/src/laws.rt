@@ -1,6 +1,6 @@
 //! The laws: each function's contract is one.
 
-ghost use Rattle.accepted_runs.specs.Laws.{AcceptedRunsAreSerial, AcceptedRenamesFindTheAltered, AcceptedRunsAreOnline, AcceptedRunsGoOn, AcceptedCausesStand};
+ghost use Rattle.accepted_runs.specs.Laws.{AcceptedRunsAreSerial, AcceptedRenamesFindTheAltered, AcceptedRunsAreOnline, AcceptedRunsFindTheTable, AcceptedRunsGoOn, AcceptedRunsKeepTheOldTable, AcceptedCausesStand};
 
 use accepted_laws::laws::{
     read_plans_are_runnable, read_plans_are_serial, read_plans_are_worded, read_scripts_end,
@@ -8,8 +8,13 @@ use accepted_laws::laws::{
 use attempt_laws::cause_laws::spent_cut_overs_stand;
 use attempt_laws::verdict_laws::{panics_stand, spent_tasks_stand};
 use course_laws::chunk_laws::journals_are_online;
+use course_laws::marked_laws::marked_journals_are_runs;
+use course_laws::waits_laws::waits_are_told;
+use history_laws::server_laws::{definitions_are_done, exclusive_is_alone};
 use revert_laws::going_laws::someone_goes;
 use revert_laws::laws::{kept_journals_are_serial, renames_find_the_altered};
+use revert_laws::once_laws::renames_come_once;
+use revert_laws::rename_laws::journals_are_turned;
 use revert_laws::unfit_laws::unfit_rows_stand;
 
 /// Every run of every accepted plan is serial: in any order of turns, whatever is answered, refused, lost or reverted,
@@ -21,6 +26,24 @@ pub fn accepted_runs_are_serial()
 {
     kept_journals_are_serial();
     renames_find_the_altered();
+    read_plans_are_serial();
+    read_plans_are_worded();
+}
+
+/// Its clients' statements find the migrated table, whenever they are asked: the RENAME takes its name and gives it in one
+/// step. From then on the old table, while it stands, is what it was just before.
+pub fn accepted_runs_keep_tables()
+    ensures found { AcceptedRunsFindTheTable }
+    ensures old { AcceptedRunsKeepTheOldTable }
+{
+    marked_journals_are_runs();
+    renames_find_the_altered();
+    renames_come_once();
+    journals_are_turned();
+    exclusive_is_alone();
+    definitions_are_done();
+    waits_are_told();
+    read_plans_are_runnable();
     read_plans_are_serial();
     read_plans_are_worded();
 }

@@ -77,7 +77,7 @@ data Held (plan : PlanData) (m : Migration) (at : Clustered m.schema) (rows : Li
 itself : (n : ℕ) → n ≤ n
 itself n = omega arith
 
-called_drained : (work : Work) (request : Request) → attempts.next Renamer work.cutover ≡ Some request → IsAtDrained work.cutover.phase
+pub called_drained : (work : Work) (request : Request) → attempts.next Renamer work.cutover ≡ Some request → IsAtDrained work.cutover.phase
 unfolding attempts.next
 called_drained work request = by work.cutover.phase where
   by : (phase : Phase) → renamer_call work.cutover phase ≡ Some request → IsAtDrained phase
@@ -343,7 +343,7 @@ renames_altered again runnable alter turned alone done told plan is journal entr
     marked going = renames_marked alone done told turned plan journal entry runs serial rename going
 
 -- each turn that does the RENAME is the first, and finds the altered table
-all_marked : RenamesFindTheAltered → (plan : PlanData) (is : IsAlterable plan) → IsWorded plan → IsSerialPlan plan → (some journal : List Entry) → IsKept plan (some ++ journal) → Along (λ before one. list_any is_alter (entry_adds plan before one) ≡ true → IsUnaltered plan before) some journal → Along (IsMarkedAt plan is) some journal
+pub all_marked : RenamesFindTheAltered → (plan : PlanData) (is : IsAlterable plan) → IsWorded plan → IsSerialPlan plan → (some journal : List Entry) → IsKept plan (some ++ journal) → Along (λ before one. list_any is_alter (entry_adds plan before one) ≡ true → IsUnaltered plan before) some journal → Along (IsMarkedAt plan is) some journal
 all_marked finds plan is worded serial some [] follows firsts = tt
 all_marked finds plan is worded serial some (entry ∷ journal) follows firsts =
     let later : IsKept plan ((some ++ entry ∷ []) ++ journal) = subst (IsKept plan) (sym (append_assoc some (entry ∷ []) journal)) follows in

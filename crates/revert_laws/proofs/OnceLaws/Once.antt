@@ -84,20 +84,20 @@ module _ (definitions_are_done : DefinitionsAreDone) (plan : PlanData) (journal 
     by Lock is = refl
     by Ren is = refl
 
-  record Renaming : Type 0 where
-    pairs : List Pair
-    is_about : histories.about journal entry ≡ Some (requests.Rename pairs)
-    count : ℕ
-    is_told : told_in entry.asked entry.side entry.answer entry.missed ≡ Some (answers.Ok count)
+  pub record Renaming : Type 0 where
+    pub pairs : List Pair
+    pub is_about : histories.about journal entry ≡ Some (requests.Rename pairs)
+    pub count : ℕ
+    pub is_told : told_in entry.asked entry.side entry.answer entry.missed ≡ Some (answers.Ok count)
 
-  renaming : Renaming
+  pub renaming : Renaming
   renaming = by (histories.about journal entry) (told_in entry.asked entry.side entry.answer entry.missed) refl refl (ap (list_any is_alter) (sym (tool_adds plan serial journal entry runs.fitting known run tool entry.actor tool)) ∙ alters_now) where
     by : (request : Option Request) (told : Option Answer) → histories.about journal entry ≡ request → told_in entry.asked entry.side entry.answer entry.missed ≡ told → list_any is_alter (alters plan request told) ≡ true → Renaming
     by (Some (requests.Rename pairs)) (Some (answers.Ok count)) is told alter = record { pairs = pairs; is_about = is; count = count; is_told = told }
     by request (Some (answers.Ok count)) is told alter = absurd cc
     by request told is says alter = absurd cc
 
-  exchanges : (entry.actor ≡ Ren) × (requests.Rename renaming.pairs ≡ exchange plan.table)
+  pub exchanges : (entry.actor ≡ Ren) × (requests.Rename renaming.pairs ≡ exchange plan.table)
   exchanges = about_asked plan serial journal entry runs.fitting known run tool (requests.Rename renaming.pairs) renaming.is_about
 
   asks_now : Asking plan journal Ren entry.asked

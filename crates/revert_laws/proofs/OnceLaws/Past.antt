@@ -78,7 +78,7 @@ makes (requests.Create schema) = true
 makes request = false
 
 -- behind the setup the inspector makes none
-call_makes : (cutover : CutOver) (phase : Phase) (request : Request) → cutovers.inspector_call cutover phase ≡ Some request → makes request ≡ false
+pub call_makes : (cutover : CutOver) (phase : Phase) (request : Request) → cutovers.inspector_call cutover phase ≡ Some request → makes request ≡ false
 call_makes cutover phase request is = by phase is where
   NoMake : Request → Type 0
   NoMake r = makes r ≡ false
@@ -334,7 +334,7 @@ module _ (definitions_are_done : DefinitionsAreDone) (plan : PlanData) (journal 
     by (is_polled asks some) = no_poll (sym asks ∙ cut)
 
   -- where it is told, the tables were renamed
-  told_renamed : IsAbout (exchange plan.table) (has entry.actor) entry.asked → (count : ℕ) → told_in entry.asked entry.side entry.answer entry.missed ≡ Some (answers.Ok count) → rename_tables (exchanged plan.table) before.tables ≡ Ok (state_at plan more).tables
+  pub told_renamed : IsAbout (exchange plan.table) (has entry.actor) entry.asked → (count : ℕ) → told_in entry.asked entry.side entry.answer entry.missed ≡ Some (answers.Ok count) → rename_tables (exchanged plan.table) before.tables ≡ Ok (state_at plan more).tables
   told_renamed is_about count is =
       let told_now : told_at entry.side entry.answer entry.missed ≡ Some (answers.Ok count) = told_both (exchange plan.table) is_about count is in
       let quiet : Quiet (exchange plan.table) open_now entry.session (serves open_now entry.session entry.asked) = quiet_served open_now entry.session entry.asked (exchange plan.table) (about_open (exchange plan.table) is_about) (uncut (exchange plan.table) is_about) refl in
