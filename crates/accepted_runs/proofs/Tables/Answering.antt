@@ -4,7 +4,7 @@ use Rattle.std.specs.Prelude.{is_some}
 use Rattle.std.specs.List.{list_all, list_any}
 use Rattle.std.specs.Option.{option_map}
 use Rattle.std.specs.Str.{bytes_eq}
-use Rattle.std.proofs.lemmas.Bool.{true≢false, false≢true, and_parts}
+use Rattle.std.proofs.lemmas.Bool.{false≢true, and_parts}
 use Rattle.gho_values.specs.declared.value.Value.{Value}
 use Rattle.gho_schema.specs.Rows.{key_places}
 use Rattle.gho_schema.specs.declared.schema.Schema.{Schema}
@@ -13,7 +13,6 @@ use Rattle.alter_image.specs.declared.image_fault.UnfitAt.{UnfitAt}
 use Rattle.alter_image.specs.declared.map.MapColumn.{MapColumn}
 use Rattle.event_codec.specs.declared.event.RowEvent.{RowEvent}
 use Rattle.row_store.specs.Databases.{Database, TableRows, find_table, has_table, rename_tables, row_at_key, with_name}
-use Rattle.row_store.specs.declared.renaming.NotRenamed.{NotRenamed}
 use Rattle.row_store.specs.declared.renaming.NotRenamed.TheVariants as reasons
 use Rattle.row_store.specs.declared.renaming.Pair.{Pair}
 use Rattle.row_store.proofs.ChangedTables.{found_where}
@@ -21,16 +20,15 @@ use Rattle.plain_server.specs.Chunks.{chunk_end, ends_of, keys_of, span_keys}
 use Rattle.plain_server.specs.Deeds.{all_stand, begins, created, deed_unless, deed_within, defined, dropped, is_outside, locks_if, of_table, renamed_or, result_deed}
 use Rattle.plain_server.specs.Jobs.{Job, after_events, copy_from, copy_job, copy_work, job_of, job_says, result_in, says, table_of}
 use Rattle.plain_server.specs.Locking.{blocker, need, need_within}
-use Rattle.plain_server.specs.Serving.{Served, called_unless, calls, does, done, is_over, polled_of, polled_over, polled_unless, polls, without_waiting}
+use Rattle.plain_server.specs.Serving.{called_unless, calls, does, done, is_over, polled_of, polled_over, polled_unless, polls, without_waiting}
 use Rattle.plain_server.specs.Showing.{events_read}
-use Rattle.plain_server.specs.States.{State, is_in_transaction, names_in, session_of, view, waiting_of, writes_of}
+use Rattle.plain_server.specs.States.{State, is_in_transaction, session_of, view, waiting_of, writes_of}
 use Rattle.plain_server.specs.declared.answer.Answer.TheVariants as answers
 use Rattle.plain_server.specs.declared.need.Need.{Need}
 use Rattle.plain_server.specs.declared.request.Request.{Request}
 use Rattle.plain_server.specs.declared.request.Request.TheVariants as requests
 use Rattle.plain_server.specs.declared.session.Waiting.{Waiting}
 use Rattle.plain_server.specs.declared.work.StatementResult.{StatementResult}
-use Rattle.script_text.specs.declared.statement.Statement.{Statement}
 use Rattle.statement_laws.proofs.Tests.{are_same}
 use Rattle.history_laws.specs.Turns.{request_of}
 use Rattle.machine_laws.proofs.Schemas.{schema_events}

@@ -1,5 +1,5 @@
 -- The migrated table stands before each turn, so it is found.
-use Rattle.std.proofs.Common.{◌≡◌, Bool, true, false, List, [], ◌∷◌, ◌++◌, Some, refl, sym, ap, ◌∙◌, subst, append_assoc}
+use Rattle.std.proofs.Common.{◌≡◌, Bool, true, false, List, [], ◌∷◌, ◌++◌, sym, ap, ◌∙◌, subst, append_assoc}
 use Rattle.std.specs.Prelude.{is_some}
 use Rattle.row_store.specs.Databases.{Database, find_table}
 use Rattle.plain_server.specs.Alone.{Ran, alone, lines_run, nothing_ran, outcome_if, stays}

@@ -1,15 +1,13 @@
 -- Behind the RENAME nobody makes or writes a table of the old one's name, so what stands there is the table of just before it.
-use Rattle.std.proofs.Common.{◌≡◌, ◌⊎◌, ℕ, Bool, true, false, cond, ◌||◌, List, [], ◌∷◌, ◌++◌, Option, Some, None, Ok, Err, refl, sym, ap, ◌∙◌, subst, append_assoc, append-nil}
+use Rattle.std.proofs.Common.{◌≡◌, ℕ, Bool, true, false, cond, List, [], ◌∷◌, ◌++◌, Option, Some, None, Ok, Err, refl, sym, ap, ◌∙◌, subst, append_assoc, append-nil}
 use Rattle.std.specs.List.{list_any}
 use Rattle.std.specs.Option.{option_map}
-use Rattle.std.specs.Str.{bytes_eq}
 use Rattle.std.proofs.lemmas.Bool.{true≢false, false≢true, or_left, or_right}
 use Rattle.row_store.specs.Databases.{Database, TableRows, find_table, has_table, name_table, rename_tables, with_name}
 use Rattle.row_store.specs.declared.renaming.NotRenamed.TheVariants as reasons
 use Rattle.row_store.specs.declared.renaming.Pair.{Pair}
 use Rattle.script_text.specs.declared.actor.Actor.{Actor}
 use Rattle.script_text.specs.declared.actor.Actor.TheVariants.{Op, Insp, Copy, Apply, Lock, Ren, Client}
-use Rattle.plain_server.specs.Along.{Along}
 use Rattle.plain_server.specs.Entries.{is_client, same_actor}
 use Rattle.plain_server.specs.declared.answer.Answer.{Answer}
 use Rattle.plain_server.specs.declared.answer.Answer.TheVariants as answers
@@ -27,16 +25,16 @@ use Rattle.cutover_core.specs.declared.cutover.Hold.{Hold}
 use Rattle.cutover_core.specs.declared.cutover.Hold.TheVariants.{Locks, Nothing, WaitsToGuard, WaitsToLock}
 use Rattle.cutover_core.specs.declared.cutover.Phase.{Phase}
 use Rattle.cutover_core.specs.declared.cutover.Phase.TheVariants.{Attempting, Ending, Finished, Finishing, Resting}
-use Rattle.cutover_core.specs.declared.cutover.Role.TheVariants.{Inspector, Renamer}
+use Rattle.cutover_core.specs.declared.cutover.Role.TheVariants.{Renamer}
 use Rattle.cutover_core.specs.declared.cutover.Stage.TheVariants.{Draining, Drained, Dropping, Exchanging, Guarding, Hinting, Locking, Showing, Unlocking}
 use Rattle.journal_words.specs.Histories as histories
 use Rattle.journal_words.specs.Histories.{Alter, alters, entry_adds, history, is_alter, told_in}
 use Rattle.journal_words.specs.Journals.{may_lose, state_at}
 use Rattle.migration_program.specs.Programs.{IsGiven, given, tool_call}
 use Rattle.migration_program.specs.Tools.{Course, Migrating, SettingUp, Work, is_reverting, moment}
-use Rattle.migration_program.proofs.ProgramLaws.Naming.{not_ghost, not_old}
+use Rattle.migration_program.proofs.ProgramLaws.Naming.{not_old}
 use Rattle.statement_laws.proofs.Tests.{turned_bytes}
-use Rattle.history_laws.specs.Plans.{IsSerialPlan, scene_of}
+use Rattle.history_laws.specs.Plans.{IsSerialPlan}
 use Rattle.history_laws.specs.ServerLaws.Others.{DefinitionsAreDone, ExclusiveIsAlone}
 use Rattle.history_laws.proofs.Actors.{same_actor_is}
 use Rattle.history_laws.proofs.Moves.{renamed_new, renamed_other}
@@ -60,7 +58,7 @@ use Rattle.course_laws.specs.UnalteredLaws.Laws.{IsUnaltered}
 use Rattle.course_laws.specs.WaitsLaws.Laws.{WaitsAreTold}
 use Rattle.course_laws.proofs.CourseTurns.{gives_asked}
 use Rattle.course_laws.proofs.UnalteredLaws.Asking.{AskedAs, ToolCall, exchange_takes}
-use Rattle.course_laws.proofs.UnalteredLaws.Away.{IsKnownAsked, about_asked, all_asked, as_tool, tool_adds}
+use Rattle.course_laws.proofs.UnalteredLaws.Away.{IsKnownAsked, all_asked, as_tool, tool_adds}
 use Rattle.attempt_laws.specs.RenamedLaws.Laws.{CourseRenamed, IsRenamedAt}
 use Rattle.attempt_laws.proofs.RenamedLaws.Seen.{all_seen}
 use Rattle.follow_laws.proofs.FollowTurns.Follows.{kept_front, kept_run}
@@ -71,7 +69,7 @@ use Rattle.revert_laws.proofs.OnceLaws.Past.{CoursePast, IsPast, NoMake, call_ma
 use Rattle.revert_laws.proofs.RenameLaws.Renames.{Found, renames_found}
 use Rattle.accepted_laws.specs.Laws.{ReadPlansAreRunnable, ReadPlansAreSerial}
 use Rattle.accepted_runs.specs.Laws.{AcceptedRunsKeepTheOldTable}
-use Rattle.accepted_runs.specs.Tables.{IsAsItWas, IsOldKept, KeepsOldTable}
+use Rattle.accepted_runs.specs.Tables.{IsAsItWas, KeepsOldTable}
 use Rattle.accepted_runs.proofs.Tables.Turns.{IsUnwritten, Left, TurnAbout, all_unwritten, asks_so, left_gone, left_renamed, left_so, rests_left, rests_so, turn_about, turn_left, writes_no_old}
 
 -- THE EXCHANGE

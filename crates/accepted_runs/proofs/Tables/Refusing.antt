@@ -29,9 +29,9 @@ use Rattle.plain_server.specs.declared.work.Selection.TheVariants.{AllColumns, C
 use Rattle.plain_server.specs.declared.work.Work.{Work}
 use Rattle.plain_server.specs.declared.work.Work.TheVariants as works
 use Rattle.plain_server.specs.Answers.{refuses, refuses_value}
-use Rattle.plain_server.specs.Checking.{◌>>=◌, are_distinct, beside, given_or, has_columns, is_only, keyed, key_from, new_row, or_refused, or_unknown, place_of, places_at, places_listed, places_named, reach_equal, reach_of, reach_range, row_from, select_of, selection_of, sets_from, sought_at, sought_each, unless, update_of, value_at, work_of}
+use Rattle.plain_server.specs.Checking.{◌>>=◌, are_distinct, beside, given_or, has_columns, is_only, keyed, new_row, or_refused, or_unknown, place_of, places_listed, places_named, reach_equal, reach_of, reach_range, row_from, select_of, selection_of, sought_at, sought_each, unless, update_of, value_at, work_of}
 use Rattle.plain_server.specs.Rows.{change_rows, rows_met, same_row}
-use Rattle.plain_server.specs.Saying.{TableResult, change_first, clashes_besides, only, result_or_refusal, selected, tells, updated, updates, with_sets}
+use Rattle.plain_server.specs.Saying.{change_first, clashes_besides, only, result_or_refusal, selected, tells, updated, updates, with_sets}
 use Rattle.accepted_runs.specs.Tables.{is_missing}
 
 -- the answer isn't 1146

@@ -8,18 +8,14 @@ use Rattle.event_codec.specs.declared.event.RowEvent.{RowEvent}
 use Rattle.row_store.specs.Databases.{Database, TableRows, find_table, has_table, rename_tables, with_change, without_table}
 use Rattle.row_store.specs.declared.renaming.NotRenamed.{NotRenamed}
 use Rattle.row_store.specs.declared.renaming.Pair.{Pair}
-use Rattle.script_text.specs.declared.actor.Side.{Side}
-use Rattle.script_text.specs.declared.actor.Side.TheVariants.{Before, After}
 use Rattle.plain_server.specs.Answers.{ok}
 use Rattle.plain_server.specs.Deeds.{all_stand, begins, deed_unless, deed_within, defined, dropped, is_outside, locks_if, nothing_needed, renamed_or, result_deed, created}
 use Rattle.plain_server.specs.Jobs.{Job, after_events, change_table, copy_job, events_of, job_says, result_in, says, table_of, job_of}
 use Rattle.plain_server.specs.Locking.{blocker, need, need_within}
-use Rattle.plain_server.specs.Serving.{Served, at_rest, called_unless, calls, counting, does, done, goes_on, holding, is_over, leaves, locking, loses, polled_of, polled_over, polled_unless, polls, serves, unlocking, without_waiting}
-use Rattle.plain_server.specs.States.{State, connected, is_in_transaction, new_session, polls_of, session_of, view, waiting_of, with_session, writes_of}
+use Rattle.plain_server.specs.Serving.{Served, at_rest, called_unless, calls, counting, does, done, goes_on, holding, is_over, locking, loses, polled_of, polled_over, polled_unless, polls, unlocking, without_waiting}
+use Rattle.plain_server.specs.States.{State, is_in_transaction, new_session, session_of, view, waiting_of, with_session, writes_of}
 use Rattle.plain_server.specs.declared.answer.Answer.{Answer}
 use Rattle.plain_server.specs.declared.answer.Answer.TheVariants as answers
-use Rattle.plain_server.specs.declared.entry.Asked.{Asked}
-use Rattle.plain_server.specs.declared.entry.Asked.TheVariants.{Call, Poll, Command, Cut}
 use Rattle.plain_server.specs.declared.need.Need.{Need}
 use Rattle.plain_server.specs.declared.request.Request.{Request}
 use Rattle.plain_server.specs.declared.request.Request.TheVariants as requests

@@ -4,7 +4,7 @@ use Rattle.std.proofs.lemmas.List.{append_cancel_left}
 use Rattle.std.specs.Prelude.{codes, is_some}
 use Rattle.std.specs.List.{list_any}
 use Rattle.std.specs.Str.{bytes_eq}
-use Rattle.std.proofs.lemmas.Bool.{true≢false, false≢true, or_right}
+use Rattle.std.proofs.lemmas.Bool.{true≢false, or_right}
 use Rattle.row_store.specs.Databases.{Database, find_table}
 use Rattle.row_store.specs.declared.renaming.Pair.{Pair}
 use Rattle.script_text.specs.declared.actor.Actor.{Actor}
@@ -14,8 +14,8 @@ use Rattle.script_text.specs.declared.actor.Side.TheVariants.{Before, After}
 use Rattle.plain_server.specs.Along.{Along-keeps}
 use Rattle.plain_server.specs.Entries.{is_client, is_command}
 use Rattle.plain_server.specs.Jobs.{table_of}
-use Rattle.plain_server.specs.Serving.{Served, leaves, loses, serves}
-use Rattle.plain_server.specs.States.{State, connected, is_live, session_of, waiting_of}
+use Rattle.plain_server.specs.Serving.{leaves, serves}
+use Rattle.plain_server.specs.States.{State, connected, is_live, waiting_of}
 use Rattle.plain_server.specs.declared.answer.Answer.{Answer}
 use Rattle.plain_server.specs.declared.answer.Answer.TheVariants as answers
 use Rattle.plain_server.specs.declared.entry.Asked.{Asked}
@@ -45,27 +45,12 @@ use Rattle.machine_laws.proofs.Polling.{given_idle, given_waits}
 use Rattle.machine_laws.proofs.Seated.{IsServed, own_waiting, state_more}
 use Rattle.machine_laws.proofs.Tabling.{QuietAt, given_quiet}
 use Rattle.course_laws.proofs.UnalteredLaws.Asking.{AskedAs, ToolCall, given_asked}
-use Rattle.course_laws.proofs.UnalteredLaws.Away.{IsKnownAsked, asked_begins, asked_more, as_tool, tool_not_mine}
+use Rattle.course_laws.proofs.UnalteredLaws.Away.{IsKnownAsked, asked_begins, asked_more, tool_not_mine}
 use Rattle.revert_laws.proofs.OnceLaws.Past.{makes}
 use Rattle.accepted_runs.specs.Tables.{IsFound, is_missing, names_alone}
 use Rattle.accepted_runs.proofs.Tables.Refusing.{IsOther}
 use Rattle.accepted_runs.proofs.Tables.Answering.{Stands, called_other, polled_other}
 use Rattle.accepted_runs.proofs.Tables.Sparing.{Leaves, Spared, Unwritten, WritesNo, called_spared, goes, joined_unwritten, lost_tables, lost_unwritten, polled_spared, renames, stays}
-
--- NAMES
-
-old_is_tool : (table : List ℕ) → is_tool_name table (old_name table) ≡ true
-old_is_tool table = let name : List ℕ = old_name table in or_right (bytes_eq name (ghost_name table) || bytes_eq name (log_name table)) (bytes_eq name name) (same_bytes name)
-
-log_not_old : (table : List ℕ) → bytes_eq (log_name table) (old_name table) ≡ false
-unfolding log_name old_name
-log_not_old table = by (bytes_eq (log_name table) (old_name table)) refl where
-  differ : codes "_ghc" ≡ codes "_del" → ⊥
-  differ same = true≢false (sym (same_bytes (codes "_ghc")) ∙ ap (bytes_eq (codes "_ghc")) same)
-
-  by : (b : Bool) → bytes_eq (log_name table) (old_name table) ≡ b → b ≡ false
-  by true same = absurd (differ (append_cancel_left (codes "_" ++ table) (codes "_ghc") (codes "_del") (are_same (log_name table) (old_name table) same)))
-  by false same = refl
 
 -- WHAT A TURN IS ABOUT
 
@@ -246,10 +231,23 @@ module _ (plan : PlanData) (serial : IsSerialPlan plan) where
   abbrev Old : List ℕ
   Old = old_name plan.table
 
+  old_other : list_any (bytes_eq Old) (client_names plan) ≡ false
+  old_other = tool_not_mine plan Old serial (or_right (bytes_eq Old (ghost_name plan.table) || bytes_eq Old (log_name plan.table)) (bytes_eq Old Old) (same_bytes Old))
+
+  log_other : bytes_eq (log_name plan.table) Old ≡ false
+  unfolding log_name old_name
+  log_other = by (bytes_eq (log_name plan.table) Old) refl where
+    differ : codes "_ghc" ≡ codes "_del" → ⊥
+    differ same = true≢false (sym (same_bytes (codes "_ghc")) ∙ ap (bytes_eq (codes "_ghc")) same)
+
+    by : (b : Bool) → bytes_eq (log_name plan.table) Old ≡ b → b ≡ false
+    by true same = absurd (differ (append_cancel_left (codes "_" ++ plan.table) (codes "_ghc") (codes "_del") (are_same (log_name plan.table) Old same)))
+    by false same = refl
+
   not_mine : (name : List ℕ) → list_any (bytes_eq name) (client_names plan) ≡ true → bytes_eq name Old ≡ false
   not_mine name mine = by (bytes_eq name Old) refl where
     by : (b : Bool) → bytes_eq name Old ≡ b → b ≡ false
-    by true same = absurd (true≢false (sym mine ∙ ap (λ (n : List ℕ). list_any (bytes_eq n) (client_names plan)) (are_same name Old same) ∙ tool_not_mine plan Old serial (old_is_tool plan.table)))
+    by true same = absurd (true≢false (sym mine ∙ ap (λ (n : List ℕ). list_any (bytes_eq n) (client_names plan)) (are_same name Old same) ∙ old_other))
     by false same = refl
 
   client_writes : (request : Request) → ClientAsks (scene_of plan []) request → WritesNo Old request
@@ -258,7 +256,7 @@ module _ (plan : PlanData) (serial : IsSerialPlan plan) where
   client_writes request asks = tt
 
   tool_writes : (actor : Actor) (request : Request) → ToolCall plan request actor → WritesNo Old request
-  tool_writes Insp (requests.Do statement) asks = ap (λ (n : List ℕ). bytes_eq n Old) asks ∙ log_not_old plan.table
+  tool_writes Insp (requests.Do statement) asks = ap (λ (n : List ℕ). bytes_eq n Old) asks ∙ log_other
   tool_writes Apply (requests.Do statement) asks = ap (λ (n : List ℕ). bytes_eq n Old) asks ∙ ghost_not_old plan.table
   tool_writes Op (requests.Do statement) asks = absurd asks
   tool_writes Copy (requests.Do statement) asks = absurd asks
