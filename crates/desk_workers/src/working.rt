@@ -136,6 +136,7 @@ pub fn take_turns<B: Book + Drop + Send, R: Threads + Wait + Sync, G: Gate + Syn
     ensures opening { IfOk result (λ done. B.opening done.book ≡ B.opening book) }
     ensures list { IfOk result (λ done. DeskList (B.entries done.book) done.passes.value.items) }
     ensures numbers { IfOk result (λ done. All (λ pass. pass.worker < workers) done.passes.value.items) }
+    ensures count { IfOk result (λ done. length done.passes.value.items ≡ workers) }
     ensures below { IfOk result (λ done. All (λ entry. entry.worker < workers) (B.entries done.book)) }
     ensures over { IfOk result (λ done. done.ending ≡ Over → B.is_over (B.opening done.book) (B.entries done.book)) }
 {

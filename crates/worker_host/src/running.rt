@@ -1,6 +1,6 @@
 //! A run by worker threads.
 
-ghost use Rattle.std.specs.Prelude.{◌≡◌, ◌≤◌, ◌<◌, [], true, All, IfOk};
+ghost use Rattle.std.specs.Prelude.{◌≡◌, ◌≤◌, ◌<◌, [], true, length, All, IfOk};
 ghost use Rattle.desk_workers.specs.declared.ending.Ending.TheVariants.{Over};
 ghost use Rattle.journal_words.specs.Journals.{opening, state_at};
 ghost use Rattle.journal_words.specs.Sessions.{NumbersSessions};
@@ -56,6 +56,7 @@ pub fn run_by_workers<'a, V: Serve + Send, R: Threads + Wait + Sync, G: Gate + S
     ensures order { IfOk result (λ ran. RunOrder run.entry.plan ran.run.journal ran.turns.items workers) }
     ensures workers { IfOk result (λ ran. DeskList (listed ran.turns.items ran.run.journal) ran.passes.value.items) }
     ensures numbers { IfOk result (λ ran. All (λ pass. pass.worker < workers) ran.passes.value.items) }
+    ensures count { IfOk result (λ ran. length ran.passes.value.items ≡ workers) }
     ensures over { IfOk result (λ ran. ran.ending ≡ Over → is_over run.entry.plan ran.run.journal ≡ true) }
     ensures server { IfOk result (λ ran. ran.ending ≡ Over → ran.run.server ≡ state_at run.entry.plan ran.run.journal) }
 {
