@@ -1,2 +1,3 @@
 mod AtOpening
+mod SoundRuns
 pub mod WholeRuns

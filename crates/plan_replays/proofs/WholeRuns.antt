@@ -13,28 +13,24 @@ use Rattle.migration_program.specs.Verdicts.{has_ended, verdict_of}
 use Rattle.run_laws.specs.Kept.{IsKept}
 use Rattle.migration_program.specs.ReplayLaws.Laws.{OneReplay}
 use Rattle.accepted_laws.specs.Laws.{WasRead}
-use Rattle.accepted_runs.specs.Laws.{AcceptedRunsAreSerial, AcceptedRenamesFindTheAltered, AcceptedRunsAreOnline, AcceptedRunsGoOn, AcceptedCausesStand}
+use Rattle.accepted_runs.specs.Laws.{AcceptedRunsGoOn}
 use Rattle.whole_run.specs.Runs.{RunView, is_over, Stops}
 use Rattle.whole_run.specs.WholeReplay.Replays.{IsStalled}
 use Rattle.whole_run.specs.declared.whole_replay.replaying.Replayed.{Replayed}
 use Rattle.whole_run.specs.declared.whole_replay.replaying.Replayed.TheVariants as replayed
+use Rattle.plan_replays.specs.SoundRuns.{KeptRunsAreSound}
 use Rattle.plan_replays.specs.Replays.{IsWholeReplay, IsEnd}
 
 abbrev kept_of : (plan : PlanData) (journal : List Entry) → IsReplay plan journal → KeepsSessions journal → IsKept plan journal
 kept_of plan journal replay sessions = record { faithful = replay.faithful; planned = replay.planned; follows = replay.follows; sessions = sessions }
 
 -- *Whole replay*
-pub whole : AcceptedRunsAreSerial → AcceptedRenamesFindTheAltered → AcceptedRunsAreOnline → AcceptedCausesStand → OneReplay → (plan : PlanData) (journal : List Entry) → WasRead plan → IsReplay plan journal → KeepsSessions journal → length journal ≤ plan.options.turn_limit → Stops plan journal → IsWholeReplay plan journal
-whole serial altered online causes one plan journal was replay sessions bound stops = record {
+pub whole : KeptRunsAreSound → OneReplay → (plan : PlanData) (journal : List Entry) → WasRead plan → IsReplay plan journal → KeepsSessions journal → length journal ≤ plan.options.turn_limit → Stops plan journal → IsWholeReplay plan journal
+unfolding KeptRunsAreSound
+whole sound one plan journal was replay sessions bound stops = record {
+  sound = sound plan journal was (kept_of plan journal replay sessions) bound stops;
   replay = replay;
-  sessions = sessions;
-  bound = bound;
-  stops = stops;
   only = λ other others same. one plan other journal others replay same;
-  serial = serial plan journal was (kept_of plan journal replay sessions);
-  altered = λ before entry behind table new is rename found alters. altered plan table new before entry was found alters rename;
-  online = online plan journal was (kept_of plan journal replay sessions);
-  causes = λ cause is. causes plan journal cause was (kept_of plan journal replay sessions) is;
 }
 
 -- NOBODY IS READY
@@ -81,9 +77,9 @@ over_after goes plan journal replayed.NoMemory was replay sessions memory over s
 -- OF A RUN
 
 -- the same of the run that it was, and of the journal that is taken out of it
-pub whole_of : AcceptedRunsAreSerial → AcceptedRenamesFindTheAltered → AcceptedRunsAreOnline → AcceptedCausesStand → OneReplay → (plan : PlanData) (run : RunView) (journal : List Entry) → run.plan ≡ plan → journal ≡ run.journal → WasRead plan → IsReplay run.plan run.journal → KeepsSessions run.journal → length run.journal ≤ run.plan.options.turn_limit → Stops run.plan run.journal → IsWholeReplay plan journal
-whole_of serial altered online causes one plan run journal plan_is journal_is was replay sessions bound stops =
-    subst (IsWholeReplay plan) (sym journal_is) (subst (λ (p : PlanData). IsWholeReplay p run.journal) plan_is (whole serial altered online causes one run.plan run.journal (subst WasRead (sym plan_is) was) replay sessions bound stops))
+pub whole_of : KeptRunsAreSound → OneReplay → (plan : PlanData) (run : RunView) (journal : List Entry) → run.plan ≡ plan → journal ≡ run.journal → WasRead plan → IsReplay run.plan run.journal → KeepsSessions run.journal → length run.journal ≤ run.plan.options.turn_limit → Stops run.plan run.journal → IsWholeReplay plan journal
+whole_of sound one plan run journal plan_is journal_is was replay sessions bound stops =
+    subst (IsWholeReplay plan) (sym journal_is) (subst (λ (p : PlanData). IsWholeReplay p run.journal) plan_is (whole sound one run.plan run.journal (subst WasRead (sym plan_is) was) replay sessions bound stops))
 
 pub end_of : AcceptedRunsGoOn → (plan : PlanData) (run : RunView) (journal : List Entry) (answer : Replayed) (verdict : Verdict) (server : State) → run.plan ≡ plan → journal ≡ run.journal → WasRead plan → IsReplay run.plan run.journal → KeepsSessions run.journal → answer ≢ replayed.NoMemory → (answer ≡ replayed.Over → is_over run.plan run.journal ≡ true) → (answer ≡ replayed.Stalled → IsStalled run.plan run.journal)
     → verdict ≡ verdict_of run.plan run.journal → server ≡ run.server → (answer ≢ replayed.NoMemory → run.server ≡ state_at run.plan run.journal) → IsEnd plan journal verdict server

@@ -2,6 +2,7 @@
 //! how it ended.
 #![tactic(auto)]
 
+pub mod laws;
 mod opening;
 mod replaying;
 

@@ -39,7 +39,7 @@ pub fn open_plan(alloc: Global, plan: &Plan) -> Result<FinalServer, AllocError>
 {
     read_plans_are_serial();
     read_options_allow();
-    let tables = Tables::from_plain(alloc, plan.tables())?;
     let watched = watched_in(alloc, plan)?;
+    let tables = Tables::from_plain(alloc, plan.tables())?;
     Ok(open_server(alloc, tables, limits_of(plan), watched))
 }

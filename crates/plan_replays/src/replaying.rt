@@ -7,10 +7,9 @@ ghost use Rattle.accepted_laws.specs.Laws.{WasRead};
 ghost use Rattle.whole_run.specs.declared.whole_replay.replaying.Replayed.TheVariants as answers;
 ghost use Rattle.plan_replays.specs.Replays.{IsWholeReplay, IsEnd};
 
-use crate::opening::open_plan;
+use crate::laws::kept_runs_are_sound;
 use accepted_laws::laws::read_plans_are_runnable;
-use accepted_runs::laws::{accepted_runs_are_serial, accepted_runs_go_on};
-use final_server::FinalServer;
+use accepted_runs::laws::accepted_runs_go_on;
 use migration_program::replay_laws::replays_agree;
 use plain_server::{Journal, Verdict};
 use plan_words::Plan;
@@ -58,15 +57,15 @@ pub fn end_with<V: Serve>(verdict: Option<Verdict>, server: V) -> Option<End<V>>
     }
 }
 
-/// Replays a plan that was read, on a server at its opening.
-#[tactic(auto, using(crate::proofs::WholeRuns::whole_of))]
-fn replay_on<V: Serve>(alloc: Global, plan: &Plan, server: V) -> Result<Left<V>, AllocError>
+/// Replays a plan that was read, on a server at its opening: its turns are taken in their order until the run is over. Where there
+/// is no memory for a turn, those before it are left.
+pub fn replay_plan<V: Serve>(alloc: Global, plan: &Plan, server: V) -> Result<Left<V>, AllocError>
     requires read { WasRead plan.now }
     requires server { V.state server ≡ opening plan.now }
     ensures replay { IfOk result (λ left. IsWholeReplay plan.now left.journal) }
     ensures end { IfOk result (λ left. IfSome left.end (λ end. IsEnd plan.now left.journal end.verdict (V.state end.server))) }
 {
-    accepted_runs_are_serial();
+    kept_runs_are_sound();
     accepted_runs_go_on();
     read_plans_are_runnable();
     replays_agree();
@@ -79,15 +78,4 @@ fn replay_on<V: Serve>(alloc: Global, plan: &Plan, server: V) -> Result<Left<V>,
         journal,
         end: end_with(verdict, server),
     })
-}
-
-/// Replays a plan that was read, on the final server over its opening tables: its turns are taken in their order until the run is
-/// over. Where there is no memory for a turn, those before it are left.
-pub fn replay_plan(alloc: Global, plan: &Plan) -> Result<Left<FinalServer>, AllocError>
-    requires { WasRead plan.now }
-    ensures replay { IfOk result (λ left. IsWholeReplay plan.now left.journal) }
-    ensures end { IfOk result (λ left. IfSome left.end (λ end. IsEnd plan.now left.journal end.verdict end.server)) }
-{
-    let server = open_plan(alloc, plan)?;
-    replay_on(alloc, plan, server)
 }

@@ -10,25 +10,21 @@ use Rattle.migration_program.specs.Orders.{WorkerTurn, RunOrder}
 use Rattle.migration_program.specs.Verdicts.{verdict_of}
 use Rattle.run_laws.specs.Kept.{IsKept}
 use Rattle.accepted_laws.specs.Laws.{WasRead}
-use Rattle.accepted_runs.specs.Laws.{AcceptedRunsAreSerial, AcceptedRenamesFindTheAltered, AcceptedRunsAreOnline, AcceptedCausesStand}
 use Rattle.desk_workers.specs.declared.ending.Ending.{Ending}
 use Rattle.desk_workers.specs.declared.ending.Ending.TheVariants.{Over}
 use Rattle.whole_run.specs.Runs.{RunView, is_over, Stops}
+use Rattle.plan_replays.specs.SoundRuns.{KeptRunsAreSound}
 use Rattle.plan_replays.specs.Replays.{IsEnd}
-use Rattle.plan_works.specs.Works.{IsWholeRun}
+use Rattle.plan_works.specs.Works.{IsByPasses, IsWholeRun}
 
 -- *Whole run*
-pub whole : AcceptedRunsAreSerial → AcceptedRenamesFindTheAltered → AcceptedRunsAreOnline → AcceptedCausesStand → (plan : PlanData) (journal : List Entry) (turns : List WorkerTurn) (workers : ℕ) → WasRead plan → IsKept plan journal → NumbersSessions journal → RunOrder plan journal turns workers → Stops plan journal → length journal ≤ plan.options.turn_limit → IsWholeRun plan journal turns workers
-whole serial altered online causes plan journal turns workers was kept numbered order stops bound = record {
-  kept = kept;
+whole : KeptRunsAreSound → (plan : PlanData) (journal : List Entry) (turns : List WorkerTurn) (workers : ℕ) → WasRead plan → IsKept plan journal → NumbersSessions journal → RunOrder plan journal turns workers → IsByPasses journal turns workers → Stops plan journal → length journal ≤ plan.options.turn_limit → IsWholeRun plan journal turns workers
+unfolding KeptRunsAreSound
+whole sound plan journal turns workers was kept numbered order passes stops bound = record {
+  sound = sound plan journal was kept bound stops;
   numbered = numbered;
   order = order;
-  bound = bound;
-  stops = stops;
-  serial = serial plan journal was kept;
-  altered = λ before entry behind table new is rename found alters. altered plan table new before entry was found alters rename;
-  online = online plan journal was kept;
-  causes = λ cause is. causes plan journal cause was kept is;
+  passes = passes;
 }
 
 -- of the run that workers left, which began with this plan, and of the journal that is taken out of it
@@ -36,10 +32,10 @@ module _ (plan begun : PlanData) (run : RunView) (journal : List Entry) (begun_i
   of_run : (P : PlanData → List Entry → Type 0) → P begun run.journal → P plan journal
   of_run P is = subst (λ (all : List Entry). P plan all) (sym journal_is) (subst (λ (p : PlanData). P p run.journal) begun_is is)
 
-  pub whole_of : AcceptedRunsAreSerial → AcceptedRenamesFindTheAltered → AcceptedRunsAreOnline → AcceptedCausesStand → (turns : List WorkerTurn) (workers : ℕ) → WasRead plan → IsKept begun run.journal → NumbersSessions run.journal → RunOrder begun run.journal turns workers → Stops begun run.journal → length run.journal ≤ run.plan.options.turn_limit → IsWholeRun plan journal turns workers
-  whole_of serial altered online causes turns workers was kept numbered order stops bound =
-      whole serial altered online causes plan journal turns workers was (of_run IsKept kept) (subst NumbersSessions (sym journal_is) numbered) (of_run (λ (p : PlanData) (all : List Entry). RunOrder p all turns workers) order)
-      (of_run Stops stops) (of_run (λ (p : PlanData) (all : List Entry). length all ≤ p.options.turn_limit) (subst (λ (p : PlanData). length run.journal ≤ p.options.turn_limit) plan_is bound))
+  pub whole_of : KeptRunsAreSound → (turns : List WorkerTurn) (workers : ℕ) → WasRead plan → IsKept begun run.journal → NumbersSessions run.journal → RunOrder begun run.journal turns workers → IsByPasses run.journal turns workers → Stops begun run.journal → length run.journal ≤ run.plan.options.turn_limit → IsWholeRun plan journal turns workers
+  whole_of sound turns workers was kept numbered order passes stops bound =
+      of_run (λ (p : PlanData) (all : List Entry). IsWholeRun p all turns workers)
+      (whole sound begun run.journal turns workers (subst WasRead (sym begun_is) was) kept numbered order passes stops (subst (λ (p : PlanData). length run.journal ≤ p.options.turn_limit) plan_is bound))
 
   -- how it ended, where there is a verdict
   pub told_end : (ending : Ending) (told : Option Verdict) (server : State) → IfSome told (λ verdict. verdict ≡ verdict_of run.plan run.journal) → IfSome told (λ verdict. ending ≡ Over) → (ending ≡ Over → is_over begun run.journal ≡ true) → (ending ≡ Over → run.server ≡ state_at begun run.journal) → server ≡ run.server → IfSome told (λ verdict. IsEnd plan journal verdict server)

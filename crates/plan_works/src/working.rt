@@ -9,11 +9,10 @@ ghost use Rattle.plan_replays.specs.Replays.{IsEnd};
 ghost use Rattle.plan_works.specs.Works.{IsWholeRun};
 
 use accepted_laws::laws::read_plans_are_runnable;
-use accepted_runs::laws::{accepted_runs_are_serial, accepted_runs_go_on};
-use final_server::FinalServer;
 use gho_edges::Gate;
 use plain_server::{Journal, Verdict};
-use plan_replays::{End, end_with, open_plan};
+use plan_replays::laws::kept_runs_are_sound;
+use plan_replays::{End, end_with};
 use plan_words::Plan;
 use serving::Serve;
 use std::alloc::{AllocError, Global};
@@ -46,8 +45,9 @@ fn verdict_after<V: Serve>(run: &Run<'_, V>, ending: Ending) -> Option<Verdict>
     }
 }
 
-/// Runs a plan that was read by so many workers, on a server at its opening.
-fn work_on<V: Serve + Send, R: Threads + Wait + Sync, G: Gate + Sync>(
+/// Runs a plan that was read by so many worker threads, on a server at its opening, until the run is over. Where there is no memory
+/// for a turn, those before it are left. Workers wait for each other's turns.
+pub fn work_plan<V: Serve + Send, R: Threads + Wait + Sync, G: Gate + Sync>(
     rt: &R,
     alloc: Global,
     plan: &Plan,
@@ -62,8 +62,7 @@ fn work_on<V: Serve + Send, R: Threads + Wait + Sync, G: Gate + Sync>(
     ensures run { IfOk result (λ left. IsWholeRun plan.now left.journal left.turns.items workers) }
     ensures end { IfOk result (λ left. IfSome left.end (λ end. IsEnd plan.now left.journal end.verdict (V.state end.server))) }
 {
-    accepted_runs_are_serial();
-    accepted_runs_go_on();
+    kept_runs_are_sound();
     read_plans_are_runnable();
     read_plans_go();
     let opened = Run::open(alloc, plan, server)?;
@@ -75,23 +74,4 @@ fn work_on<V: Serve + Send, R: Threads + Wait + Sync, G: Gate + Sync>(
         turns: ran.turns,
         end: end_with(verdict, server),
     })
-}
-
-/// Runs a plan that was read by so many worker threads, on the final server over its opening tables, until the run is over.
-/// Where there is no memory for a turn, those before it are left. Workers wait for each other's turns.
-pub fn work_plan<R: Threads + Wait + Sync, G: Gate + Sync>(
-    rt: &R,
-    alloc: Global,
-    plan: &Plan,
-    workers: u32,
-    gate: &G,
-) -> Result<Left<FinalServer>, AllocError>
-    requires some { 1 ≤ workers }
-    requires few { workers ≤ 16 }
-    requires read { WasRead plan.now }
-    ensures run { IfOk result (λ left. IsWholeRun plan.now left.journal left.turns.items workers) }
-    ensures end { IfOk result (λ left. IfSome left.end (λ end. IsEnd plan.now left.journal end.verdict end.server)) }
-{
-    let server = open_plan(alloc, plan)?;
-    work_on(rt, alloc, plan, server, workers, gate)
 }

@@ -22,12 +22,13 @@ use Rattle.call_endings.specs.declared.turn.Turn.{Turn}
 use Rattle.call_endings.specs.Endings.{Taking, Giving, IsReadFault, IsUsage, IsWorkload, Gives, asked, reads_plan}
 use Rattle.call_endings.specs.Checks.{IsSchema}
 use Rattle.call_endings.specs.Texts.{IsRefusal}
+use Rattle.plan_replays.specs.SoundRuns.{IsSoundRun}
 use Rattle.whole_host.specs.Comings.{IsRead, TellsPlan, ComesTo, Does}
 use Rattle.whole_host.specs.Outcomes.{IsTaken, TakesNone, Comes, status_of}
 use Rattle.whole_host.specs.Promises.{Ends, EndsUnder, PrintsDone, PrintsReport}
 use Rattle.whole_host.specs.Standing.{Laws}
 use Rattle.whole_host.proofs.Headline.{runs_of}
-use Rattle.whole_host.proofs.Taken.{KeepsAll, keeps_all, ends_as, is_taken, tells_alter}
+use Rattle.whole_host.proofs.Taken.{sound_of, ends_as, is_taken, tells_alter}
 
 -- WHAT IS PRINTED WHOLE
 
@@ -93,16 +94,16 @@ module _ (words : List (List ℕ)) (source : Taking) (sink : Giving) (turns : Li
   printed_done (plans.Run workers) prints = prints
 
   module _ (laws : Laws) (told : PlanCommand) (printed : Printed) (was : IsRead told source (Some printed) turns journal) (plan : PlanData) (is : command words ≡ Some (asked told)) (said : read was.bytes ≡ Ok plan) (given : Gave printed) (taken : IsTaken told plan (Some printed) turns journal) where
-    all : KeepsAll plan journal
-    all = keeps_all told plan turns journal taken.takes
+    sound : IsSoundRun plan journal
+    sound = sound_of told plan turns journal taken.takes
 
     report_given : (verdict : Verdict) → verdict_of plan journal ≡ verdict → PrintsReport told verdict source sink turns journal
     report_given verdict same =
-        let tells = tells_alter laws plan journal taken.was_read all.kept.faithful all.kept.follows in
+        let tells = tells_alter laws plan journal taken.was_read sound.kept.faithful sound.kept.follows in
         record {
           runs = runs_of laws told source (Some printed) turns journal was plan said taken;
           taken = is_taken plan journal (laws.allow was.bytes plan said).turns taken.reports.over;
-          over = ends_as plan journal verdict tells taken.reports.over all.bound same;
+          over = ends_as plan journal verdict tells taken.reports.over sound.bound same;
           verdict_is = same;
           tells = tells;
           given = text_given printed _ (taken.reports.text_is ∙ ap (λ (v : Verdict). report plan journal v (state_at plan journal).tables) same) given;
@@ -118,7 +119,7 @@ module _ (words : List (List ℕ)) (source : Taking) (sink : Giving) (turns : Li
           command_is = is;
           cause = cause;
           prints = report_given (verdicts.Reverted cause) same;
-          stands = all.causes cause same;
+          stands = sound.causes cause same;
         })
 
     report_under : Under printed.status

@@ -17,7 +17,7 @@ use Rattle.whole_host.specs.Comings.{IsRead, TellsPlan, ComesTo, Does}
 use Rattle.whole_host.specs.Outcomes.{IsTaken, TakesNone, Comes}
 use Rattle.whole_host.specs.Promises.{Runs, RunsBy}
 use Rattle.whole_host.specs.Standing.{Laws}
-use Rattle.whole_host.proofs.Taken.{keeps_all, completes}
+use Rattle.whole_host.proofs.Taken.{sound_of, completes}
 
 -- THE HEADLINE
 
@@ -31,7 +31,7 @@ runs_of laws told source printed turns journal was plan said taken = record {
   plan = plan;
   accepted = said;
   takes = taken.takes;
-  completes = completes laws plan journal taken.was_read (keeps_all told plan turns journal taken.takes).kept;
+  completes = completes laws plan journal taken.was_read (sound_of told plan turns journal taken.takes).kept;
 }
 
 runs_said : Laws → (told : PlanCommand) (source : Taking) (printed : Option Printed) (turns : List Turn) (journal : List Entry) (was : IsRead told source printed turns journal) (said : Result PlanData PlanRefusal) → read was.bytes ≡ said → Comes told said printed turns journal → (length journal == 0) ≡ false → Runs told source turns journal

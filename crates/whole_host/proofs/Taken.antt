@@ -10,7 +10,6 @@ use Rattle.plain_server.specs.declared.outcome.Verdict.TheVariants as verdicts
 use Rattle.plan_words.specs.PlanData.{PlanData}
 use Rattle.journal_words.specs.Histories.{history, is_alter}
 use Rattle.journal_words.specs.Journals.{IsFaithful}
-use Rattle.migration_program.specs.Failures.{Stands}
 use Rattle.migration_program.specs.Programs.{Follows}
 use Rattle.migration_program.specs.Tools.{moment}
 use Rattle.migration_program.specs.Verdicts.{has_ended, ended_so, verdict_of}
@@ -18,6 +17,7 @@ use Rattle.run_laws.specs.Kept.{IsKept}
 use Rattle.machine_laws.specs.Laws.{TellsAlter}
 use Rattle.accepted_laws.specs.Laws.{WasRead}
 use Rattle.whole_run.specs.Runs.{is_over}
+use Rattle.plan_replays.specs.SoundRuns.{IsSoundRun}
 use Rattle.call_endings.specs.declared.command.PlanCommand.{PlanCommand}
 use Rattle.call_endings.specs.declared.command.PlanCommand.TheVariants.{Check, Replay, Run}
 use Rattle.call_endings.specs.declared.turn.Turn.{Turn}
@@ -28,20 +28,11 @@ use Rattle.whole_host.specs.Standing.{Laws}
 pub tells_alter : Laws → (plan : PlanData) (journal : List Entry) → WasRead plan → IsFaithful plan journal → Follows plan journal → has_ended plan journal ≡ true → TellsAlter plan journal
 tells_alter laws plan journal was faithful follows ended = laws.tell plan journal (laws.runnable plan was).fitting (laws.runnable plan was).stands faithful follows ended
 
--- what holds of the turns that a command takes, whichever it is
-pub record KeepsAll (plan : PlanData) (journal : List Entry) : Type 0 where
-  pub kept : IsKept plan journal
-  pub bound : length journal ≤ plan.options.turn_limit
-  pub causes : (cause : Cause) → verdict_of plan journal ≡ verdicts.Reverted cause → Stands plan journal cause
-
-pub keeps_all : (told : PlanCommand) (plan : PlanData) (turns : List Turn) (journal : List Entry) → Takes told plan turns journal → KeepsAll plan journal
-keeps_all Check plan turns journal taken = absurd taken
-keeps_all Replay plan turns journal taken = record {
-  kept = record { faithful = taken.0.replay.faithful; planned = taken.0.replay.planned; follows = taken.0.replay.follows; sessions = taken.0.sessions };
-  bound = taken.0.bound;
-  causes = taken.0.causes;
-}
-keeps_all (Run workers) plan turns journal taken = record { kept = taken.kept; bound = taken.bound; causes = taken.causes }
+-- the run whose turns a command takes is sound, whichever it is
+pub sound_of : (told : PlanCommand) (plan : PlanData) (turns : List Turn) (journal : List Entry) → Takes told plan turns journal → IsSoundRun plan journal
+sound_of Check plan turns journal taken = absurd taken
+sound_of Replay plan turns journal taken = taken.0.sound
+sound_of (Run workers) plan turns journal taken = taken.sound
 
 -- *Completes*
 pub completes : Laws → (plan : PlanData) (journal : List Entry) → WasRead plan → IsKept plan journal → Completes plan journal

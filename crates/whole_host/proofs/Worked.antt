@@ -15,7 +15,7 @@ use Rattle.whole_host.specs.Outcomes.{worker_turns, IsReport, IsTaken}
 pub few_turns : (plan : PlanData) (journal : List Entry) (turns : List WorkerTurn) (workers : ℕ) → IsWholeRun plan journal turns workers → length turns ≤ plan.options.turn_limit
 few_turns plan journal turns workers run =
     let same : length turns ≡ length journal = sym (length-map turns (λ turn. turn.actor)) ∙ ap length run.order.actors ∙ length-map journal (λ entry. entry.actor) in
-    subst (λ (count : ℕ). count ≤ plan.options.turn_limit) (sym same) run.bound
+    subst (λ (count : ℕ). count ≤ plan.options.turn_limit) (sym same) run.sound.bound
 
 -- *What comes of it*, where its turns are told so
 pub taken_by : (plan : PlanData) (printed : Option Printed) (turns : List Turn) (all : List WorkerTurn) (journal : List Entry) (workers : ℕ) → WasRead plan → worker_turns turns ≡ all → IsWholeRun plan journal all workers → IfSome printed (IsReport plan journal) → IsTaken (Run workers) plan printed turns journal

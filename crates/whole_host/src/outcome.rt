@@ -16,7 +16,7 @@ use gho_edges::Gate;
 use gho_values::Sequence;
 use plain_server::Journal;
 use plan_document::PlanFault;
-use plan_replays::{End, replay_plan};
+use plan_replays::{End, open_plan, replay_plan};
 use plan_words::Plan;
 use plan_works::work_plan;
 use report_print::report;
@@ -75,7 +75,8 @@ fn plan_replayed(alloc: Global, plan: &Plan) -> Result<Outcome, AllocError>
 {
     // The room for the turns is made before the first, so that none that was taken is thrown away.
     let room = Vec::with_capacity(alloc, plan.options().turn_limit as usize)?;
-    let left = replay_plan(alloc, plan)?;
+    let server = open_plan(alloc, plan)?;
+    let left = replay_plan(alloc, plan, server)?;
     Ok(Outcome {
         printed: reported(alloc, plan, &left.journal, &left.end),
         turns: turns_in(room, left.journal.as_slice()),
@@ -99,7 +100,8 @@ fn plan_worked<R: Threads + Wait + Sync, G: Gate + Sync>(
     ensures { IfOk result (λ outcome. IsTaken (plans.Run workers) plan.now outcome.printed outcome.turns outcome.journal) }
 {
     let room = Vec::with_capacity(alloc, plan.options().turn_limit as usize)?;
-    let left = work_plan(rt, alloc, plan, workers, gate)?;
+    let server = open_plan(alloc, plan)?;
+    let left = work_plan(rt, alloc, plan, server, workers, gate)?;
     Ok(Outcome {
         printed: reported(alloc, plan, &left.journal, &left.end),
         turns: turns_of_workers(room, left.turns.as_slice()),

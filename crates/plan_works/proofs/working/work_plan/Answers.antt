@@ -5,7 +5,7 @@ use Rattle.whole_run.specs.Runs.{RunView}
 use Rattle.plan_replays.specs.Replays.{IsEnd}
 use Rattle.plan_replays.proofs.WholeRuns.{with_end}
 use Rattle.plan_works.proofs.WholeWorks.{whole_of, told_end}
-use Rattle.plan_works.proofs.working.work_on.Goals as goal
+use Rattle.plan_works.proofs.working.work_plan.Goals as goal
 
 pub open-requires-clause-runs : goal.open-requires-clause-runs
 open-requires-clause-runs g c = c.read_plans_are_runnable.ensures c.args.plan.now c.requires.read
@@ -13,8 +13,8 @@ open-requires-clause-runs g c = c.read_plans_are_runnable.ensures c.args.plan.no
 pub returns-clause-run : goal.returns-clause-run
 returns-clause-run g c =
     whole_of c.args.plan.now c.in_ok-opened.opened.plan c.in_ok-ran.ran.run c.stop-server.result.1 (ap (λ (run : RunView). run.plan) c.in_ok-opened.ensures) c.in_ok-ran.ensures.plan c.stop-server.ensures.turns
-    c.accepted_runs_are_serial.ensures.serial c.accepted_runs_are_serial.ensures.altered c.accepted_runs_go_on.ensures.online c.accepted_runs_go_on.ensures.causes c.in_ok-ran.ran.turns.items c.args.workers c.requires.read
-    c.in_ok-ran.ensures.kept c.in_ok-ran.ensures.numbered c.in_ok-ran.ensures.order c.in_ok-ran.ensures.stops c.stop-server.ensures.bound
+    c.kept_runs_are_sound.ensures c.in_ok-ran.ran.turns.items c.args.workers c.requires.read c.in_ok-ran.ensures.kept c.in_ok-ran.ensures.numbered c.in_ok-ran.ensures.order
+    (record { passes = c.in_ok-ran.ran.passes.value.items; count = c.in_ok-ran.ensures.count; numbers = c.in_ok-ran.ensures.numbers; list = c.in_ok-ran.ensures.workers }) c.in_ok-ran.ensures.stops c.stop-server.ensures.bound
 
 pub returns-clause-end : goal.returns-clause-end
 returns-clause-end g c =

@@ -3,11 +3,16 @@ use Rattle.plain_server.specs.States.{State}
 use Rattle.plain_server.specs.declared.outcome.Verdict.{Verdict}
 use Rattle.whole_run.specs.Runs.{RunView}
 use Rattle.plan_replays.specs.Replays.{IsEnd}
-use Rattle.plan_replays.proofs.WholeRuns.{told_end, with_end}
-use Rattle.plan_replays.proofs.replaying.replay_on.Goals as goal
+use Rattle.plan_replays.proofs.WholeRuns.{told_end, whole_of, with_end}
+use Rattle.plan_replays.proofs.replaying.replay_plan.Goals as goal
 
 pub open-requires-clause-runs : goal.open-requires-clause-runs
 open-requires-clause-runs g c = c.read_plans_are_runnable.ensures c.args.plan.now c.requires.read
+
+pub returns-clause-replay : goal.returns-clause-replay
+returns-clause-replay g c =
+    whole_of c.kept_runs_are_sound.ensures c.replays_agree.ensures.one c.args.plan.now c.replay-replayed.new.run c.stop-server.result.1 (c.replay-replayed.ensures.plan ∙ ap (λ (run : RunView). run.plan) c.in_ok-run.ensures) c.stop-server.ensures.turns
+    c.requires.read c.replay-replayed.ensures.replay c.journal-in_sessions.ensures.sessions c.stop-server.ensures.bound c.replay-replayed.ensures.stops
 
 pub returns-clause-end : goal.returns-clause-end
 returns-clause-end g c =
