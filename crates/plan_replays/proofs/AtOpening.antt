@@ -1,8 +1,8 @@
 -- A server over the opening tables of a plan that was read.
-use Rattle.std.proofs.Common.{◌≡◌, ◌≤◌, sym, ap, subst, ◌∙◌}
+use Rattle.std.proofs.Common.{◌≡◌, sym, ap, subst, ◌∙◌}
 use Rattle.row_store.specs.Databases.{Database}
 use Rattle.plain_server.specs.declared.session.Limits.{Limits}
-use Rattle.plain_server.specs.States.{State, opened}
+use Rattle.plain_server.specs.States.{opened}
 use Rattle.plan_words.specs.PlanData.{PlanData}
 use Rattle.journal_words.specs.Journals.{opening}
 use Rattle.statement_laws.specs.Databases.{IsOrderly}

@@ -28,9 +28,9 @@ FindsAltered plan journal =
 -- *Sound run*. Each answer is the plain server's; clients take the lines of their scripts in order, and sessions are lost
 -- where the plan says; each turn asks what was given, in its actor's session. There are no more turns than the plan allows, and
 -- none is taken of a run that is over. What clients got and the tables that are left are those of their ended transactions, one
--- at a time, with the ALTER at one instant or not at all. The RENAME finds the altered table, every statement finds the migrated
--- one, and the old one stays as it was; the migrated one is used while the migration goes on. Where the verdict is a revert, the
--- cause stands in the journal.
+-- at a time, with the ALTER at one instant or not at all. The RENAME finds the altered table; what names the migrated one alone
+-- finds it, and the old one is kept as it was. The migrated one is used while the migration goes on. Where the verdict is a
+-- revert, the cause stands in the journal.
 pub record IsSoundRun (plan : PlanData) (journal : List Entry) : Type 0 where
   pub kept : IsKept plan journal
   pub bound : length journal ≤ plan.options.turn_limit

@@ -1,5 +1,5 @@
-//! The replay of a plan that was read, on the final server: its journal, with all that is promised of it, and
-//! how it ended.
+//! The replay of a plan that was read, on any server: its journal, with all that is promised of it, and how it ended; and the final
+//! server at its opening.
 #![tactic(auto)]
 
 pub mod laws;

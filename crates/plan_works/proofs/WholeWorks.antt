@@ -1,5 +1,5 @@
 -- The run of a plan that was read by workers.
-use Rattle.std.proofs.Common.{◌≡◌, ◌≤◌, ℕ, true, List, length, Option, Some, None, IfSome, sym, ap, subst, ◌∙◌}
+use Rattle.std.proofs.Common.{◌≡◌, ◌≤◌, ℕ, true, List, length, Option, Some, None, IfSome, sym, subst, ◌∙◌}
 use Rattle.plain_server.specs.declared.entry.Entry.{Entry}
 use Rattle.plain_server.specs.declared.outcome.Verdict.{Verdict}
 use Rattle.plain_server.specs.States.{State}
@@ -13,9 +13,10 @@ use Rattle.accepted_laws.specs.Laws.{WasRead}
 use Rattle.desk_workers.specs.declared.ending.Ending.{Ending}
 use Rattle.desk_workers.specs.declared.ending.Ending.TheVariants.{Over}
 use Rattle.whole_run.specs.Runs.{RunView, is_over, Stops}
+use Rattle.worker_host.specs.Passes.{IsByPasses}
 use Rattle.plan_replays.specs.SoundRuns.{KeptRunsAreSound}
 use Rattle.plan_replays.specs.Replays.{IsEnd}
-use Rattle.plan_works.specs.Works.{IsByPasses, IsWholeRun}
+use Rattle.plan_works.specs.Works.{IsWholeRun}
 
 -- *Whole run*
 whole : KeptRunsAreSound → (plan : PlanData) (journal : List Entry) (turns : List WorkerTurn) (workers : ℕ) → WasRead plan → IsKept plan journal → NumbersSessions journal → RunOrder plan journal turns workers → IsByPasses journal turns workers → Stops plan journal → length journal ≤ plan.options.turn_limit → IsWholeRun plan journal turns workers

@@ -1,1 +1,2 @@
 mod Ordering
+mod Passing

@@ -1,24 +1,21 @@
 //! A run by worker threads.
 
-ghost use Rattle.std.specs.Prelude.{◌≡◌, ◌≤◌, ◌<◌, [], true, length, All, IfOk};
+ghost use Rattle.std.specs.Prelude.{◌≡◌, ◌≤◌, [], true, IfOk};
 ghost use Rattle.desk_workers.specs.declared.ending.Ending.TheVariants.{Over};
 ghost use Rattle.journal_words.specs.Journals.{opening, state_at};
 ghost use Rattle.journal_words.specs.Sessions.{NumbersSessions};
 ghost use Rattle.migration_program.specs.Orders.{RunOrder};
 ghost use Rattle.run_laws.specs.Kept.{IsKept};
-ghost use Rattle.turn_desk.specs.Turns.{DeskList};
 ghost use Rattle.whole_run.specs.Runs.{is_over, Stops};
-ghost use Rattle.worker_run.specs.WorkedRuns.{listed};
 ghost use Rattle.worker_run.specs.Workers.{IsGoing};
+ghost use Rattle.worker_host.specs.Passes.{IsByPasses};
 
 use desk_workers::{Ending, take_turns};
 use gho_edges::Gate;
 use serving::Serve;
 use std::alloc::{AllocError, Global};
-use std::snapshot::Snapshot;
 use std::sync::Wait;
 use std::thread::Threads;
-use turn_desk::Passes;
 use whole_run::Run;
 use worker_run::{Turns, Worked};
 
@@ -31,8 +28,6 @@ pub struct Ran<'a, V: Serve> {
     pub turns: Turns,
     /// How the workers' turns ended.
     pub ending: Ending,
-    /// The workers' passes at the end, for contracts alone: each has its worker's turns in their order.
-    pub passes: Snapshot<Passes<Worked<'a, V>>>,
 }
 
 /// Lets so many workers take the turns of a run, each in a thread of its own, until it is over or there is no memory for a turn;
@@ -54,9 +49,7 @@ pub fn run_by_workers<'a, V: Serve + Send, R: Threads + Wait + Sync, G: Gate + S
     ensures numbered { IfOk result (λ ran. NumbersSessions ran.run.journal) }
     ensures stops { IfOk result (λ ran. Stops run.entry.plan ran.run.journal) }
     ensures order { IfOk result (λ ran. RunOrder run.entry.plan ran.run.journal ran.turns.items workers) }
-    ensures workers { IfOk result (λ ran. DeskList (listed ran.turns.items ran.run.journal) ran.passes.value.items) }
-    ensures numbers { IfOk result (λ ran. All (λ pass. pass.worker < workers) ran.passes.value.items) }
-    ensures count { IfOk result (λ ran. length ran.passes.value.items ≡ workers) }
+    ensures passes { IfOk result (λ ran. IsByPasses ran.run.journal ran.turns.items workers) }
     ensures over { IfOk result (λ ran. ran.ending ≡ Over → is_over run.entry.plan ran.run.journal ≡ true) }
     ensures server { IfOk result (λ ran. ran.ending ≡ Over → ran.run.server ≡ state_at run.entry.plan ran.run.journal) }
 {
@@ -67,6 +60,5 @@ pub fn run_by_workers<'a, V: Serve + Send, R: Threads + Wait + Sync, G: Gate + S
         run,
         turns,
         ending: done.ending,
-        passes: done.passes,
     })
 }

@@ -14,7 +14,7 @@ pub returns-clause-run : goal.returns-clause-run
 returns-clause-run g c =
     whole_of c.args.plan.now c.in_ok-opened.opened.plan c.in_ok-ran.ran.run c.stop-server.result.1 (ap (λ (run : RunView). run.plan) c.in_ok-opened.ensures) c.in_ok-ran.ensures.plan c.stop-server.ensures.turns
     c.kept_runs_are_sound.ensures c.in_ok-ran.ran.turns.items c.args.workers c.requires.read c.in_ok-ran.ensures.kept c.in_ok-ran.ensures.numbered c.in_ok-ran.ensures.order
-    (record { passes = c.in_ok-ran.ran.passes.value.items; count = c.in_ok-ran.ensures.count; numbers = c.in_ok-ran.ensures.numbers; list = c.in_ok-ran.ensures.workers }) c.in_ok-ran.ensures.stops c.stop-server.ensures.bound
+    c.in_ok-ran.ensures.passes c.in_ok-ran.ensures.stops c.stop-server.ensures.bound
 
 pub returns-clause-end : goal.returns-clause-end
 returns-clause-end g c =

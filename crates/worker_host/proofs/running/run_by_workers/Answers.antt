@@ -2,12 +2,17 @@ use Rattle.std.proofs.Common.{ap, ◌∙◌}
 use Rattle.worker_run.specs.declared.worked.Opening.{Opening}
 use Rattle.worker_run.specs.WorkedRuns.{WorkedView}
 use Rattle.worker_host.proofs.Ordering.{ran_ordered, ran_over, ran_stopped, ran_stands}
+use Rattle.worker_host.proofs.Passing.{by_passes}
 use Rattle.worker_host.proofs.running.run_by_workers.Goals as goal
 
 pub returns-clause-order : goal.returns-clause-order
 returns-clause-order g c =
     ran_ordered c.in_ok-done.done.book c.args.run.plan c.args.workers c.stop-run.result.0.journal c.stop-run.result.1.items c.stop-run.ensures.worked (ap (λ (o : Opening). o.plan) c.in_ok-done.ensures.opening ∙ ap (λ (v : WorkedView). v.plan) c.in_ok-worked.ensures)
     (ap (λ (o : Opening). o.workers) c.in_ok-done.ensures.opening ∙ ap (λ (v : WorkedView). v.workers) c.in_ok-worked.ensures) c.in_ok-done.ensures.below c.stop-run.ensures.journal c.stop-run.ensures.turns
+
+pub returns-clause-passes : goal.returns-clause-passes
+returns-clause-passes g c =
+    by_passes c.in_ok-done.done.book.list c.in_ok-done.done.passes.value.items c.args.workers c.stop-run.result.0.journal c.stop-run.result.1.items c.in_ok-done.ensures.count c.in_ok-done.ensures.numbers c.in_ok-done.ensures.list c.stop-run.ensures.list
 
 pub returns-clause-over : goal.returns-clause-over
 returns-clause-over g c = λ over.
