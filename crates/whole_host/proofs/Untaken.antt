@@ -1,5 +1,5 @@
 -- What comes of the words and the source where no turn is taken.
-use Rattle.std.proofs.Common.{◌≡◌, ℕ, ◌++◌, List, [], Option, Some, None, IfSome, Result, ◌⊎◌, inl, inr, refl, ap}
+use Rattle.std.proofs.Common.{◌≡◌, ℕ, List, [], Option, Some, None, IfSome, inl, inr, refl, ap}
 use Rattle.std.specs.Io.KnownBytes.{Consumes}
 use Rattle.gho_edges.specs.Edges.{Rose}
 use Rattle.gho_edges.specs.Whole.{ReadsWhole}
