@@ -3,10 +3,9 @@
 use crate::altered::{is_plan_told, is_report_told};
 use crate::cases::Case;
 use crate::edges::{end_at_sinks, end_at_sources};
-use crate::run::run;
-use std::alloc::AllocError;
-use std::sync::Wait;
-use std::thread::Threads;
+use crate::program::Program;
+use crate::runs::run;
+use std::alloc::{AllocError, Global};
 
 /// What is asked of a case.
 #[derive(Clone, Copy)]
@@ -22,30 +21,30 @@ pub enum Asked {
 }
 
 /// Whether a case prints what stands in it, with the status that stands there, and what one at a time gives.
-fn is_printed<R: Threads + Wait + Sync + AllocGlobal>(
-    rt: &R,
-    case: &Case<'_>,
-) -> Result<bool, AllocError> {
+fn is_printed(alloc: Global, program: &Program, case: &Case<'_>) -> Result<bool, AllocError> {
     let plan = case.plan.as_slice();
-    let ran = run(rt, case.words, plan)?;
-    let status = format!(in rt.alloc(); "{}", ran.ended.status)?;
+    let ran = run(alloc, program, case.words, plan)?;
+    let status = format!(in alloc; "{}", ran.ended.status)?;
     let is_written = status.as_str() == case.status && case.prints.as_slice() == ran.sink.held();
     let took_turns = !ran.ended.journal.is_empty();
-    Ok(is_written && (!took_turns || ran.is_as_alone(rt.alloc(), plan, ran.sink.held())?))
+    Ok(is_written && (!took_turns || ran.is_as_alone(alloc, plan, ran.sink.held())?))
 }
 
 /// Whether a case is as expected.
-pub fn is_as_expected<R: Threads + Wait + Sync + AllocGlobal>(
-    rt: &R,
+pub(crate) fn is_as_expected(
+    alloc: Global,
+    program: &Program,
     asked: Asked,
     case: &Case<'_>,
 ) -> Result<bool, AllocError> {
     let is_so = match asked {
-        Asked::Prints => is_printed(rt, case)?,
-        Asked::TellsReport => is_report_told(rt, case)?,
-        Asked::TellsPlan => is_plan_told(rt, case)?,
+        Asked::Prints => is_printed(alloc, program, case)?,
+        Asked::TellsReport => is_report_told(alloc, program, case)?,
+        Asked::TellsPlan => is_plan_told(alloc, program, case)?,
         Asked::EndsAtEdges => {
-            is_printed(rt, case)? && end_at_sources(rt, case)? && end_at_sinks(rt, case)?
+            is_printed(alloc, program, case)?
+                && end_at_sources(alloc, program, case)?
+                && end_at_sinks(alloc, program, case)?
         }
     };
     Ok(case.is_whole && is_so)

@@ -8,32 +8,46 @@
 //! `losses` plans that are run once for each turn and each side of it, with that turn's session lost, and once for each turn and
 //! each actor, with the actor's session lost before that turn. Each run must be as one transaction at a time. The plans of
 //! `workers` are run by one worker thread, two, four and sixteen, and then replayed in the order that the report prints: the two
-//! reports are the same.
+//! reports are the same. Those of `meetings` are run by two workers, at a gate that keeps each before its turn until the other has
+//! come as far: that they take turn about shows that they are threads.
 //!
 //! `altered_reports` and `other_plans` show that the comparison with one at a time can say no: a report that was altered by
 //! hand isn't that of the run, and the run of a plan isn't one of another plan. `edges` has plans that are also run between
 //! sources which fail at each byte of the plan and sinks which fail behind each byte of the report.
 #![tactic(auto)]
 
-mod case_files;
-mod folder;
-mod losses;
-mod orders;
-mod workers;
-
-use crate::case_files::run_case_files;
-use crate::losses::run_loss_files;
-use crate::orders::run_order_files;
-use crate::workers::run_worker_files;
-use case_runs::Asked;
+use case_runs::{
+    Asked, Call, Ended, Meeting, Program, run_case_files, run_loss_files, run_meeting_files,
+    run_order_files, run_worker_files,
+};
+use command_words::Line;
+use gho_edges::{BytesSink, BytesSource};
 use std::io;
+use whole_host::ghost_;
 
 fn main(rt: HostRuntime) -> io::Result<()> {
-    run_case_files(&rt, "cases", Asked::Prints)?;
-    run_order_files(&rt)?;
-    run_loss_files(&rt)?;
-    run_worker_files(&rt)?;
-    run_case_files(&rt, "altered_reports", Asked::TellsReport)?;
-    run_case_files(&rt, "other_plans", Asked::TellsPlan)?;
-    run_case_files(&rt, "edges", Asked::EndsAtEdges)
+    let call: Call = Box::new(
+        rt.alloc(),
+        move |words: &Line, source: &mut BytesSource, sink: &mut BytesSink, gate: &Meeting| {
+            let whole_host::Ended {
+                status,
+                turns,
+                journal,
+            } = ghost_(&rt, rt.alloc(), words, source, sink, gate);
+            Ended {
+                status,
+                turns,
+                journal,
+            }
+        },
+    )?;
+    let program = Program::new(call);
+    run_case_files(&rt, &program, "cases", Asked::Prints)?;
+    run_order_files(&rt, &program)?;
+    run_loss_files(&rt, &program)?;
+    run_worker_files(&rt, &program)?;
+    run_meeting_files(&rt, &program)?;
+    run_case_files(&rt, &program, "altered_reports", Asked::TellsReport)?;
+    run_case_files(&rt, &program, "other_plans", Asked::TellsPlan)?;
+    run_case_files(&rt, &program, "edges", Asked::EndsAtEdges)
 }

@@ -1,35 +1,42 @@
-//! The top call over a plan.
+//! A call of the program with a plan.
 
+use crate::meeting::Meeting;
+use crate::program::{Ended, Program};
 use alone_reports::is_as_alone;
-use gho_edges::{BytesSink, BytesSource, OpenGate};
+use call_endings::Turns;
+use command_words::Line;
+use gho_edges::{BytesSink, BytesSource};
 use std::alloc::{AllocError, Global};
-use std::sync::Wait;
-use std::thread::Threads;
-use whole_host::{Ended, Line, Turns, ghost_};
 
 /// Where the source and the sink of a call fail, if they do.
 #[derive(Clone, Copy)]
-pub struct Edges {
+pub(crate) struct Edges {
     /// The byte of the plan at which the source fails.
-    pub source_fails: Option<usize>,
+    pub(crate) source_fails: Option<usize>,
     /// How many bytes the sink takes before it fails.
-    pub sink_fails: Option<usize>,
+    pub(crate) sink_fails: Option<usize>,
 }
+
+/// Neither fails.
+pub(crate) const SOUND: Edges = Edges {
+    source_fails: None,
+    sink_fails: None,
+};
 
 /// How a call ended, and what it left.
 #[derive(Drop)]
-pub struct Ran {
+pub(crate) struct Ran {
     /// How it ended.
-    pub ended: Ended,
+    pub(crate) ended: Ended,
     /// The source, from which the plan was read.
-    pub source: BytesSource,
+    pub(crate) source: BytesSource,
     /// The sink, which holds what was printed.
-    pub sink: BytesSink,
+    pub(crate) sink: BytesSink,
 }
 
 impl Ran {
     /// Whether one at a time gives for this plan, of the journal of the run, the clients and the tables of this report.
-    pub fn is_as_alone(
+    pub(crate) fn is_as_alone(
         &self,
         alloc: Global,
         plan: &[u8],
@@ -53,17 +60,20 @@ fn line_of(alloc: Global, words: &str) -> Result<Line, AllocError> {
     Ok(line)
 }
 
-/// What the top call does with a plan under the words of a command line, between a source and a sink that may fail.
-pub fn run_between<R: Threads + Wait + Sync + AllocGlobal>(
-    rt: &R,
-    edges: Edges,
+/// What the program does with a plan under the words of a command line, between a source and a sink that may fail, and at a
+/// gate.
+pub(crate) fn run_between(
+    alloc: Global,
+    program: &Program,
     words: &str,
     plan: &[u8],
+    edges: Edges,
+    gate: &Meeting,
 ) -> Result<Ran, AllocError> {
-    let line = line_of(rt.alloc(), words)?;
-    let mut source = BytesSource::new(plan.to_vec(rt.alloc())?, edges.source_fails);
-    let mut sink = BytesSink::new(rt.alloc(), edges.sink_fails);
-    let ended = ghost_(rt, rt.alloc(), &line, &mut source, &mut sink, &OpenGate);
+    let line = line_of(alloc, words)?;
+    let mut source = BytesSource::new(plan.to_vec(alloc)?, edges.source_fails);
+    let mut sink = BytesSink::new(alloc, edges.sink_fails);
+    let ended = program.call(&line, &mut source, &mut sink, gate);
     Ok(Ran {
         ended,
         source,
@@ -71,30 +81,28 @@ pub fn run_between<R: Threads + Wait + Sync + AllocGlobal>(
     })
 }
 
-/// What the top call does with a plan under the words of a command line.
-pub fn run<R: Threads + Wait + Sync + AllocGlobal>(
-    rt: &R,
+/// What the program does with a plan under the words of a command line.
+pub(crate) fn run(
+    alloc: Global,
+    program: &Program,
     words: &str,
     plan: &[u8],
 ) -> Result<Ran, AllocError> {
-    let edges = Edges {
-        source_fails: None,
-        sink_fails: None,
-    };
-    run_between(rt, edges, words, plan)
+    run_between(alloc, program, words, plan, SOUND, &Meeting::new(0))
 }
 
 /// Whose turns the run of the plan of these lines took, of which the first comes before all others; none where no turn was
 /// taken, or one at a time gives something else.
-pub fn turns_as_alone<R: Threads + Wait + Sync + AllocGlobal>(
-    rt: &R,
+pub(crate) fn turns_as_alone(
+    alloc: Global,
+    program: &Program,
     first: &str,
     others: &str,
 ) -> Result<Option<Turns>, AllocError> {
-    let text = format!(in rt.alloc(); "{first}\n{others}")?;
+    let text = format!(in alloc; "{first}\n{others}")?;
     let plan = text.as_str().as_bytes();
-    let ran = run(rt, "replay", plan)?;
-    let is_so = ran.is_as_alone(rt.alloc(), plan, ran.sink.held())?;
+    let ran = run(alloc, program, "replay", plan)?;
+    let is_so = ran.is_as_alone(alloc, plan, ran.sink.held())?;
     let Ran {
         ended,
         source: _source,

@@ -1,11 +1,11 @@
 //! Files of cases.
 
+use crate::asked::{Asked, is_as_expected};
+use crate::cases::Case;
 use crate::folder::{names_in, text_in};
-use case_runs::{Asked, Case, is_as_expected};
+use crate::program::Program;
 use std::io;
 use std::rt::Files;
-use std::sync::Wait;
-use std::thread::Threads;
 
 /// How many cases a file has, and how many of them are as expected.
 #[derive(Clone, Copy)]
@@ -15,14 +15,15 @@ struct Count {
 }
 
 /// Runs a case, and says so where it isn't as expected.
-fn run_case<R: Print + Threads + Wait + Sync + AllocGlobal>(
+fn run_case<R: Print + AllocGlobal>(
     rt: &R,
+    program: &Program,
     asked: Asked,
     count: &mut Count,
     case: &Case<'_>,
 ) -> io::Result<()> {
     count.cases = count.cases.saturating_add(1);
-    if is_as_expected(rt, asked, case)? {
+    if is_as_expected(rt.alloc(), program, asked, case)? {
         count.expected = count.expected.saturating_add(1);
         Ok(())
     } else {
@@ -31,8 +32,9 @@ fn run_case<R: Print + Threads + Wait + Sync + AllocGlobal>(
 }
 
 /// Runs the cases of a text, and counts them.
-fn run_cases<R: Print + Threads + Wait + Sync + AllocGlobal>(
+fn run_cases<R: Print + AllocGlobal>(
     rt: &R,
+    program: &Program,
     asked: Asked,
     text: &str,
 ) -> io::Result<Count> {
@@ -44,7 +46,7 @@ fn run_cases<R: Print + Threads + Wait + Sync + AllocGlobal>(
     for line in text.lines() {
         if let Some(head) = line.strip_prefix("#### case ") {
             if let Some(case) = case {
-                run_case(rt, asked, &mut count, &case)?;
+                run_case(rt, program, asked, &mut count, &case)?;
             }
             case = Some(Case::new(rt.alloc(), head));
         } else if let Some(case) = &mut case {
@@ -52,21 +54,22 @@ fn run_cases<R: Print + Threads + Wait + Sync + AllocGlobal>(
         }
     }
     if let Some(case) = case {
-        run_case(rt, asked, &mut count, &case)?;
+        run_case(rt, program, asked, &mut count, &case)?;
     }
     Ok(count)
 }
 
 /// Runs the files of cases of this folder.
-pub fn run_case_files<R: Print + Threads + Wait + Sync + AllocGlobal + Files>(
+pub fn run_case_files<R: Print + AllocGlobal + Files>(
     rt: &R,
+    program: &Program,
     folder: &str,
     asked: Asked,
 ) -> io::Result<()> {
     let names = names_in(rt, folder)?;
     for name in names.lines() {
         let text = text_in(rt, folder, name)?;
-        let count = run_cases(rt, asked, text.as_str())?;
+        let count = run_cases(rt, program, asked, text.as_str())?;
         println!(rt;
             "{name}: {} of {} cases are as expected",
             count.expected, count.cases

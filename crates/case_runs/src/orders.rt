@@ -3,12 +3,12 @@
 ghost use Rattle.std.specs.Prelude.{◌<◌};
 
 use crate::folder::{names_in, text_in};
-use case_runs::{Turn, Turns, turns_as_alone};
+use crate::program::Program;
+use crate::runs::turns_as_alone;
+use call_endings::{Turn, Turns};
 use std::alloc::{AllocError, Global};
 use std::io;
 use std::rt::Files;
-use std::sync::Wait;
-use std::thread::Threads;
 
 /// How many orders each plan is run in.
 const ORDERS: u64 = 200;
@@ -73,14 +73,20 @@ fn is_new(earlier: &[Turns], turns: &[Turn]) -> bool {
 }
 
 /// Runs a plan in the orders, and counts those that are as one at a time, each unlike all before it.
-fn run_orders<R: Print + Threads + Wait + Sync + AllocGlobal>(
+fn run_orders<R: Print + AllocGlobal>(
     rt: &R,
+    program: &Program,
     name: &str,
     plan: &str,
 ) -> io::Result<u64> {
     let mut earlier: Vec<Turns> = Vec::new(rt.alloc());
     for number in 1..=ORDERS {
-        match turns_as_alone(rt, order_line(rt.alloc(), number)?.as_str(), plan)? {
+        match turns_as_alone(
+            rt.alloc(),
+            program,
+            order_line(rt.alloc(), number)?.as_str(),
+            plan,
+        )? {
             Some(turns) if is_new(earlier.as_slice(), turns.as_slice()) => earlier.push(turns)?,
             _ => println!(rt; "{name}: order {number} is not")?,
         }
@@ -89,13 +95,14 @@ fn run_orders<R: Print + Threads + Wait + Sync + AllocGlobal>(
 }
 
 /// Runs each plan of the folder `orders` in the orders.
-pub fn run_order_files<R: Print + Threads + Wait + Sync + AllocGlobal + Files>(
+pub fn run_order_files<R: Print + AllocGlobal + Files>(
     rt: &R,
+    program: &Program,
 ) -> io::Result<()> {
     let names = names_in(rt, "orders")?;
     for name in names.lines() {
         let plan = text_in(rt, "orders", name)?;
-        let count = run_orders(rt, name, plan.as_str())?;
+        let count = run_orders(rt, program, name, plan.as_str())?;
         println!(rt; "{name}: {count} of {ORDERS} orders are as one at a time")?;
     }
     Ok(())

@@ -1,0 +1,49 @@
+//! The program whose calls are tried.
+
+use crate::meeting::Meeting;
+use call_endings::Turns;
+use command_words::Line;
+use gho_edges::{BytesSink, BytesSource};
+use plain_server::Journal;
+
+/// How a call of the program ended.
+#[derive(Drop)]
+pub struct Ended {
+    /// The number of its status.
+    pub status: u8,
+    /// Whose turns its run took, in order.
+    pub turns: Turns,
+    /// The turns of its run, as the run kept them.
+    pub journal: Journal,
+}
+
+/// Does what words ask for, of a plan that a source has, gives a text to a sink, and says how it ended. The gate is told of each
+/// turn of a worker's.
+pub type Call = Box<dyn Fn(&Line, &mut BytesSource, &mut BytesSink, &Meeting) -> Ended>;
+
+/// A program.
+#[derive(Drop)]
+pub struct Program {
+    call: Call,
+    ghost callable: { IsAlwaysCallable call },
+}
+
+impl Program {
+    /// The program that is called so.
+    pub fn new(call: Call) -> Program
+        requires { IsAlwaysCallable call }
+    {
+        Program { call }
+    }
+
+    /// Does what the words ask for.
+    pub(crate) fn call(
+        &self,
+        words: &Line,
+        source: &mut BytesSource,
+        sink: &mut BytesSink,
+        gate: &Meeting,
+    ) -> Ended {
+        (self.call)(words, source, sink, gate)
+    }
+}
