@@ -508,3 +508,27 @@ scene_25 =
 scene_served_25 : IsServed (record { client_wait = 50; tool_wait = 1 }) scene_tables_25 scene_25
 unfolding computing
 scene_served_25 = record { answers = refl; sides = refl }
+
+-- A read that waited for a lock, and then for a RENAME, finds the table gone
+abbrev scene_tables_26 : Database
+scene_tables_26 = record { schema = record { name = codes "t"; columns = record { name = codes "id"; kind = Int 4 false; nullable = false; default = None } ∷ []; uniques = record { name = None; places = 0 ∷ [] } ∷ []; indexes = []; comment = [] }; rows = [] } ∷ []
+
+abbrev scene_26 : List Entry
+scene_26 =
+    record { actor = Client 1; session = 1; asked = Call (requests.Begin); side = None; answer = answers.Ok 0; missed = None }
+    ∷ record { actor = Client 1; session = 1; asked = Call (requests.Do (statements.Select (codes "t") shown.All conditions.All)); side = None; answer = answers.Rows ([]); missed = None }
+    ∷ record { actor = Lock; session = 2; asked = Call (requests.LockTables (codes "t" ∷ [])); side = None; answer = answers.Waits 1; missed = None }
+    ∷ record { actor = Client 2; session = 3; asked = Call (requests.Do (statements.Select (codes "t") shown.All conditions.All)); side = None; answer = answers.Waits 2; missed = None }
+    ∷ record { actor = Client 1; session = 1; asked = Call (requests.Commit); side = None; answer = answers.Ok 0; missed = None }
+    ∷ record { actor = Lock; session = 2; asked = Poll; side = None; answer = answers.Ok 0; missed = None }
+    ∷ record { actor = Ren; session = 4; asked = Call (requests.Rename (record { old = codes "t"; new = codes "u" } ∷ [])); side = None; answer = answers.Waits 2; missed = None }
+    ∷ record { actor = Client 2; session = 3; asked = Poll; side = None; answer = answers.Waits 2; missed = None }
+    ∷ record { actor = Lock; session = 2; asked = Call (requests.Unlock); side = None; answer = answers.Ok 0; missed = None }
+    ∷ record { actor = Client 2; session = 3; asked = Poll; side = None; answer = answers.Waits 4; missed = None }
+    ∷ record { actor = Ren; session = 4; asked = Poll; side = None; answer = answers.Ok 0; missed = None }
+    ∷ record { actor = Client 2; session = 3; asked = Poll; side = None; answer = answers.Refused 1146 None; missed = None }
+    ∷ []
+
+scene_served_26 : IsServed (record { client_wait = 50; tool_wait = 50 }) scene_tables_26 scene_26
+unfolding computing
+scene_served_26 = record { answers = refl; sides = refl }
