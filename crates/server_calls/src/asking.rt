@@ -1,0 +1,170 @@
+//! Requests of sessions, where they may come.
+
+ghost use Rattle.std.specs.Prelude.{◌≡◌, true, IfOk};
+ghost use Rattle.schema_rules.specs.Lawful.{IsLawful};
+ghost use Rattle.plain_server.specs.Conditions.{IsTableName};
+
+use case_lines::{CallFault, place_of};
+use final_server::FinalServer;
+use gho_schema::Schema;
+use gho_values::{Name, Names, Sequence};
+use plain_server::{Answer, Request};
+use schema_laws::read_schemas_are_lawful;
+use schema_rules::is_column_name;
+use schema_text::read_schema;
+use script_reader::{StatementFault, read_statement};
+use script_text::{ScriptWord, Statement};
+use serving::Serve;
+use std::alloc::{AllocError, Global};
+use table_words::{SchemaFault, text_words};
+
+/// The names of a list with blanks between them.
+pub fn names_of(alloc: Global, text: &str) -> Result<Names, AllocError> {
+    let mut names = Sequence::new(alloc);
+    for name in text.split(' ') {
+        names.push(Name::new(alloc, name)?)?;
+    }
+    Ok(names)
+}
+
+/// BEGIN.
+fn begin(server: &mut FinalServer, session: u32) -> Result<Option<Answer>, AllocError> {
+    if !server.live(session)
+        || server.waits(session)
+        || server.in_transaction(session)
+        || server.locked(session)
+    {
+        return Ok(None);
+    }
+    Ok(Some(server.call(session, &Request::Begin)?))
+}
+
+/// COMMIT.
+fn commit(server: &mut FinalServer, session: u32) -> Result<Option<Answer>, AllocError> {
+    if !server.live(session) || server.waits(session) || !server.in_transaction(session) {
+        return Ok(None);
+    }
+    Ok(Some(server.call(session, &Request::Commit)?))
+}
+
+/// ROLLBACK.
+fn roll_back(server: &mut FinalServer, session: u32) -> Result<Option<Answer>, AllocError> {
+    if !server.live(session) || server.waits(session) || !server.in_transaction(session) {
+        return Ok(None);
+    }
+    Ok(Some(server.call(session, &Request::Rollback)?))
+}
+
+/// The first events of these tables at the position or behind it.
+fn read_log(
+    server: &mut FinalServer,
+    session: u32,
+    position: u32,
+    limit: u32,
+    tables: Names,
+) -> Result<Option<Answer>, AllocError> {
+    if !server.live(session) || server.waits(session) || limit == 0 {
+        return Ok(None);
+    }
+    let request = Request::ReadLog {
+        position: u64::from(position),
+        limit,
+        tables,
+    };
+    Ok(Some(server.call(session, &request)?))
+}
+
+/// The first events of tables, as `0 2 t` asks: at the position 0 or behind it, two at most.
+fn look_at_log(
+    alloc: Global,
+    server: &mut FinalServer,
+    session: u32,
+    text: &str,
+) -> Result<Option<Answer>, CallFault> {
+    let (position, rest) = text.split_once(' ').ok_or(CallFault::Unread)?;
+    let (limit, tables) = rest.split_once(' ').ok_or(CallFault::Unread)?;
+    let tables = names_of(alloc, tables)?;
+    let answer = read_log(
+        server,
+        session,
+        place_of(position)?,
+        place_of(limit)?,
+        tables,
+    )?;
+    Ok(answer)
+}
+
+/// The statement of a text.
+fn statement_of(alloc: Global, text: &str) -> Result<Statement, CallFault> {
+    let words = text_words(alloc, text)?;
+    match read_statement(alloc, words.words.as_slice()) {
+        Ok(ScriptWord::Do(statement)) => Ok(statement),
+        Ok(_) => Err(CallFault::Unread),
+        Err(StatementFault::Refused(_)) => Err(CallFault::Unread),
+        Err(StatementFault::Memory) => Err(CallFault::Memory),
+    }
+}
+
+/// A statement.
+fn do_statement(
+    alloc: Global,
+    server: &mut FinalServer,
+    session: u32,
+    text: &str,
+) -> Result<Option<Answer>, CallFault> {
+    let statement = statement_of(alloc, text)?;
+    if !server.live(session) || server.waits(session) {
+        return Ok(None);
+    }
+    Ok(Some(server.call(session, &Request::Do(statement))?))
+}
+
+/// What the session is answered to BEGIN, COMMIT, ROLLBACK, `log 0 2 t` or a statement; nothing where it may not ask for
+/// that now.
+pub fn ask(
+    alloc: Global,
+    server: &mut FinalServer,
+    session: u32,
+    text: &str,
+) -> Result<Option<Answer>, CallFault> {
+    match text {
+        "BEGIN" => Ok(begin(server, session)?),
+        "COMMIT" => Ok(commit(server, session)?),
+        "ROLLBACK" => Ok(roll_back(server, session)?),
+        _ => match text.strip_prefix("log ") {
+            Some(rest) => look_at_log(alloc, server, session, rest),
+            None => do_statement(alloc, server, session, text),
+        },
+    }
+}
+
+/// Whether a table may have this name.
+#[tactic(auto, unfolding(schema_rules::specs::Limits::is_name_length))]
+fn is_table_name(name: &Name) -> bool
+    ensures { result ≡ true → IsTableName name.now }
+{
+    let text = name.as_str();
+    1 <= text.len() && text.len() <= 255 && is_column_name(text)
+}
+
+/// The lawful schema of a text of CREATE TABLE.
+fn schema_of(alloc: Global, text: &str) -> Result<Schema, CallFault>
+    ensures { IfOk result IsLawful }
+{
+    read_schemas_are_lawful();
+    match read_schema(alloc, text, "") {
+        Ok(schema) => Ok(schema),
+        Err(SchemaFault::Refused(_)) => Err(CallFault::Unread),
+        Err(SchemaFault::Memory) => Err(CallFault::Memory),
+    }
+}
+
+/// Makes the table of a text of CREATE TABLE, as the first session asks.
+pub fn create(alloc: Global, server: &mut FinalServer, text: &str) -> Result<(), CallFault> {
+    let schema = schema_of(alloc, text)?;
+    if !server.live(1) || server.waits(1) || !is_table_name(&schema.name) {
+        return Err(CallFault::Unread);
+    }
+    let _answer = server.call(1, &Request::Create(schema))?;
+    Ok(())
+}

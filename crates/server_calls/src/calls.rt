@@ -1,0 +1,76 @@
+//! Calls on the final server, with semicolons between them. `CREATE TABLE ..` makes a table, and is told nothing of.
+//! `1 BEGIN`, `2 INSERT INTO t VALUES (1)` and the like are what the sessions 1 to 3 ask, whose waits are never polled, and so
+//! is `1 log 0 2 t`: the first two events of the table at the position 0 or behind it, told behind the position that
+//! follows them. `unread 0 t` tells how many events there are, and `rows t` the table's committed rows. What may not come
+//! now is told so.
+
+use crate::asking::{ask, create, names_of};
+use crate::opening::open;
+use crate::telling::{say_asked, say_number};
+use case_lines::{CallFault, place_of, say};
+use final_server::FinalServer;
+use gho_values::{Name, Text, print_row};
+use serving::Serve;
+use std::alloc::{AllocError, Global};
+
+/// Says the committed rows of the table of this name.
+fn say_table(
+    alloc: Global,
+    server: &FinalServer,
+    name: &str,
+    told: &mut Text,
+) -> Result<(), AllocError> {
+    let Some(table) = server.tables().find(&Name::new(alloc, name)?) else {
+        return say(told, "missing");
+    };
+    say(told, "rows")?;
+    for row in table.rows() {
+        told.push_str(" ")?;
+        print_row(row.as_slice(), told)?;
+    }
+    Ok(())
+}
+
+/// Says how many events stand at a position or behind it, as `0 t` asks.
+fn say_unread(
+    alloc: Global,
+    server: &FinalServer,
+    input: &str,
+    told: &mut Text,
+) -> Result<(), CallFault> {
+    let (position, tables) = input.split_once(' ').ok_or(CallFault::Unread)?;
+    let tables = names_of(alloc, tables)?;
+    let unread = server.unread(u64::from(place_of(position)?), &tables);
+    say_number(told, "", i128::from(unread))?;
+    Ok(())
+}
+
+/// Takes one call.
+fn take(
+    alloc: Global,
+    server: &mut FinalServer,
+    call: &str,
+    told: &mut Text,
+) -> Result<(), CallFault> {
+    let (word, input) = call.split_once(' ').ok_or(CallFault::Unread)?;
+    match word {
+        "CREATE" => create(alloc, server, call)?,
+        "rows" => say_table(alloc, server, input, told)?,
+        "unread" => say_unread(alloc, server, input, told)?,
+        _ => {
+            let answer = ask(alloc, server, place_of(word)?, input)?;
+            say_asked(told, answer.as_ref())?;
+        }
+    }
+    Ok(())
+}
+
+/// What the calls say, on a server whose log counts the events of `t`.
+pub fn answers(alloc: Global, input: &str) -> Result<Text, CallFault> {
+    let mut server = open(alloc, names_of(alloc, "t")?)?;
+    let mut told = Text::new(alloc);
+    for call in input.split("; ") {
+        take(alloc, &mut server, call, &mut told)?;
+    }
+    Ok(told)
+}
