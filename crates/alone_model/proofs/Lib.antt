@@ -1,7 +1,4 @@
-mod CopiedTables
 mod Happenings
 mod Imaged
 mod Lawful
 mod Serial
-mod Sets
-mod Updates

@@ -9,7 +9,7 @@ ghost use Rattle.journal_words.specs.Altering.{imaged, altered_table, plan_alter
 ghost use Rattle.journal_words.specs.Serials.{altered_in, altered_database};
 ghost use Rattle.alone_model.specs.Histories.{AreLawful};
 
-use crate::plain::{PlainTable, PlainTables, find_table, is_named};
+use alone_statements::{PlainTable, PlainTables, find_table, is_named};
 use alter_image::{ImageFault, MapColumn, image};
 use alter_schema::{AlterFault, altered};
 use gho_schema::Schema;
@@ -48,7 +48,7 @@ fn imaged(
         return Err(AllocError);
     }
     match images(alloc, map, rows)? {
-        Some(rows) => Ok(Some(PlainTable { schema, rows })),
+        Some(rows) => Ok(Some(PlainTable::new(schema, rows))),
         None => Ok(None),
     }
 }
@@ -64,8 +64,8 @@ fn altered_table(
     ensures { IfOk result (λ made. made ≡ plan_altered_table plan.now table.now) }
 {
     let approve = plan.options().approve_renamed_columns;
-    match altered(alloc, &table.schema, plan.alter(), approve) {
-        Ok((schema, map)) => imaged(alloc, schema, map.as_slice(), table.rows.as_slice()),
+    match altered(alloc, table.schema(), plan.alter(), approve) {
+        Ok((schema, map)) => imaged(alloc, schema, map.as_slice(), table.rows()),
         Err(AlterFault::Refused(_)) => Ok(None),
         Err(AlterFault::Memory) => Err(AllocError),
     }

@@ -4,8 +4,7 @@ ghost use Rattle.std.specs.Prelude.{◌≡◌, if◌then◌else◌, IfOk};
 ghost use Rattle.row_store.specs.Databases.{is_named, with_change};
 ghost use Rattle.plain_server.specs.Jobs.{change_table, after_events};
 
-use crate::plain::{PlainTable, PlainTables, is_named};
-use crate::rows::change_rows;
+use alone_statements::{PlainTable, PlainTables, change_rows, is_named};
 use event_codec::{Change, RowEvent};
 use gho_values::{Duplicate, Name, Sequence};
 use std::alloc::{AllocError, Global};
@@ -22,16 +21,9 @@ fn change_if_named(
     if !is_named(name, table) {
         return table.copy();
     }
-    let rows = change_rows(
-        alloc,
-        table.schema.key_places(),
-        change,
-        table.rows.as_slice(),
-    )?;
-    Ok(PlainTable {
-        schema: table.schema.copy()?,
-        rows,
-    })
+    let places = table.schema().key_places();
+    let rows = change_rows(alloc, places, change, table.rows())?;
+    Ok(PlainTable::new(table.schema().copy()?, rows))
 }
 
 /// The tables after an event.

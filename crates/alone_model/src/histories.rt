@@ -10,8 +10,8 @@ ghost use Rattle.alone_model.specs.Histories.{with_replies, alone_in_order, goes
 ghost use Rattle.alone_model.specs.declared.histories.Happening.{Happening};
 
 use crate::altering::altered_database;
-use crate::plain::PlainTables;
 use crate::runs::alone;
+use alone_statements::PlainTables;
 use alter_laws::altered_schemas_are_lawful;
 use gho_values::{Duplicate, Sequence};
 use plain_server::{Replies, TxnLines};

@@ -6,7 +6,7 @@ ghost use Rattle.row_store.specs.Databases.{Database, find_table};
 ghost use Rattle.changelog_table.specs.ToolNames.{is_tool_name};
 ghost use Rattle.journal_words.specs.Serials.{tables_left};
 
-use crate::plain::{PlainTable, PlainTables, find_table, plain_tables};
+use alone_statements::{PlainTable, PlainTables, find_table, plain_tables};
 use changelog_table::is_tool_name;
 use gho_values::{Duplicate, Name, Sequence};
 use plan_words::Plan;
@@ -33,10 +33,10 @@ fn clients_of(
 {
     let mut left = Sequence::new(alloc);
     for table in opening {
-        if is_tool_name(migrated, &table.schema.name) {
+        if is_tool_name(migrated, &table.schema().name) {
             continue;
         }
-        push_found(&mut left, find_table(&table.schema.name, tables))?;
+        push_found(&mut left, find_table(&table.schema().name, tables))?;
     }
     Ok(left)
 }

@@ -3,8 +3,7 @@
 ghost use Rattle.std.specs.Prelude.{◌≡◌, IfOk, option_to_list};
 ghost use Rattle.plain_server.specs.Alone.{reply_of, line_says, line_events, line_replies};
 
-use crate::plain::PlainTable;
-use crate::saying::says;
+use alone_statements::{PlainTable, says};
 use event_codec::Events;
 use gho_values::Sequence;
 use plain_server::{Answer, Mark, Reply, StatementResult, TxnLine};

@@ -6,7 +6,7 @@ ghost use Rattle.plain_server.specs.Alone.{lines_run, nothing_ran, outcome_if, a
 use crate::changing::after_events;
 use crate::lines::{line_events, line_reply};
 use crate::marks::stays;
-use crate::plain::PlainTables;
+use alone_statements::PlainTables;
 use event_codec::Events;
 use gho_values::{Duplicate, Sequence};
 use plain_server::{Replies, Reply, TxnLine};

@@ -1,6 +1,6 @@
 //! Tables as a report prints them.
 
-use alone_model::PlainTable;
+use alone_statements::PlainTable;
 use gho_schema::Schema;
 use gho_values::{Row, Text, print_row};
 use std::alloc::AllocError;

@@ -1,0 +1,3 @@
+mod CopiedTables
+mod Sets
+mod Updates

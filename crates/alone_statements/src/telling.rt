@@ -1,0 +1,143 @@
+//! What a statement says of the rows of its table.
+
+ghost use Rattle.std.specs.Prelude.{◌≡◌, ◌∷◌, [], map, IfOk};
+ghost use Rattle.event_codec.specs.declared.event.Change.TheVariants as changes;
+ghost use Rattle.plain_server.specs.declared.answer.Answer.TheVariants as answers;
+ghost use Rattle.plain_server.specs.declared.work.Work.TheVariants as works;
+ghost use Rattle.plain_server.specs.Saying.{only, tells};
+ghost use Rattle.alone_statements.specs.Told.{as_result};
+
+use crate::meeting::{clashes, displaced, rows_met};
+use crate::plain::PlainTable;
+use crate::selecting::selected;
+use crate::updating::updated;
+use event_codec::Change;
+use gho_values::{Duplicate, Row, Rows, Sequence};
+use plain_server::{Answer, Reach, Selection, Work};
+use statement_checks::refuses;
+use std::alloc::{AllocError, Global};
+
+/// Changes of the rows of one table, in order.
+pub type Changes = Sequence<Change>;
+
+/// What a statement says.
+#[derive(Debug, Drop)]
+pub struct Told {
+    /// The answer.
+    pub answer: Answer,
+    /// The changes of its table's rows.
+    pub changes: Changes,
+}
+
+/// An answer that changes nothing. It takes no memory.
+pub fn only(alloc: Global, answer: Answer) -> Told
+    ensures { as_result result ≡ only answer }
+{
+    Told {
+        answer,
+        changes: Sequence::new(alloc),
+    }
+}
+
+/// Removals of rows.
+fn deletes(alloc: Global, rows: &[Row]) -> Result<Changes, AllocError>
+    ensures { IfOk result (λ all. all ≡ map changes.Delete rows.now) }
+{
+    let mut all = Sequence::new(alloc);
+    for row in rows {
+        all.push(Change::Delete(row.copy()?))?;
+    }
+    Ok(all)
+}
+
+/// A row is written that clashes with none.
+fn one_written(alloc: Global, row: &Row) -> Result<Told, AllocError>
+    ensures { IfOk result (λ told. as_result told ≡ record { answer = answers.Ok 1; changes = changes.Write row.now ∷ [] }) }
+{
+    let mut changes = Sequence::new(alloc);
+    changes.push(Change::Write(row.copy()?))?;
+    Ok(Told {
+        answer: Answer::Ok(1),
+        changes,
+    })
+}
+
+/// What an INSERT says: 1062 where its row clashes with one.
+#[tactic(auto, unfolding(plain_server::specs::Saying::tells))]
+fn insert(alloc: Global, table: &PlainTable, row: &Row) -> Result<Told, AllocError>
+    ensures { IfOk result (λ told. as_result told ≡ tells table.now.schema table.now.rows (works.Insert row.now)) }
+{
+    if clashes(alloc, &table.schema, row, table.rows.as_slice())? {
+        return Ok(only(alloc, refuses(1062)));
+    }
+    one_written(alloc, row)
+}
+
+/// What an INSERT IGNORE says: nothing is done where its row clashes with one.
+#[tactic(auto, unfolding(plain_server::specs::Saying::tells))]
+fn copy(alloc: Global, table: &PlainTable, row: &Row) -> Result<Told, AllocError>
+    ensures { IfOk result (λ told. as_result told ≡ tells table.now.schema table.now.rows (works.Copy row.now)) }
+{
+    if clashes(alloc, &table.schema, row, table.rows.as_slice())? {
+        return Ok(only(alloc, Answer::Ok(0)));
+    }
+    one_written(alloc, row)
+}
+
+/// What a REPLACE says: the rows that clash with its row are removed, and counted with it.
+#[tactic(auto, unfolding(plain_server::specs::Saying::tells))]
+fn replace(alloc: Global, table: &PlainTable, row: &Row) -> Result<Told, AllocError>
+    ensures { IfOk result (λ told. as_result told ≡ tells table.now.schema table.now.rows (works.Replace row.now)) }
+{
+    let displaced = displaced(alloc, &table.schema, row, table.rows.as_slice())?;
+    let count = displaced.len() as u64;
+    let mut changes = deletes(alloc, displaced.as_slice())?;
+    changes.push(Change::Write(row.copy()?))?;
+    Ok(Told {
+        answer: Answer::Ok(1 + count),
+        changes,
+    })
+}
+
+/// What a DELETE says: the rows that it reaches are removed.
+#[tactic(auto, unfolding(plain_server::specs::Saying::tells))]
+fn delete(alloc: Global, table: &PlainTable, reach: &Reach) -> Result<Told, AllocError>
+    ensures { IfOk result (λ told. as_result told ≡ tells table.now.schema table.now.rows (works.Delete reach.now)) }
+{
+    let met = rows_met(alloc, &table.schema, reach, table.rows.as_slice())?;
+    let count = met.len() as u64;
+    Ok(Told {
+        answer: Answer::Ok(count),
+        changes: deletes(alloc, met.as_slice())?,
+    })
+}
+
+/// What a SELECT says.
+#[tactic(auto, unfolding(plain_server::specs::Saying::tells))]
+fn select(
+    alloc: Global,
+    table: &PlainTable,
+    reach: &Reach,
+    selection: &Selection,
+) -> Result<Told, AllocError>
+    ensures { IfOk result (λ told. as_result told ≡ tells table.now.schema table.now.rows (works.Select reach.now selection.now)) }
+{
+    let met = rows_met(alloc, &table.schema, reach, table.rows.as_slice())?;
+    Ok(only(alloc, selected(alloc, selection, met)?))
+}
+
+/// What a statement's work says of its table.
+#[tactic(auto, unfolding(plain_server::specs::Saying::tells))]
+pub fn tells(alloc: Global, table: &PlainTable, work: &Work) -> Result<Told, AllocError>
+    ensures { IfOk result (λ told. as_result told ≡ tells table.now.schema table.now.rows work.now) }
+{
+    match work {
+        Work::Refuse(refusal) => Ok(only(alloc, refusal.copy()?)),
+        Work::Insert(row) => insert(alloc, table, row),
+        Work::Copy(row) => copy(alloc, table, row),
+        Work::Replace(row) => replace(alloc, table, row),
+        Work::Delete(reach) => delete(alloc, table, reach),
+        Work::Update { reach, sets } => updated(alloc, table, reach, sets),
+        Work::Select { reach, selection } => select(alloc, table, reach, selection),
+    }
+}
