@@ -1,7 +1,6 @@
 //! The events of the log: what a committed transaction wrote, row by row, and how each is encoded in bytes.
 #![tactic(auto)]
 
-mod characters;
 mod encoding;
 mod event;
 mod fault;

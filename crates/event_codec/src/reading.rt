@@ -4,10 +4,9 @@ ghost use Rattle.std.specs.Prelude.{◌≡◌, true, false, [], Some, IfOk, Matc
 ghost use Rattle.std.specs.Str.{is_utf8};
 ghost use Rattle.event_codec.specs.Reading.{Reads, taken, sized_at, number_of, number_at, text_of, text_at, blob_at, value_at, with_value, values_at, name_of, name_at, count_at, one_row, two_rows, change_at, event_of, event_at, decoded};
 
-use crate::characters::character_count;
 use crate::event::{Change, RowEvent};
 use crate::fault::DecodeFault;
-use gho_values::{Chars, Name, Row, Sequence, Value};
+use gho_values::{Chars, Name, Row, Sequence, Value, character_count};
 use std::alloc::{AllocError, Global};
 
 /// The first so many bytes and those behind them, or the fault where there are fewer.

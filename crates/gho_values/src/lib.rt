@@ -22,6 +22,6 @@ pub use name::{Name, Names};
 pub use printing::{print_row, print_value};
 pub use sequence::Sequence;
 pub use span::{Bound, Span};
-pub use storing::{number_of, seek, store};
+pub use storing::{character_count, number_of, seek, store};
 pub use text::{Chars, Text};
 pub use value::{Bytes, Key, Keys, Row, Rows, Value};

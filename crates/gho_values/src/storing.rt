@@ -150,8 +150,9 @@ fn half(bytes: u8) -> u64
     }
 }
 
+/// How many characters a text has.
 #[tactic(auto, unfolding(crate::specs::Storing::character_count))]
-fn character_count(text: &str) -> usize
+pub fn character_count(text: &str) -> usize
     ensures { result ≡ character_count text.now }
 {
     text.as_bytes()

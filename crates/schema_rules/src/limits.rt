@@ -2,25 +2,15 @@
 
 ghost use Rattle.std.specs.Prelude.{◌≡◌, IfOk};
 ghost use Rattle.std.specs.Str.{bytes_eq};
-ghost use Rattle.gho_values.specs.Storing.{character_count};
 ghost use Rattle.gho_schema.specs.Names.{is_kept};
 ghost use Rattle.schema_rules.specs.Limits.{is_name_length, is_column_name, tool_name, is_tool_name, is_table_name, is_reserved};
 
+use gho_values::character_count;
 use std::alloc::{AllocError, Global};
 
 const COLUMN_NAME_LIMIT: usize = 64;
 
 const TABLE_NAME_LIMIT: usize = 59;
-
-#[tactic(auto, unfolding(gho_values::specs::Storing::character_count))]
-fn character_count(text: &str) -> usize
-    ensures { result ≡ character_count text.now }
-{
-    text.as_bytes()
-        .iter()
-        .filter(|byte| **byte < 128 || **byte >= 192)
-        .count()
-}
 
 #[tactic(auto, unfolding(crate::specs::Limits::is_name_length))]
 fn is_name_length(limit: usize, name: &str) -> bool
