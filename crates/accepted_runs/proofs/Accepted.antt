@@ -1,21 +1,21 @@
 -- The laws over journals, of accepted plans.
 use Rattle.std.proofs.Common.{◌≡◌, ℕ, Some, sym, ◌∙◌, ap, subst}
 use Rattle.row_store.specs.Databases.{TableRows, Database, find_table}
-use Rattle.schema_rules.proofs.Steps.{some_is}
+use Rattle.gho_values.proofs.SchemaRules.Steps.{some_is}
 use Rattle.plain_server.specs.declared.outcome.Cause.TheVariants as causes
 use Rattle.plain_server.specs.declared.outcome.Task.TheVariants as tasks
 use Rattle.plan_words.specs.PlanData.{PlanData, Altered, altered_by}
-use Rattle.journal_words.specs.Journals.{state_at}
-use Rattle.ghost_laws.specs.Copies.{IsAltered}
-use Rattle.migration_laws.specs.PlanningLaws.Laws.{migration_of}
-use Rattle.attempt_laws.specs.CauseLaws.Laws.{SpentCutOversStand}
-use Rattle.course_laws.specs.ChunkLaws.Laws.{JournalsAreOnline}
+use Rattle.migration_program.specs.JournalWords.Journals.{state_at}
+use Rattle.history_laws.specs.GhostLaws.Copies.{IsAltered}
+use Rattle.revert_laws.specs.MigrationLaws.PlanningLaws.Laws.{migration_of}
+use Rattle.revert_laws.specs.AttemptLaws.CauseLaws.Laws.{SpentCutOversStand}
+use Rattle.revert_laws.specs.CourseLaws.ChunkLaws.Laws.{JournalsAreOnline}
 use Rattle.revert_laws.specs.GoingLaws.Laws.{SomeoneGoes}
 use Rattle.revert_laws.specs.Laws.{KeptJournalsAreSerial, RenamesFindTheAltered}
-use Rattle.course_laws.specs.RunnableLaws.Laws.{IsAlterable}
+use Rattle.revert_laws.specs.CourseLaws.RunnableLaws.Laws.{IsAlterable}
 use Rattle.revert_laws.specs.UnfitLaws.Laws.{UnfitRowsStand}
-use Rattle.attempt_laws.specs.VerdictLaws.Laws.{PanicsStand, SpentTasksStand}
-use Rattle.accepted_laws.specs.Laws.{ReadAttemptsDrain, ReadPlansAreAlterable, ReadPlansAreRunnable, ReadPlansAreSerial, ReadPlansAreWorded, ReadScriptsEnd}
+use Rattle.revert_laws.specs.AttemptLaws.VerdictLaws.Laws.{PanicsStand, SpentTasksStand}
+use Rattle.accepted_runs.specs.AcceptedLaws.Laws.{ReadAttemptsDrain, ReadPlansAreAlterable, ReadPlansAreRunnable, ReadPlansAreSerial, ReadPlansAreWorded, ReadScriptsEnd}
 use Rattle.accepted_runs.specs.Laws.{AcceptedCausesStand, AcceptedRenamesFindTheAltered, AcceptedRunsAreOnline, AcceptedRunsAreSerial, AcceptedRunsGoOn}
 
 -- *Accepted runs are serial*

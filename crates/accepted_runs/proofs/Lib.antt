@@ -1,3 +1,4 @@
 mod Accepted
 pub mod CompleteLaws
 pub mod Tables
+pub mod AcceptedLaws

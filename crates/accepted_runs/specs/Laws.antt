@@ -6,17 +6,17 @@ use Rattle.plain_server.specs.declared.entry.Entry.{Entry}
 use Rattle.plain_server.specs.declared.outcome.Cause.{Cause}
 use Rattle.plain_server.specs.declared.outcome.Verdict.TheVariants.{Reverted}
 use Rattle.plan_words.specs.PlanData.{PlanData, Altered, altered_by}
-use Rattle.journal_words.specs.Journals.{state_at}
-use Rattle.journal_words.specs.Serials.{IsSerial}
+use Rattle.migration_program.specs.JournalWords.Journals.{state_at}
+use Rattle.migration_program.specs.JournalWords.Serials.{IsSerial}
 use Rattle.migration_program.specs.Failures.{Stands}
 use Rattle.migration_program.specs.Online.{IsOnline}
 use Rattle.migration_program.specs.Orders.{actors, is_ready}
 use Rattle.migration_program.specs.Verdicts.{has_ended, verdict_of}
-use Rattle.ghost_laws.specs.Copies.{IsAltered}
-use Rattle.migration_laws.specs.PlanningLaws.Laws.{migration_of}
-use Rattle.run_laws.specs.Kept.{IsKept}
+use Rattle.history_laws.specs.GhostLaws.Copies.{IsAltered}
+use Rattle.revert_laws.specs.MigrationLaws.PlanningLaws.Laws.{migration_of}
+use Rattle.history_laws.specs.RunLaws.Kept.{IsKept}
 use Rattle.revert_laws.specs.RenameLaws.Laws.{IsRename}
-use Rattle.accepted_laws.specs.Laws.{WasRead}
+use Rattle.accepted_runs.specs.AcceptedLaws.Laws.{WasRead}
 use Rattle.accepted_runs.specs.Tables.{FindsTable, KeepsOldTable}
 
 -- *Accepted runs are serial*: clients' replies and the tables that are left are those of the ended transactions run one at a

@@ -12,8 +12,8 @@ use Rattle.plain_server.specs.declared.entry.Entry.{Entry}
 use Rattle.plain_server.specs.declared.request.Request.{Request}
 use Rattle.plan_words.specs.PlanData.{PlanData}
 use Rattle.changelog_table.specs.ToolNames.{old_name}
-use Rattle.journal_words.specs.Histories.{about, entry_adds, is_alter, told_in}
-use Rattle.journal_words.specs.Journals.{state_at}
+use Rattle.migration_program.specs.JournalWords.Histories.{about, entry_adds, is_alter, told_in}
+use Rattle.migration_program.specs.JournalWords.Journals.{state_at}
 
 -- refused with 1146: no such table
 abbrev pub is_missing : Option Answer → Bool

@@ -3,9 +3,11 @@
 ghost use Rattle.accepted_runs.specs.CompleteLaws.Laws.{SmoothRunsAreDone};
 ghost use Rattle.accepted_runs.specs.CompleteLaws.Quiet.{AcceptedQuietRunsAreDone, QuietRunsAreDone};
 
-use accepted_laws::laws::{read_plans_are_runnable, read_plans_are_serial, read_scripts_end};
+use crate::accepted_laws::laws::{
+    read_plans_are_runnable, read_plans_are_serial, read_scripts_end,
+};
 use gho_values::laws::stored_values_store_again;
-use machine_laws::laws::verdicts_tell_the_alter;
+use history_laws::machine_laws::laws::verdicts_tell_the_alter;
 use revert_laws::going_laws::someone_goes;
 
 /// Where no turn hinders the tool, a run that has ended is done.

@@ -2,15 +2,15 @@
 
 ghost use Rattle.accepted_runs.specs.Laws.{AcceptedRunsAreSerial, AcceptedRenamesFindTheAltered, AcceptedRunsAreOnline, AcceptedRunsFindTheTable, AcceptedRunsGoOn, AcceptedRunsKeepTheOldTable, AcceptedCausesStand};
 
-use accepted_laws::laws::{
+use crate::accepted_laws::laws::{
     read_plans_are_runnable, read_plans_are_serial, read_plans_are_worded, read_scripts_end,
 };
-use attempt_laws::cause_laws::spent_cut_overs_stand;
-use attempt_laws::verdict_laws::{panics_stand, spent_tasks_stand};
-use course_laws::chunk_laws::journals_are_online;
-use course_laws::marked_laws::marked_journals_are_runs;
-use course_laws::waits_laws::waits_are_told;
 use history_laws::server_laws::{definitions_are_done, exclusive_is_alone};
+use revert_laws::attempt_laws::cause_laws::spent_cut_overs_stand;
+use revert_laws::attempt_laws::verdict_laws::{panics_stand, spent_tasks_stand};
+use revert_laws::course_laws::chunk_laws::journals_are_online;
+use revert_laws::course_laws::marked_laws::marked_journals_are_runs;
+use revert_laws::course_laws::waits_laws::waits_are_told;
 use revert_laws::going_laws::someone_goes;
 use revert_laws::laws::{kept_journals_are_serial, renames_find_the_altered};
 use revert_laws::once_laws::renames_come_once;

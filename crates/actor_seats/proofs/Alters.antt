@@ -8,8 +8,8 @@ use Rattle.plain_server.specs.declared.transaction.Mark.{Mark}
 use Rattle.plain_server.specs.declared.transaction.Reply.{Reply}
 use Rattle.plain_server.specs.declared.transaction.TxnEnd.{TxnEnd}
 use Rattle.plan_words.specs.PlanData.{PlanData}
-use Rattle.journal_words.specs.Clients.{Reached, Became, Nothing, Waits, Marked, Broken, became, client_at, is_inside, ends_with}
-use Rattle.journal_words.specs.Histories.{ends_so, line_ends, breaks, client_ends, adds, is_alter}
+use Rattle.migration_program.specs.JournalWords.Clients.{Reached, Became, Nothing, Waits, Marked, Broken, became, client_at, is_inside, ends_with}
+use Rattle.migration_program.specs.JournalWords.Histories.{ends_so, line_ends, breaks, client_ends, adds, is_alter}
 
 ends_none : (number : ℕ) (client : Reached) (line : ScriptLine) (mark : Mark) (reply : Option Reply) (ended : Option TxnEnd) → list_any is_alter (ends_so number client line mark reply ended) ≡ false
 ends_none number client line mark reply None = refl

@@ -7,9 +7,9 @@ use Rattle.plain_server.specs.declared.entry.Asked.{Asked}
 use Rattle.plain_server.specs.declared.entry.Asked.TheVariants.{Call, Poll}
 use Rattle.plain_server.specs.declared.entry.Entry.{Entry}
 use Rattle.plain_server.specs.Entries.{same_actor, is_cut}
-use Rattle.journal_words.specs.Journals.{turns_of}
-use Rattle.journal_words.specs.Sessions.{live_session, session_left}
-use Rattle.journal_words.specs.Histories.{request_waiting, renames_away}
+use Rattle.migration_program.specs.JournalWords.Journals.{turns_of}
+use Rattle.migration_program.specs.JournalWords.Sessions.{live_session, session_left}
+use Rattle.migration_program.specs.JournalWords.Histories.{request_waiting, renames_away}
 use Rattle.actor_seats.specs.declared.seat.ActorSeat.{ActorSeat}
 
 -- *Seat*: what is kept of an actor behind the turns of a journal

@@ -5,7 +5,7 @@ ghost use Rattle.std.specs.List.{list_any};
 ghost use Rattle.plain_server.specs.declared.entry.Entry.{Entry};
 ghost use Rattle.plain_server.specs.declared.request.Request.{Request};
 ghost use Rattle.plan_words.specs.PlanData.{PlanData};
-ghost use Rattle.journal_words.specs.Histories.{takes_away, renames_away, request_waiting, asked_about, told_in, entry_adds, is_alter};
+ghost use Rattle.migration_program.specs.JournalWords.Histories.{takes_away, renames_away, request_waiting, asked_about, told_in, entry_adds, is_alter};
 
 use crate::actors::is_client;
 use gho_values::Name;

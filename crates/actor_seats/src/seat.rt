@@ -2,7 +2,7 @@
 
 ghost use Rattle.std.specs.Prelude.{◌≡◌, ◌<◌, ◌^◌, map};
 ghost use Rattle.std.specs.List.{AllByRecursion};
-ghost use Rattle.journal_words.specs.Sessions.{session_left};
+ghost use Rattle.migration_program.specs.JournalWords.Sessions.{session_left};
 ghost use Rattle.actor_seats.specs.Seats.{renames_behind, turned, seat_after};
 
 use crate::actors::same_actor;

@@ -2,13 +2,13 @@
 use Rattle.std.proofs.Common.{◌≡◌, List, [], ◌∷◌, ◌++◌, Option, Some, None, refl, sym, ap, ◌∙◌, subst, append_assoc, append-nil}
 use Rattle.std.specs.List.{AllByRecursion}
 use Rattle.std.specs.Option.{option_and_then, option_map}
-use Rattle.alter_laws.specs.Laws.{AlteredSchemasAreLawful, IsClause}
+use Rattle.schema_laws.specs.AlterLaws.Laws.{AlteredSchemasAreLawful, IsClause}
 use Rattle.row_store.specs.Databases.{Database}
 use Rattle.plain_server.specs.Alone.{alone}
 use Rattle.plain_server.specs.declared.transaction.Reply.{Reply}
 use Rattle.plain_server.specs.declared.transaction.TxnLine.{TxnLine}
 use Rattle.plan_words.specs.PlanData.{PlanData}
-use Rattle.journal_words.specs.Serials.{altered_database}
+use Rattle.migration_program.specs.JournalWords.Serials.{altered_database}
 use Rattle.alone_model.specs.Histories.{AreLawful, IfLawful, alone_in_order, goes_on, with_replies}
 use Rattle.alone_model.specs.declared.histories.Happening.{Happening}
 use Rattle.alone_model.specs.declared.histories.Happening.TheVariants.{Txn, Alter}

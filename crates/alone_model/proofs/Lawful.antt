@@ -3,24 +3,24 @@ use Rattle.std.proofs.Common.{◌≡◌, ℕ, Bool, true, false, cond, List, [],
 use Rattle.std.specs.List.{AllByRecursion}
 use Rattle.std.specs.Option.{option_map}
 use Rattle.std.specs.Result.{result_ok}
-use Rattle.gho_schema.specs.declared.schema.Schema.{Schema}
-use Rattle.alter_image.specs.Images.{images}
-use Rattle.alter_image.specs.declared.clause.Clause.{Clause}
-use Rattle.alter_laws.specs.Laws.{AlteredSchemasAreLawful, IsClause}
+use Rattle.gho_values.specs.declared.gho_schema.schema.Schema.{Schema}
+use Rattle.gho_values.specs.AlterImage.Images.{images}
+use Rattle.gho_values.specs.declared.alter_image.clause.Clause.{Clause}
+use Rattle.schema_laws.specs.AlterLaws.Laws.{AlteredSchemasAreLawful, IsClause}
 use Rattle.alter_schema.specs.Altering.{altered}
 use Rattle.alter_schema.specs.declared.code.AlterCode.{AlterCode}
 use Rattle.event_codec.specs.declared.event.RowEvent.{RowEvent}
 use Rattle.row_store.proofs.Orders.{Row}
 use Rattle.row_store.specs.Databases.{TableRows, Database, find_table, is_named, with_change}
-use Rattle.schema_rules.specs.Lawful.{IsLawful}
-use Rattle.schema_rules.proofs.Steps.{some_is}
-use Rattle.statement_laws.specs.Databases.{WhereFound}
+use Rattle.gho_values.specs.SchemaRules.Lawful.{IsLawful}
+use Rattle.gho_values.proofs.SchemaRules.Steps.{some_is}
+use Rattle.plain_server.specs.StatementLaws.Databases.{WhereFound}
 use Rattle.plain_server.specs.Alone.{Ran, alone, lines_run, nothing_ran, outcome_if, stays}
 use Rattle.plain_server.specs.Jobs.{after_events, change_table}
 use Rattle.plain_server.specs.declared.transaction.TxnLine.{TxnLine}
 use Rattle.plan_words.specs.PlanData.{PlanData}
-use Rattle.journal_words.specs.Altering.{Altered, altered_by, altered_table, imaged, plan_altered_table}
-use Rattle.journal_words.specs.Serials.{altered_database, altered_in}
+use Rattle.migration_program.specs.JournalWords.Altering.{Altered, altered_by, altered_table, imaged, plan_altered_table}
+use Rattle.migration_program.specs.JournalWords.Serials.{altered_database, altered_in}
 use Rattle.alone_model.specs.Histories.{AreLawful}
 
 -- a change that leaves each table's schema lawful

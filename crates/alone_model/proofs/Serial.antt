@@ -3,13 +3,13 @@ use Rattle.std.proofs.Common.{◌≡◌, List, [], ◌∷◌, ◌++◌, map, Opt
 use Rattle.std.specs.List.{flat_map}
 use Rattle.std.specs.Option.{option_and_then}
 use Rattle.row_store.specs.Databases.{Database}
-use Rattle.schema_rules.proofs.Steps.{some_is}
+use Rattle.gho_values.proofs.SchemaRules.Steps.{some_is}
 use Rattle.plain_server.specs.Alone.{alone}
 use Rattle.plain_server.specs.declared.transaction.Reply.{Reply}
 use Rattle.plan_words.specs.PlanData.{PlanData}
-use Rattle.journal_words.specs.Histories.{HistoryItem, Past}
-use Rattle.journal_words.specs.Histories as histories
-use Rattle.journal_words.specs.Serials.{Serial, altered_database}
+use Rattle.migration_program.specs.JournalWords.Histories.{HistoryItem, Past}
+use Rattle.migration_program.specs.JournalWords.Histories as histories
+use Rattle.migration_program.specs.JournalWords.Serials.{Serial, altered_database}
 use Rattle.alone_model.specs.Histories.{alone_in_order, happening_of, replies_given, with_replies}
 use Rattle.alone_model.specs.Laws.{SerialIsAlone}
 use Rattle.alone_model.specs.declared.histories.InOrder.{InOrder}

@@ -4,13 +4,13 @@ use Rattle.std.specs.Prelude.{List, [], ◌∷◌, ◌++◌, map, Option, Some, 
 use Rattle.std.specs.List.{AllByRecursion, flat_map}
 use Rattle.std.specs.Option.{option_and_then}
 use Rattle.row_store.specs.Databases.{TableRows, Database}
-use Rattle.schema_rules.specs.Lawful.{IsLawful}
+use Rattle.gho_values.specs.SchemaRules.Lawful.{IsLawful}
 use Rattle.plain_server.specs.Alone.{alone}
 use Rattle.plain_server.specs.declared.transaction.Reply.{Reply}
 use Rattle.plan_words.specs.PlanData.{PlanData}
-use Rattle.journal_words.specs.Histories.{HistoryItem}
-use Rattle.journal_words.specs.Histories as histories
-use Rattle.journal_words.specs.Serials.{altered_database}
+use Rattle.migration_program.specs.JournalWords.Histories.{HistoryItem}
+use Rattle.migration_program.specs.JournalWords.Histories as histories
+use Rattle.migration_program.specs.JournalWords.Serials.{altered_database}
 use Rattle.alone_model.specs.declared.histories.Happening.{Happening}
 use Rattle.alone_model.specs.declared.histories.Happening.TheVariants.{Txn, Alter}
 use Rattle.alone_model.specs.declared.histories.InOrder.{InOrder}

@@ -3,8 +3,8 @@ use Rattle.std.specs.Prelude.{◌≡◌, ◌↔◌, List, map, Some}
 use Rattle.std.specs.List.{flat_map}
 use Rattle.row_store.specs.Databases.{Database}
 use Rattle.plan_words.specs.PlanData.{PlanData}
-use Rattle.journal_words.specs.Histories.{HistoryItem}
-use Rattle.journal_words.specs.Serials.{Serial}
+use Rattle.migration_program.specs.JournalWords.Histories.{HistoryItem}
+use Rattle.migration_program.specs.JournalWords.Serials.{Serial}
 use Rattle.alone_model.specs.Histories.{alone_in_order, happening_of, replies_given}
 
 -- *Serial is alone*: a history leads from the one database to the other exactly where, alone, it gives each transaction the

@@ -1,24 +1,24 @@
 //! The ALTER of a whole table at one instant.
 
 ghost use Rattle.std.specs.Prelude.{◌≡◌, ◌<◌, ◌^◌, if◌then◌else◌, length, Some, IfOk, option_copied};
-ghost use Rattle.alter_image.specs.Images.{images};
+ghost use Rattle.gho_values.specs.AlterImage.Images.{images};
 ghost use Rattle.row_store.specs.Databases.{is_named, with_change};
-ghost use Rattle.statement_laws.specs.Databases.{WhereFound};
-ghost use Rattle.schema_rules.specs.Lawful.{IsLawful};
-ghost use Rattle.journal_words.specs.Altering.{imaged, altered_table, plan_altered_table};
-ghost use Rattle.journal_words.specs.Serials.{altered_in, altered_database};
+ghost use Rattle.plain_server.specs.StatementLaws.Databases.{WhereFound};
+ghost use Rattle.gho_values.specs.SchemaRules.Lawful.{IsLawful};
+ghost use Rattle.migration_program.specs.JournalWords.Altering.{imaged, altered_table, plan_altered_table};
+ghost use Rattle.migration_program.specs.JournalWords.Serials.{altered_in, altered_database};
 ghost use Rattle.alone_model.specs.Histories.{AreLawful};
 
 use alone_statements::{PlainTable, PlainTables, find_table, is_named};
-use alter_image::{ImageFault, MapColumn, image};
 use alter_schema::{AlterFault, altered};
-use gho_schema::Schema;
+use gho_values::alter_image::{ImageFault, MapColumn, image};
+use gho_values::gho_schema::Schema;
 use gho_values::{Duplicate, Name, Row, Rows, Sequence};
 use plan_words::Plan;
 use std::alloc::{AllocError, Global};
 
 /// The image of every row; none where a row has no image.
-#[tactic(auto, unfolding(alter_image::specs::Images::images))]
+#[tactic(auto, unfolding(gho_values::specs::AlterImage::Images::images))]
 fn images(alloc: Global, map: &[MapColumn], rows: &[Row]) -> Result<Option<Rows>, AllocError>
     requires { length map.now < 2 ^ 32 }
     ensures { IfOk result (λ made. made ≡ images map.now rows.now) }
@@ -54,7 +54,7 @@ fn imaged(
 }
 
 /// What the plan's ALTER makes of a table.
-#[tactic(auto, unfolding(journal_words::specs::Altering::altered_table))]
+#[tactic(auto, unfolding(migration_program::specs::JournalWords::Altering::altered_table))]
 fn altered_table(
     alloc: Global,
     plan: &Plan,
@@ -116,7 +116,7 @@ fn altered_in(
 }
 
 /// The tables with the migrated one altered; none where the ALTER is refused or a row has no image.
-#[tactic(auto, unfolding(journal_words::specs::Serials::altered_database))]
+#[tactic(auto, unfolding(migration_program::specs::JournalWords::Serials::altered_database))]
 pub fn altered_database(
     alloc: Global,
     plan: &Plan,

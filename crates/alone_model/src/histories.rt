@@ -3,19 +3,19 @@
 ghost use Rattle.std.specs.Prelude.{◌≡◌, ◌∷◌, [], ◌++◌, List, IfOk};
 ghost use Rattle.std.specs.Option.{option_map};
 ghost use Rattle.plain_server.specs.Alone.{alone};
-ghost use Rattle.journal_words.specs.Serials.{altered_database};
+ghost use Rattle.migration_program.specs.JournalWords.Serials.{altered_database};
 ghost use Rattle.std.specs.List.{AllByRecursion};
-ghost use Rattle.alter_laws.specs.Laws.{IsClause};
+ghost use Rattle.schema_laws.specs.AlterLaws.Laws.{IsClause};
 ghost use Rattle.alone_model.specs.Histories.{with_replies, alone_in_order, goes_on, AreLawful, IfLawful};
 ghost use Rattle.alone_model.specs.declared.histories.Happening.{Happening};
 
 use crate::altering::altered_database;
 use crate::runs::alone;
 use alone_statements::PlainTables;
-use alter_laws::altered_schemas_are_lawful;
 use gho_values::{Duplicate, Sequence};
 use plain_server::{Replies, TxnLines};
 use plan_words::Plan;
+use schema_laws::alter_laws::altered_schemas_are_lawful;
 use std::alloc::{AllocError, Global};
 
 /// What happened to the clients' tables.

@@ -4,7 +4,7 @@ ghost use Rattle.std.specs.Prelude.{◌≡◌, ◌++◌, filter, not, option_to_
 ghost use Rattle.std.specs.List.{flat_map};
 ghost use Rattle.row_store.specs.Databases.{Database, find_table};
 ghost use Rattle.changelog_table.specs.ToolNames.{is_tool_name};
-ghost use Rattle.journal_words.specs.Serials.{tables_left};
+ghost use Rattle.migration_program.specs.JournalWords.Serials.{tables_left};
 
 use alone_statements::{PlainTable, PlainTables, find_table, plain_tables};
 use changelog_table::is_tool_name;
@@ -42,7 +42,7 @@ fn clients_of(
 }
 
 /// The plan's tables but the leftovers, as they stand, in the plan's order: what a history is run on.
-#[tactic(auto, unfolding(journal_words::specs::Serials::tables_left))]
+#[tactic(auto, unfolding(migration_program::specs::JournalWords::Serials::tables_left))]
 pub fn tables_left(
     alloc: Global,
     plan: &Plan,

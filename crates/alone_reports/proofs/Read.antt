@@ -1,12 +1,12 @@
 -- A plan that was read may be run alone.
 use Rattle.std.proofs.Common.{[], ◌∷◌}
 use Rattle.std.specs.List.{AllByRecursion}
-use Rattle.alter_laws.specs.Laws.{IsClause}
+use Rattle.schema_laws.specs.AlterLaws.Laws.{IsClause}
 use Rattle.row_store.specs.Databases.{Database}
 use Rattle.plan_tables.specs.Tables.{IsSound}
 use Rattle.plan_words.specs.PlanData.{PlanData}
-use Rattle.accepted_laws.specs.PlanLaws.PlanLaws.{ReadPlansAreAccepted}
-use Rattle.accepted_laws.specs.Laws.{ReadPlansAreWorded, WasRead}
+use Rattle.accepted_runs.specs.AcceptedLaws.PlanLaws.PlanLaws.{ReadPlansAreAccepted}
+use Rattle.accepted_runs.specs.AcceptedLaws.Laws.{ReadPlansAreWorded, WasRead}
 use Rattle.alone_model.specs.Histories.{AreLawful}
 
 sound_lawful : (tables : Database) → AllByRecursion IsSound tables → AreLawful tables

@@ -1,7 +1,7 @@
 //! The comparison.
 
 ghost use Rattle.std.specs.Prelude.{◌≡◌, map, IfOk};
-ghost use Rattle.accepted_laws.specs.Laws.{WasRead};
+ghost use Rattle.accepted_runs.specs.AcceptedLaws.Laws.{WasRead};
 ghost use Rattle.alone_model.specs.Histories.{alone_in_order, happening_of};
 ghost use Rattle.journal_pasts.specs.Walks.{item_as};
 
@@ -10,9 +10,9 @@ use crate::history::{has_alter, push_history};
 use crate::replies::are_the_same;
 use crate::saying::{Said, says};
 use crate::tables::push_tables;
-use accepted_laws::laws::read_plans_are_worded;
-use accepted_laws::plan_laws::read_plans_are_accepted;
-use accepted_laws::read_accepted_plan;
+use accepted_runs::accepted_laws::laws::read_plans_are_worded;
+use accepted_runs::accepted_laws::plan_laws::read_plans_are_accepted;
+use accepted_runs::accepted_laws::read_accepted_plan;
 use alone_model::{InOrder, alone, run_in_order, tables_left};
 use alone_statements::{PlainTables, plain_tables};
 use gho_values::{Sequence, Text};

@@ -1,7 +1,7 @@
 //! Tables as a report prints them.
 
 use alone_statements::PlainTable;
-use gho_schema::Schema;
+use gho_values::gho_schema::Schema;
 use gho_values::{Row, Text, print_row};
 use std::alloc::AllocError;
 

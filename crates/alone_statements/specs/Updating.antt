@@ -1,7 +1,7 @@
 -- An UPDATE that is under way.
 use Rattle.std.specs.Prelude.{List, ◌++◌, Option, Result, Ok, Err}
 use Rattle.gho_values.specs.declared.value.Value.{Value}
-use Rattle.gho_schema.specs.declared.schema.Schema.{Schema}
+use Rattle.gho_values.specs.declared.gho_schema.schema.Schema.{Schema}
 use Rattle.event_codec.specs.declared.event.Change.{Change}
 use Rattle.plain_server.specs.declared.answer.Answer.{Answer}
 use Rattle.plain_server.specs.Saying.{updates}

@@ -4,11 +4,11 @@ ghost use Rattle.std.specs.Prelude.{◌≡◌, ◌&&◌, Some, IfOk, option_copi
 ghost use Rattle.std.specs.Ordering.{is_eq};
 ghost use Rattle.gho_values.specs.Comparing.{compare_keys};
 ghost use Rattle.gho_values.specs.Spans.{above, below};
-ghost use Rattle.gho_schema.specs.Rows.{key_of};
-ghost use Rattle.gho_schema.specs.Tables.{no_null, clash};
+ghost use Rattle.gho_values.specs.GhoSchema.Rows.{key_of};
+ghost use Rattle.gho_values.specs.GhoSchema.Tables.{no_null, clash};
 ghost use Rattle.plain_server.specs.Rows.{lies_under, reaches};
 
-use gho_schema::{Index, Schema, key_of};
+use gho_values::gho_schema::{Index, Schema, key_of};
 use gho_values::{Bound, Key, Row, Span, Value};
 use plain_server::Reach;
 use std::alloc::{AllocError, Global};

@@ -2,12 +2,12 @@
 
 ghost use Rattle.std.specs.Prelude.{◌≡◌, not, IfOk};
 ghost use Rattle.std.specs.List.{list_any};
-ghost use Rattle.gho_schema.specs.Tables.{clash};
+ghost use Rattle.gho_values.specs.GhoSchema.Tables.{clash};
 ghost use Rattle.plain_server.specs.Rows.{rows_met, same_row};
 ghost use Rattle.plain_server.specs.Saying.{displaced, clashes_besides};
 
 use crate::keys::{clash, reaches};
-use gho_schema::Schema;
+use gho_values::gho_schema::Schema;
 use gho_values::{Duplicate, Row, Rows, Sequence};
 use plain_server::Reach;
 use std::alloc::{AllocError, Global};

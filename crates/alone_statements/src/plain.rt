@@ -3,7 +3,7 @@
 ghost use Rattle.std.specs.Prelude.{◌≡◌, IfOk, option_copied};
 ghost use Rattle.row_store.specs.Databases.{database, find_table, is_named};
 
-use gho_schema::Schema;
+use gho_values::gho_schema::Schema;
 use gho_values::{Duplicate, Name, Row, Rows, Sequence};
 use row_store::{Table, Tables};
 use std::alloc::{AllocError, Global};

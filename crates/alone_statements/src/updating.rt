@@ -11,9 +11,9 @@ use crate::meeting::{clashes_besides, rows_met};
 use crate::plain::{PlainTable, copy_of};
 use crate::rows::change_rows;
 use crate::telling::{Changes, Told, only};
-use alter_image::UnfitAt;
 use event_codec::Change;
-use gho_schema::Schema;
+use gho_values::alter_image::UnfitAt;
+use gho_values::gho_schema::Schema;
 use gho_values::{Duplicate, Row, Rows, Sequence, Value};
 use plain_server::{Answer, ColumnSets, Reach};
 use statement_checks::{Checked, refuses, refuses_value};
@@ -30,7 +30,7 @@ fn set_or(set: &Option<Value>, value: &Value) -> Result<Value, AllocError>
 }
 
 /// A copy of the row with its columns set to these values, where there are such.
-#[tactic(auto, using(statement_laws::proofs::Sets::with_sets_more, crate::proofs::Sets::with_no_sets), unfolding(plain_server::specs::Saying::with_sets))]
+#[tactic(auto, using(plain_server::proofs::StatementLaws::Sets::with_sets_more, crate::proofs::Sets::with_no_sets), unfolding(plain_server::specs::Saying::with_sets))]
 fn with_sets(alloc: Global, sets: &[Option<Value>], row: &[Value]) -> Result<Row, AllocError>
     ensures { IfOk result (λ new. new ≡ with_sets sets.now row.now) }
 {

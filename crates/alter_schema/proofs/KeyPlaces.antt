@@ -3,11 +3,11 @@ use Rattle.std.proofs.Common.{◌≡◌, ℕ, zero, suc, ◌+◌, ◌-◌, ◌<�
 use Rattle.std.specs.Prelude.{filter, position}
 use Rattle.std.specs.List.{cons_option, filter_map, remove, AllByRecursion, position_or_len}
 use Rattle.std.proofs.lemmas.Bool.{ltb-true, ltb-false}
-use Rattle.gho_schema.specs.declared.schema.Index.{Index}
+use Rattle.gho_values.specs.declared.gho_schema.schema.Index.{Index}
 use Rattle.alter_schema.specs.declared.places.PlaceChange.{PlaceChange}
 use Rattle.alter_schema.specs.declared.places.PlaceChange.TheVariants.{Added, Dropped, Moved}
-use Rattle.schema_rules.proofs.Lists.{All-filter_map, All-map, All-filter}
-use Rattle.schema_rules.proofs.Steps.{some_is}
+use Rattle.gho_values.proofs.SchemaRules.Lists.{All-filter_map, All-map, All-filter}
+use Rattle.gho_values.proofs.SchemaRules.Steps.{some_is}
 use Rattle.alter_schema.specs.Places.{opened, closed, place_after, index_after, has_places, keys_after, indexes_after, ArePlaces, IsChangeOf}
 
 opened-within : (at place count : ℕ) (b : Bool) → place < count → cond b place (place + 1) < count + 1

@@ -1,8 +1,8 @@
 -- Taking clauses one after the other, as a loop does.
 use Rattle.std.proofs.Common.{◌≡◌, ℕ, ◌+◌, ◌<◌, ◌≤◌, Bool, List, length, drop, get_or, Result, Ok, Err, refl, sym, ◌∙◌}
 use Rattle.std.proofs.lemmas.List.{drop_all}
-use Rattle.alter_image.specs.declared.clause.Clause.{Clause}
-use Rattle.gho_schema.proofs.Loops.{from_here}
+use Rattle.gho_values.specs.declared.alter_image.clause.Clause.{Clause}
+use Rattle.gho_values.proofs.GhoSchema.Loops.{from_here}
 use Rattle.alter_schema.specs.declared.code.AlterCode.{AlterCode}
 use Rattle.alter_schema.specs.declared.code.AlterFault.{AlterFault}
 use Rattle.alter_schema.specs.declared.code.AlterFault.TheVariants as faults

@@ -5,21 +5,21 @@ use Rattle.std.specs.List.{insert, remove, AllByRecursion}
 use Rattle.std.proofs.lemmas.Bool.{leb-false, or_parts}
 use Rattle.std.proofs.lemmas.List.{length-set}
 use Rattle.std.proofs.lemmas.List.Edits.{length-insert, length-remove}
-use Rattle.gho_schema.specs.declared.schema.Column.{Column}
-use Rattle.gho_schema.specs.declared.schema.Index.{Index}
-use Rattle.gho_schema.specs.declared.schema.Schema.{Schema}
-use Rattle.gho_schema.specs.Names.{same_name}
-use Rattle.alter_image.specs.declared.clause.Clause.{Clause}
-use Rattle.alter_image.specs.declared.clause.Clause.TheVariants.{Add, Drop, Rename, Change, AddIndex, DropIndex}
-use Rattle.alter_image.specs.declared.clause.NewColumn.{NewColumn}
-use Rattle.alter_image.specs.declared.clause.Spot.{Spot}
-use Rattle.alter_image.specs.declared.clause.Spot.TheVariants.{Unsaid, First, After}
-use Rattle.schema_rules.specs.Results.{◌>>=◌}
-use Rattle.gho_schema.specs.Clustering.{clustered_place}
-use Rattle.schema_rules.specs.Reasons.{first_reason}
-use Rattle.schema_rules.specs.Defaults.{defaults_fit}
-use Rattle.schema_rules.specs.Lawful.{IsKey, IsLawful}
-use Rattle.schema_rules.specs.Limits.{is_column_name}
+use Rattle.gho_values.specs.declared.gho_schema.schema.Column.{Column}
+use Rattle.gho_values.specs.declared.gho_schema.schema.Index.{Index}
+use Rattle.gho_values.specs.declared.gho_schema.schema.Schema.{Schema}
+use Rattle.gho_values.specs.GhoSchema.Names.{same_name}
+use Rattle.gho_values.specs.declared.alter_image.clause.Clause.{Clause}
+use Rattle.gho_values.specs.declared.alter_image.clause.Clause.TheVariants.{Add, Drop, Rename, Change, AddIndex, DropIndex}
+use Rattle.gho_values.specs.declared.alter_image.clause.NewColumn.{NewColumn}
+use Rattle.gho_values.specs.declared.alter_image.clause.Spot.{Spot}
+use Rattle.gho_values.specs.declared.alter_image.clause.Spot.TheVariants.{Unsaid, First, After}
+use Rattle.gho_values.specs.SchemaRules.Results.{◌>>=◌}
+use Rattle.gho_values.specs.GhoSchema.Clustering.{clustered_place}
+use Rattle.gho_values.specs.SchemaRules.Reasons.{first_reason}
+use Rattle.gho_values.specs.SchemaRules.Defaults.{defaults_fit}
+use Rattle.gho_values.specs.SchemaRules.Lawful.{IsKey, IsLawful}
+use Rattle.gho_values.specs.SchemaRules.Limits.{is_column_name}
 use Rattle.alter_schema.specs.declared.code.AlterCode.{AlterCode}
 use Rattle.alter_schema.specs.declared.code.AlterCode.TheVariants as codes
 use Rattle.alter_schema.specs.declared.places.PlaceChange.TheVariants.{Added, Dropped, Moved}
@@ -30,9 +30,9 @@ use Rattle.alter_schema.specs.Columns.{column_place, has_column, beside, found_a
 use Rattle.alter_schema.specs.Indexing.{index_name, index_reasons, index_of, with_index, indexed_as, indexed, index_place, is_clustered, without_unique, without_index, unindexed_at, unindexed}
 use Rattle.alter_schema.specs.Places.{keys_after, indexes_after, ArePlaces}
 use Rattle.alter_schema.specs.Standing.{places_from, start, with_columns, put_in, taken_out, origin_at, moved_to, Stands}
-use Rattle.schema_rules.proofs.Lists.{All-filter_map, All-append, All-remove, position-within}
+use Rattle.gho_values.proofs.SchemaRules.Lists.{All-filter_map, All-append, All-remove, position-within}
 use Rattle.alter_schema.proofs.KeyPlaces.{keys_after-within, indexes_after-within}
-use Rattle.schema_rules.proofs.Steps.{bind_ok, unless_ok, none_first, ok_is, let_through, kept_out}
+use Rattle.gho_values.proofs.SchemaRules.Steps.{bind_ok, unless_ok, none_first, ok_is, let_through, kept_out}
 use Rattle.gho_values.specs.declared.fault.Unfit.{Unfit}
 use Rattle.gho_values.specs.declared.value.Value.{Value}
 

@@ -3,17 +3,17 @@ use Rattle.std.specs.Prelude.{ℕ, ◌==◌, Bool, true, false, not, ◌&&◌, L
 use Rattle.std.specs.List.{list_all, slice_get}
 use Rattle.gho_values.specs.declared.value.Value.{Value}
 use Rattle.gho_values.specs.declared.value.Value.TheVariants.{Null}
-use Rattle.gho_schema.specs.declared.schema.Column.{Column}
-use Rattle.gho_schema.specs.declared.schema.Index.{Index}
-use Rattle.gho_schema.specs.declared.schema.Schema.{Schema}
-use Rattle.alter_image.specs.declared.clause.Clause.{Clause}
-use Rattle.alter_image.specs.declared.clause.Clause.TheVariants.{Add, Drop, Rename, Change, AddIndex, DropIndex}
-use Rattle.alter_image.specs.declared.map.MapColumn.{MapColumn}
-use Rattle.alter_image.specs.declared.map.Origin.{Origin}
-use Rattle.alter_image.specs.declared.map.Origin.TheVariants as from
-use Rattle.schema_rules.specs.Results.{◌>>=◌}
-use Rattle.gho_schema.specs.Clustering.{is_not_null, clustered_key}
-use Rattle.schema_rules.specs.Reasons.{Reasons, first_reason, unless}
+use Rattle.gho_values.specs.declared.gho_schema.schema.Column.{Column}
+use Rattle.gho_values.specs.declared.gho_schema.schema.Index.{Index}
+use Rattle.gho_values.specs.declared.gho_schema.schema.Schema.{Schema}
+use Rattle.gho_values.specs.declared.alter_image.clause.Clause.{Clause}
+use Rattle.gho_values.specs.declared.alter_image.clause.Clause.TheVariants.{Add, Drop, Rename, Change, AddIndex, DropIndex}
+use Rattle.gho_values.specs.declared.alter_image.map.MapColumn.{MapColumn}
+use Rattle.gho_values.specs.declared.alter_image.map.Origin.{Origin}
+use Rattle.gho_values.specs.declared.alter_image.map.Origin.TheVariants as from
+use Rattle.gho_values.specs.SchemaRules.Results.{◌>>=◌}
+use Rattle.gho_values.specs.GhoSchema.Clustering.{is_not_null, clustered_key}
+use Rattle.gho_values.specs.SchemaRules.Reasons.{Reasons, first_reason, unless}
 use Rattle.alter_schema.specs.declared.code.AlterCode.{AlterCode}
 use Rattle.alter_schema.specs.declared.code.AlterCode.TheVariants as codes
 use Rattle.alter_schema.specs.declared.standing.Standing.{Standing}

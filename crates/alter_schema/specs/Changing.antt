@@ -1,14 +1,14 @@
 -- What each clause but those on indexes makes of the table, or the first reason to refuse it ("ALTER TABLE Statement").
 use Rattle.std.specs.Prelude.{ℕ, nat_le, Bool, true, false, not, ◌&&◌, ◌||◌, if◌then◌else◌, List, [], ◌∷◌, length, unwrap_or, Option, Some, None, Result, Ok, Err, slice_set}
 use Rattle.std.specs.List.{remove}
-use Rattle.gho_schema.specs.declared.schema.Column.{Column}
-use Rattle.gho_schema.specs.declared.schema.Schema.{Schema}
-use Rattle.gho_schema.specs.Names.{same_name}
-use Rattle.alter_image.specs.declared.clause.NewColumn.{NewColumn}
-use Rattle.alter_image.specs.declared.clause.Spot.{Spot}
-use Rattle.schema_rules.specs.Results.{◌>>=◌}
-use Rattle.schema_rules.specs.Reasons.{Reasons, first_reason, unless}
-use Rattle.schema_rules.specs.Limits.{is_column_name}
+use Rattle.gho_values.specs.declared.gho_schema.schema.Column.{Column}
+use Rattle.gho_values.specs.declared.gho_schema.schema.Schema.{Schema}
+use Rattle.gho_values.specs.GhoSchema.Names.{same_name}
+use Rattle.gho_values.specs.declared.alter_image.clause.NewColumn.{NewColumn}
+use Rattle.gho_values.specs.declared.alter_image.clause.Spot.{Spot}
+use Rattle.gho_values.specs.SchemaRules.Results.{◌>>=◌}
+use Rattle.gho_values.specs.SchemaRules.Reasons.{Reasons, first_reason, unless}
+use Rattle.gho_values.specs.SchemaRules.Limits.{is_column_name}
 use Rattle.alter_schema.specs.declared.code.AlterCode.{AlterCode}
 use Rattle.alter_schema.specs.declared.code.AlterCode.TheVariants as codes
 use Rattle.alter_schema.specs.declared.standing.Standing.{Standing}

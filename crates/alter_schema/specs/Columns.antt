@@ -5,14 +5,14 @@ use Rattle.gho_values.specs.declared.fault.Unfit.{Unfit}
 use Rattle.gho_values.specs.declared.kind.Kind.{Kind}
 use Rattle.gho_values.specs.declared.kind.Kind.TheVariants.{Int, VarChar, VarBinary}
 use Rattle.gho_values.specs.declared.value.Value.{Value}
-use Rattle.gho_schema.specs.declared.schema.Column.{Column}
-use Rattle.gho_schema.specs.declared.schema.Index.{Index}
-use Rattle.gho_schema.specs.Names.{same_name}
-use Rattle.alter_image.specs.declared.clause.NewColumn.{NewColumn}
-use Rattle.alter_image.specs.declared.clause.Spot.{Spot}
-use Rattle.alter_image.specs.declared.clause.Spot.TheVariants.{Unsaid, First, After}
-use Rattle.schema_rules.specs.Results.{◌>>=◌}
-use Rattle.schema_rules.specs.Defaults.{stored_default, defaults_fit, default_or}
+use Rattle.gho_values.specs.declared.gho_schema.schema.Column.{Column}
+use Rattle.gho_values.specs.declared.gho_schema.schema.Index.{Index}
+use Rattle.gho_values.specs.GhoSchema.Names.{same_name}
+use Rattle.gho_values.specs.declared.alter_image.clause.NewColumn.{NewColumn}
+use Rattle.gho_values.specs.declared.alter_image.clause.Spot.{Spot}
+use Rattle.gho_values.specs.declared.alter_image.clause.Spot.TheVariants.{Unsaid, First, After}
+use Rattle.gho_values.specs.SchemaRules.Results.{◌>>=◌}
+use Rattle.gho_values.specs.SchemaRules.Defaults.{stored_default, defaults_fit, default_or}
 use Rattle.alter_schema.specs.declared.code.AlterCode.{AlterCode}
 use Rattle.alter_schema.specs.declared.code.AlterCode.TheVariants as codes
 use Rattle.alter_schema.specs.declared.standing.Standing.{Standing}

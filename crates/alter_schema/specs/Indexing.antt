@@ -1,13 +1,13 @@
 -- What ADD INDEX and DROP INDEX make of the table, or the first reason to refuse them ("ALTER TABLE Statement").
 use Rattle.std.specs.Prelude.{ℕ, ◌==◌, nat_le, Bool, false, not, ◌&&◌, if◌then◌else◌, List, [], ◌∷◌, ◌++◌, length, position, Option, Some, None, Result, Ok, Err}
 use Rattle.std.specs.List.{filter_map, list_all, remove}
-use Rattle.gho_schema.specs.declared.schema.Column.{Column}
-use Rattle.gho_schema.specs.declared.schema.Index.{Index}
-use Rattle.gho_schema.specs.declared.schema.Schema.{Schema}
-use Rattle.gho_schema.specs.Names.{same_name}
-use Rattle.gho_schema.specs.Clustering.{clustered_place}
-use Rattle.schema_rules.specs.Reasons.{Reasons, first_reason, unless}
-use Rattle.schema_rules.specs.Names.{is_among, free_name}
+use Rattle.gho_values.specs.declared.gho_schema.schema.Column.{Column}
+use Rattle.gho_values.specs.declared.gho_schema.schema.Index.{Index}
+use Rattle.gho_values.specs.declared.gho_schema.schema.Schema.{Schema}
+use Rattle.gho_values.specs.GhoSchema.Names.{same_name}
+use Rattle.gho_values.specs.GhoSchema.Clustering.{clustered_place}
+use Rattle.gho_values.specs.SchemaRules.Reasons.{Reasons, first_reason, unless}
+use Rattle.gho_values.specs.SchemaRules.Names.{is_among, free_name}
 use Rattle.alter_schema.specs.declared.code.AlterCode.{AlterCode}
 use Rattle.alter_schema.specs.declared.code.AlterCode.TheVariants as codes
 use Rattle.alter_schema.specs.declared.standing.Standing.{Standing}

@@ -1,7 +1,7 @@
 -- Where the places of keys stand after a column was put in, taken out or moved.
 use Rattle.std.specs.Prelude.{ℕ, ◌+◌, ◌-◌, ◌<◌, ◌==◌, nat_lt, Bool, not, if◌then◌else◌, List, map, filter, length, Option, Some, None}
 use Rattle.std.specs.List.{filter_map, AllByRecursion}
-use Rattle.gho_schema.specs.declared.schema.Index.{Index}
+use Rattle.gho_values.specs.declared.gho_schema.schema.Index.{Index}
 use Rattle.alter_schema.specs.declared.places.PlaceChange.{PlaceChange}
 use Rattle.alter_schema.specs.declared.places.PlaceChange.TheVariants.{Added, Dropped, Moved}
 

@@ -1,8 +1,8 @@
 -- The table between two clauses.
 use Rattle.std.specs.Prelude.{◌≡◌, ℕ, ◌+◌, ◌≤◌, List, [], ◌∷◌, length, Option, Some, None}
 use Rattle.std.specs.List.{insert, remove, slice_get}
-use Rattle.gho_schema.specs.declared.schema.Schema.{Schema}
-use Rattle.gho_schema.specs.declared.schema.Column.{Column}
+use Rattle.gho_values.specs.declared.gho_schema.schema.Schema.{Schema}
+use Rattle.gho_values.specs.declared.gho_schema.schema.Column.{Column}
 use Rattle.alter_schema.specs.declared.places.PlaceChange.{PlaceChange}
 use Rattle.alter_schema.specs.declared.places.PlaceChange.TheVariants.{Added, Dropped, Moved}
 use Rattle.alter_schema.specs.declared.standing.Standing.{Standing}

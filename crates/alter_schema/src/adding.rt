@@ -1,7 +1,7 @@
 //! ADD COLUMN.
 
 ghost use Rattle.std.specs.Prelude.{◌≡◌};
-ghost use Rattle.schema_rules.specs.Reasons.{first_reason};
+ghost use Rattle.gho_values.specs.SchemaRules.Reasons.{first_reason};
 ghost use Rattle.alter_schema.specs.Changing.{add_reasons, added};
 ghost use Rattle.alter_schema.specs.Codes.{Answers};
 ghost use Rattle.alter_schema.specs.Standing.{Stands};
@@ -9,9 +9,9 @@ ghost use Rattle.alter_schema.specs.Standing.{Stands};
 use crate::code::{AlterCode, AlterFault};
 use crate::columns::{column_of, fitting, has_column, is_spot, spot_place};
 use crate::standing::Standing;
-use alter_image::{NewColumn, Spot};
-use gho_schema::Column;
-use schema_rules::is_column_name;
+use gho_values::alter_image::{NewColumn, Spot};
+use gho_values::gho_schema::Column;
+use gho_values::schema_rules::is_column_name;
 use std::alloc::Global;
 
 const COLUMN_LIMIT: usize = 64;

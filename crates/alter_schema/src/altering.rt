@@ -2,8 +2,8 @@
 
 ghost use Rattle.std.specs.Prelude.{◌≡◌, option_map, IfOk};
 ghost use Rattle.std.specs.List.{slice_get};
-ghost use Rattle.schema_rules.specs.Reasons.{first_reason};
-ghost use Rattle.schema_rules.specs.Lawful.{IsLawful};
+ghost use Rattle.gho_values.specs.SchemaRules.Reasons.{first_reason};
+ghost use Rattle.gho_values.specs.SchemaRules.Lawful.{IsLawful};
 ghost use Rattle.alter_schema.specs.Altering.{step, steps, is_origin, same_columns, keeps_key, result_reasons, result_of, altered};
 ghost use Rattle.alter_schema.specs.Codes.{Answers};
 ghost use Rattle.alter_schema.specs.Standing.{start, Stands};
@@ -16,8 +16,8 @@ use crate::indexing::{indexed, unindexed};
 use crate::mapping::map_of;
 use crate::renaming::renamed;
 use crate::standing::Standing;
-use alter_image::{Clause, Clauses, ColumnMap};
-use gho_schema::{Index, Schema, are_not_null, clustered_key};
+use gho_values::alter_image::{Clause, Clauses, ColumnMap};
+use gho_values::gho_schema::{Index, Schema, are_not_null, clustered_key};
 use std::alloc::Global;
 
 #[tactic(auto, unfolding(crate::specs::Altering::step))]

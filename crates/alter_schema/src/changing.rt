@@ -1,7 +1,7 @@
 //! CHANGE COLUMN and MODIFY COLUMN.
 
 ghost use Rattle.std.specs.Prelude.{◌≡◌, ◌<◌, length, IfOk};
-ghost use Rattle.schema_rules.specs.Reasons.{first_reason};
+ghost use Rattle.gho_values.specs.SchemaRules.Reasons.{first_reason};
 ghost use Rattle.alter_schema.specs.Changing.{change_reasons, changed_nullable, changed_in, unless_unapproved, changed_column, changed};
 ghost use Rattle.alter_schema.specs.Codes.{Answers};
 ghost use Rattle.alter_schema.specs.Standing.{Stands};
@@ -13,10 +13,10 @@ use crate::columns::{
 use crate::conversions::{is_conversion, is_key_conversion};
 use crate::renaming::is_unapproved;
 use crate::standing::{Standing, origin_at, removed};
-use alter_image::{NewColumn, Spot};
-use gho_schema::{Column, Schema};
+use gho_values::alter_image::{NewColumn, Spot};
+use gho_values::gho_schema::{Column, Schema};
+use gho_values::schema_rules::is_column_name;
 use gho_values::{Duplicate, Name};
-use schema_rules::is_column_name;
 use std::alloc::{AllocError, Global};
 
 fn change_reason(

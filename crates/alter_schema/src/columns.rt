@@ -6,10 +6,10 @@ ghost use Rattle.alter_schema.specs.Columns.{column_place, has_column, column_na
 
 use crate::code::{AlterCode, AlterFault};
 use crate::standing::Standing;
-use alter_image::{NewColumn, Spot};
-use gho_schema::{Column, Index, same_name};
+use gho_values::alter_image::{NewColumn, Spot};
+use gho_values::gho_schema::{Column, Index, same_name};
+use gho_values::schema_rules::{defaults_fit, stored_default};
 use gho_values::{Duplicate, Name, StoreFault, Value};
-use schema_rules::{defaults_fit, stored_default};
 use std::alloc::Global;
 
 /// The place of the column of this name.

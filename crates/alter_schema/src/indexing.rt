@@ -2,7 +2,7 @@
 
 ghost use Rattle.std.specs.Prelude.{◌≡◌, ◌<◌, ◌≤◌, ◌++◌, length, option_to_list, IfOk, IfSome, OnOk};
 ghost use Rattle.std.specs.List.{filter_map, list_all};
-ghost use Rattle.schema_rules.specs.Reasons.{first_reason};
+ghost use Rattle.gho_values.specs.SchemaRules.Reasons.{first_reason};
 ghost use Rattle.alter_schema.specs.Codes.{Answers};
 ghost use Rattle.alter_schema.specs.Columns.{column_place, has_column};
 ghost use Rattle.alter_schema.specs.Indexing.{key_names, first_column, index_name, are_columns, index_reasons, index_of, with_index, indexed_as, indexed, is_named, index_place, is_clustered, without_unique, without_index, unindexed};
@@ -11,9 +11,9 @@ ghost use Rattle.alter_schema.specs.Standing.{Stands};
 use crate::code::{AlterCode, AlterFault};
 use crate::columns::{column_named, column_place, has_column};
 use crate::standing::{Standing, copied, removed};
-use gho_schema::{Column, Index, Indexes, Places, Schema, clustered_place, same_name};
+use gho_values::gho_schema::{Column, Index, Indexes, Places, Schema, clustered_place, same_name};
+use gho_values::schema_rules::{free_name, is_among};
 use gho_values::{Duplicate, Name, Names, Sequence};
-use schema_rules::{free_name, is_among};
 use std::alloc::{AllocError, Global};
 
 const INDEX_LIMIT: usize = 8;

@@ -3,8 +3,8 @@
 ghost use Rattle.std.specs.Prelude.{◌≡◌, IfOk, ◌≤◌, length};
 ghost use Rattle.alter_schema.specs.Altering.{source_of, map_of};
 
-use alter_image::{ColumnMap, MapColumn, Origin};
-use gho_schema::Column;
+use gho_values::alter_image::{ColumnMap, MapColumn, Origin};
+use gho_values::gho_schema::Column;
 use gho_values::{Duplicate, Sequence, Value};
 use std::alloc::{AllocError, Global};
 

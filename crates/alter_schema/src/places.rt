@@ -4,7 +4,7 @@ ghost use Rattle.std.specs.Prelude.{◌≡◌, ◌<◌, ◌≤◌, [], ◌∷◌
 ghost use Rattle.std.specs.List.{filter_map, AllByRecursion};
 ghost use Rattle.alter_schema.specs.Places.{opened, closed, place_after, index_after, has_places, keys_after, indexes_after, ArePlaces};
 
-use gho_schema::{Index, Indexes, Places};
+use gho_values::gho_schema::{Index, Indexes, Places};
 use gho_values::{Duplicate, Sequence};
 use std::alloc::{AllocError, Global};
 

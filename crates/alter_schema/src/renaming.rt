@@ -1,7 +1,7 @@
 //! RENAME COLUMN.
 
 ghost use Rattle.std.specs.Prelude.{◌≡◌, ◌<◌, ◌≤◌, length, slice_set, IfOk};
-ghost use Rattle.schema_rules.specs.Reasons.{first_reason};
+ghost use Rattle.gho_values.specs.SchemaRules.Reasons.{first_reason};
 ghost use Rattle.alter_schema.specs.Changing.{is_unapproved, rename_reasons, with_name, renamed_in, renamed};
 ghost use Rattle.alter_schema.specs.Codes.{Answers};
 ghost use Rattle.alter_schema.specs.Standing.{Stands};
@@ -9,9 +9,9 @@ ghost use Rattle.alter_schema.specs.Standing.{Stands};
 use crate::code::{AlterCode, AlterFault};
 use crate::columns::{column_named, has_column};
 use crate::standing::{Standing, copied, removed};
-use gho_schema::{Column, Columns, Schema, same_name};
+use gho_values::gho_schema::{Column, Columns, Schema, same_name};
+use gho_values::schema_rules::is_column_name;
 use gho_values::{Duplicate, Name, Sequence};
-use schema_rules::is_column_name;
 use std::alloc::{AllocError, Global};
 
 /// Whether a column gets another name without leave.

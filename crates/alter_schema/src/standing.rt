@@ -6,7 +6,7 @@ ghost use Rattle.alter_schema.specs.Places.{ArePlaces};
 ghost use Rattle.alter_schema.specs.Standing.{places_from, with_columns, origin_of};
 
 use crate::places::{PlaceChange, indexes_after, keys_after};
-use gho_schema::{Column, Columns, Schema};
+use gho_values::gho_schema::{Column, Columns, Schema};
 use gho_values::{Duplicate, Sequence};
 use std::alloc::{AllocError, Global};
 

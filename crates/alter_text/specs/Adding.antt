@@ -1,11 +1,11 @@
 -- Clauses that write a column or an index: ADD, CHANGE and MODIFY ("ALTER TABLE Statement").
 use Rattle.std.specs.Prelude.{codes, ℕ, if◌then◌else◌, List, [], ◌∷◌, Option, Some, None, Result, Ok, Err}
-use Rattle.alter_image.specs.declared.clause.Clause.{Clause}
-use Rattle.alter_image.specs.declared.clause.Clause.TheVariants.{Add, Change, AddIndex}
+use Rattle.gho_values.specs.declared.alter_image.clause.Clause.{Clause}
+use Rattle.gho_values.specs.declared.alter_image.clause.Clause.TheVariants.{Add, Change, AddIndex}
 use Rattle.table_words.specs.declared.token.Token.{Token}
 use Rattle.table_words.specs.Keys.{key_at}
 use Rattle.table_words.specs.Pieces.{name_at}
-use Rattle.schema_rules.specs.Results.{◌>>=◌}
+use Rattle.gho_values.specs.SchemaRules.Results.{◌>>=◌}
 use Rattle.table_words.specs.Tokens.{is_keyword}
 use Rattle.alter_schema.specs.declared.code.AlterCode.TheVariants as refusals
 use Rattle.alter_text.specs.Column.{primary_at, new_column_at, spot_at}

@@ -1,12 +1,12 @@
 -- The clauses of an ALTER, and the ALTER TABLE that may stand in front of them ("ALTER TABLE Statement").
 use Rattle.std.specs.Prelude.{codes, ℕ, Bool, true, false, if◌then◌else◌, List, [], ◌∷◌, length, Option, Some, None, Result, Ok, Err}
 use Rattle.std.specs.Str.{bytes_eq}
-use Rattle.alter_image.specs.declared.clause.Clause.{Clause}
+use Rattle.gho_values.specs.declared.alter_image.clause.Clause.{Clause}
 use Rattle.table_words.specs.declared.token.Token.{Token}
 use Rattle.table_words.specs.declared.tokens.TextWords.{TextWords}
 use Rattle.table_words.specs.Listed.{listed}
 use Rattle.table_words.specs.Pieces.{behind_keyword, name_at}
-use Rattle.schema_rules.specs.Results.{◌>>=◌}
+use Rattle.gho_values.specs.SchemaRules.Results.{◌>>=◌}
 use Rattle.table_words.specs.Tokens.{is_keyword, same_sign}
 use Rattle.alter_schema.specs.declared.code.AlterCode.{AlterCode}
 use Rattle.alter_schema.specs.declared.code.AlterCode.TheVariants as refusals

@@ -1,8 +1,8 @@
 -- A column as a clause writes it, and where it is to stand ("ALTER TABLE Statement").
 use Rattle.std.specs.Prelude.{codes, ℕ, if◌then◌else◌, List, [], ◌∷◌, length, Option, Some, None, Result, Ok, Err}
-use Rattle.alter_image.specs.declared.clause.NewColumn.{NewColumn}
-use Rattle.alter_image.specs.declared.clause.Spot.{Spot}
-use Rattle.alter_image.specs.declared.clause.Spot.TheVariants.{Unsaid, First, After}
+use Rattle.gho_values.specs.declared.alter_image.clause.NewColumn.{NewColumn}
+use Rattle.gho_values.specs.declared.alter_image.clause.Spot.{Spot}
+use Rattle.gho_values.specs.declared.alter_image.clause.Spot.TheVariants.{Unsaid, First, After}
 use Rattle.table_words.specs.declared.attributes.Attribute.{Attribute}
 use Rattle.table_words.specs.declared.attributes.Attributes.{Attributes}
 use Rattle.table_words.specs.declared.token.Token.{Token}
@@ -10,7 +10,7 @@ use Rattle.table_words.specs.Attributes.{unwritten, with_attribute, attribute_at
 use Rattle.table_words.specs.Kinds.{kind_at}
 use Rattle.table_words.specs.Listed.{gathered}
 use Rattle.table_words.specs.Pieces.{behind_keyword, keyword_at, name_at}
-use Rattle.schema_rules.specs.Results.{◌>>=◌}
+use Rattle.gho_values.specs.SchemaRules.Results.{◌>>=◌}
 use Rattle.table_words.specs.Tokens.{is_keyword}
 use Rattle.alter_schema.specs.declared.code.AlterCode.{AlterCode}
 use Rattle.alter_schema.specs.declared.code.AlterCode.TheVariants as codes

@@ -1,6 +1,6 @@
 -- *The clauses of a text*.
 use Rattle.std.specs.Prelude.{ℕ, List, Result}
-use Rattle.alter_image.specs.declared.clause.Clause.{Clause}
+use Rattle.gho_values.specs.declared.alter_image.clause.Clause.{Clause}
 use Rattle.table_words.specs.Tokens.{text_words}
 use Rattle.alter_schema.specs.declared.code.AlterCode.{AlterCode}
 use Rattle.alter_text.specs.Clauses.{read}

@@ -5,9 +5,9 @@ ghost use Rattle.alter_text.specs.Adding.{add_column_at, add_index_at, add_at, c
 
 use crate::column::{new_column_at, spot_at};
 use crate::pieces::{behind_column, is_index_word, is_out_of_scope, key_at, keyword_at, name_at};
-use alter_image::Clause;
 use alter_schema::{AlterCode, AlterFault};
 use gho_values::Duplicate;
+use gho_values::alter_image::Clause;
 use std::alloc::Global;
 use table_words::{KeyText, Token};
 

@@ -5,8 +5,8 @@ ghost use Rattle.alter_schema.specs.Codes.{Answers};
 ghost use Rattle.alter_text.specs.Column.{new_attribute_at, new_attributes_at, new_column_at, after_at, spot_at};
 
 use crate::pieces::{attribute_at, keyword_at, kind_at, name_at};
-use alter_image::{NewColumn, Spot};
 use alter_schema::{AlterCode, AlterFault};
+use gho_values::alter_image::{NewColumn, Spot};
 use std::alloc::Global;
 use table_words::{Attribute, Attributes, Token, behind_keyword};
 

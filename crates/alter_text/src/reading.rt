@@ -4,9 +4,9 @@ ghost use Rattle.alter_schema.specs.Codes.{Answers};
 ghost use Rattle.alter_text.specs.Reading.{alter_at};
 
 use crate::clauses::{clauses_at, front_at};
-use alter_image::Clauses;
 use alter_schema::{AlterCode, AlterFault};
 use gho_values::Name;
+use gho_values::alter_image::Clauses;
 use std::alloc::Global;
 use table_words::text_words;
 

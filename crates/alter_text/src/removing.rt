@@ -4,8 +4,8 @@ ghost use Rattle.alter_schema.specs.Codes.{Answers};
 ghost use Rattle.alter_text.specs.Removing.{drop_column_at, drop_index_at, drop_at, rename_column_at, rename_at};
 
 use crate::pieces::{behind_column, is_index_word, is_out_of_scope, keyword_at, name_at};
-use alter_image::Clause;
 use alter_schema::{AlterCode, AlterFault};
+use gho_values::alter_image::Clause;
 use std::alloc::Global;
 use table_words::Token;
 

@@ -1,7 +1,7 @@
 -- *Altered schema* of a plan.
 use Rattle.std.specs.Prelude.{◌≡◌, ℕ, List, Some}
-use Rattle.gho_schema.specs.declared.schema.Schema.{Schema}
-use Rattle.alter_image.specs.declared.map.MapColumn.{MapColumn}
+use Rattle.gho_values.specs.declared.gho_schema.schema.Schema.{Schema}
+use Rattle.gho_values.specs.declared.alter_image.map.MapColumn.{MapColumn}
 use Rattle.schema_print.specs.Printing.{printed_schema}
 use Rattle.plan_words.specs.PlanData.{PlanData, plan_altered}
 use Rattle.call_endings.specs.declared.printed.Printed.{Printed}

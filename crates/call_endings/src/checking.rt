@@ -5,8 +5,8 @@ ghost use Rattle.call_endings.specs.Checks.{Alters, IsSchemaText, IsSchema};
 
 use crate::printed::Printed;
 use crate::status::Status;
-use gho_schema::Schema;
 use gho_values::Text;
+use gho_values::gho_schema::Schema;
 use plan_words::Plan;
 use schema_print::print_schema;
 use std::alloc::{AllocError, Global};

@@ -20,8 +20,8 @@ use Rattle.plain_server.specs.declared.transaction.TxnEnd.{TxnEnd}
 use Rattle.plain_server.specs.Along.{gathered}
 use Rattle.plain_server.specs.Entries.{is_client, same_actor}
 use Rattle.plan_words.specs.PlanData.{PlanData}
-use Rattle.journal_words.specs.Clients.{Became, Nothing, Waits, Marked, Broken, Reached, became, client_at, ends_with, is_inside, number_of, script_of}
-use Rattle.journal_words.specs.Histories.{about, adds, alters, asked_about, client_ends, ends_so, entry_adds, history, line_ends, renames_away, request_waiting, told_in, waits_behind, waits_in}
+use Rattle.migration_program.specs.JournalWords.Clients.{Became, Nothing, Waits, Marked, Broken, Reached, became, client_at, ends_with, is_inside, number_of, script_of}
+use Rattle.migration_program.specs.JournalWords.Histories.{about, adds, alters, asked_about, client_ends, ends_so, entry_adds, history, line_ends, renames_away, request_waiting, told_in, waits_behind, waits_in}
 use Rattle.client_lines.specs.declared.renaming.Renaming.{Renaming}
 use Rattle.client_lines.specs.Pasts.{alter_text, history_line, item_text, past_text}
 use Rattle.client_lines.specs.Walks.{AreRenaming, Walk, added_by, became_now, client_added, ended_text, ends_now, history_from, is_done, is_open, new_walk, nobody_renames, number_in, renames_at, renames_behind, renames_in, renaming_after, tool_added, walk_after, walk_at, walk_of, walks_after, with_renaming}

@@ -4,8 +4,8 @@ use Rattle.std.specs.List.{flat_map}
 use Rattle.script_text.specs.declared.script.ScriptLine.{ScriptLine}
 use Rattle.plain_server.specs.declared.entry.Entry.{Entry}
 use Rattle.plan_words.specs.PlanData.{PlanData}
-use Rattle.journal_words.specs.Clients.{script_of}
-use Rattle.journal_words.specs.Histories.{NumberedReply}
+use Rattle.migration_program.specs.JournalWords.Clients.{script_of}
+use Rattle.migration_program.specs.JournalWords.Histories.{NumberedReply}
 use Rattle.client_lines.specs.Replies.{client_line, client_text, numbered_text}
 use Rattle.client_lines.specs.Walks.{new_walk, replies_from}
 use Rattle.client_lines.proofs.Walking.{replies_found}

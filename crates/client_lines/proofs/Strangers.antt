@@ -8,8 +8,8 @@ use Rattle.plain_server.specs.declared.transaction.Mark.{Mark}
 use Rattle.plain_server.specs.declared.transaction.Reply.{Reply}
 use Rattle.plain_server.specs.Entries.{same_actor}
 use Rattle.plan_words.specs.PlanData.{PlanData}
-use Rattle.journal_words.specs.Clients.{Became, Nothing, Waits, Marked, Broken, Reached, after_turn, became, client_after, client_at, marked, new_client, script_of}
-use Rattle.journal_words.specs.Histories.{client_ends}
+use Rattle.migration_program.specs.JournalWords.Clients.{Became, Nothing, Waits, Marked, Broken, Reached, after_turn, became, client_after, client_at, marked, new_client, script_of}
+use Rattle.migration_program.specs.JournalWords.Histories.{client_ends}
 
 -- no line is left and none is open
 record IsNobody (client : Reached) : Type 0 where

@@ -15,8 +15,8 @@ use Rattle.plain_server.specs.declared.entry.Entry.{Entry}
 use Rattle.plain_server.specs.Along.{gathered}
 use Rattle.plain_server.specs.Entries.{same_actor}
 use Rattle.plan_words.specs.PlanData.{PlanData}
-use Rattle.journal_words.specs.Clients.{Became, Nothing, Waits, Marked, Broken, Reached, after_turn, became, behind_transaction, client_after, client_at, closes, ends_with, is_inside, kept_unless, left_behind, marked, new_client, number_of, script_of, with_line}
-use Rattle.journal_words.specs.Histories.{NumberedReply, replied, replied_in, replies_of}
+use Rattle.migration_program.specs.JournalWords.Clients.{Became, Nothing, Waits, Marked, Broken, Reached, after_turn, became, behind_transaction, client_after, client_at, closes, ends_with, is_inside, kept_unless, left_behind, marked, new_client, number_of, script_of, with_line}
+use Rattle.migration_program.specs.JournalWords.Histories.{NumberedReply, replied, replied_in, replies_of}
 use Rattle.client_lines.specs.Walks.{IsSmall, Walk, behind_line, ends_now, is_open, new_walk, number_in, replied_by, replies_from, walk_after, walk_marked, walk_of}
 
 -- ---- a client's walk is what is kept of how far it is

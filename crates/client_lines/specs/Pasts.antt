@@ -4,7 +4,7 @@ use Rattle.std.specs.Fmt.{decimal}
 use Rattle.std.specs.List.{flat_map}
 use Rattle.plain_server.specs.declared.entry.Entry.{Entry}
 use Rattle.plan_words.specs.PlanData.{PlanData}
-use Rattle.journal_words.specs.Histories.{HistoryItem, Txn, Alter, history}
+use Rattle.migration_program.specs.JournalWords.Histories.{HistoryItem, Txn, Alter, history}
 
 -- a transaction's client and its number in the client's script, as in ` c2.1`
 unfoldable pub past_text : ℕ → ℕ → List ℕ

@@ -7,7 +7,7 @@ use Rattle.plain_server.specs.declared.transaction.Reply.{Reply}
 use Rattle.plain_server.specs.declared.transaction.Reply.TheVariants.{Ok, Error, Rows}
 use Rattle.plain_server.specs.declared.entry.Entry.{Entry}
 use Rattle.plan_words.specs.PlanData.{PlanData}
-use Rattle.journal_words.specs.Histories.{NumberedReply, replies_of}
+use Rattle.migration_program.specs.JournalWords.Histories.{NumberedReply, replies_of}
 use Rattle.table_lines.specs.Tables.{row_lines}
 
 -- a reply: `ok 1`, `error 1062`, `rows 2` and then the rows; or `lost`, where the session was lost at the line

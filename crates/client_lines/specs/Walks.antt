@@ -14,8 +14,8 @@ use Rattle.plain_server.specs.declared.entry.Entry.{Entry}
 use Rattle.plain_server.specs.Alone.{reply_of}
 use Rattle.plain_server.specs.Entries.{is_client, same_actor}
 use Rattle.plan_words.specs.PlanData.{PlanData}
-use Rattle.journal_words.specs.Clients.{Became, Nothing, Waits, Marked, Broken, Reached, became_in, ends_with, left_behind}
-use Rattle.journal_words.specs.Histories.{NumberedReply, renames_away, request_waiting, told_in}
+use Rattle.migration_program.specs.JournalWords.Clients.{Became, Nothing, Waits, Marked, Broken, Reached, became_in, ends_with, left_behind}
+use Rattle.migration_program.specs.JournalWords.Histories.{NumberedReply, renames_away, request_waiting, told_in}
 use Rattle.client_lines.specs.declared.became.Became.{Became as Happened}
 use Rattle.client_lines.specs.declared.became.Became.TheVariants as happened
 use Rattle.client_lines.specs.declared.renaming.Renaming.{Renaming}

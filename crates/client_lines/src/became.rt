@@ -3,7 +3,7 @@
 ghost use Rattle.std.specs.Prelude.{◌≡◌, is_some};
 ghost use Rattle.script_text.specs.declared.actor.Actor.TheVariants.{Client};
 ghost use Rattle.plain_server.specs.Entries.{same_actor};
-ghost use Rattle.journal_words.specs.Clients.{became_in, became_of, cut_off, ends_with, lost_side, was_done};
+ghost use Rattle.migration_program.specs.JournalWords.Clients.{became_in, became_of, cut_off, ends_with, lost_side, was_done};
 ghost use Rattle.client_lines.specs.Walks.{became_view};
 
 use plain_server::{Answer, Asked, Entry, Mark};

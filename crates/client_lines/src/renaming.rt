@@ -1,7 +1,7 @@
 //! Who waits with the RENAME, and when it is done.
 
 ghost use Rattle.std.specs.Prelude.{◌≡◌};
-ghost use Rattle.journal_words.specs.Histories.{renames_away, takes_away, told_in};
+ghost use Rattle.migration_program.specs.JournalWords.Histories.{renames_away, takes_away, told_in};
 ghost use Rattle.std.specs.declared.option.Option.TheVariants.{Some};
 ghost use Rattle.client_lines.specs.Walks.{is_done, nobody_renames, renames_at, renames_behind, renames_in, renaming_after, with_renaming};
 

@@ -2,7 +2,7 @@
 
 ghost use Rattle.std.specs.Prelude.{◌≡◌, ◌+◌, ◌++◌, OnOk, option_and_then};
 ghost use Rattle.std.specs.List.{flat_map};
-ghost use Rattle.journal_words.specs.Clients.{script_of};
+ghost use Rattle.migration_program.specs.JournalWords.Clients.{script_of};
 ghost use Rattle.plain_server.specs.Alone.{reply_of};
 ghost use Rattle.plain_server.specs.declared.transaction.Reply.TheVariants.{Rows};
 ghost use Rattle.std.specs.declared.option.Option.TheVariants.{Some};

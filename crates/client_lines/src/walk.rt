@@ -1,7 +1,7 @@
 //! How far a client is in its script.
 
 ghost use Rattle.std.specs.Prelude.{◌≡◌, ◌+◌, if◌then◌else◌};
-ghost use Rattle.journal_words.specs.Clients.{behind_transaction, closes};
+ghost use Rattle.migration_program.specs.JournalWords.Clients.{behind_transaction, closes};
 ghost use Rattle.client_lines.specs.Walks.{became_now, became_view, behind_line, ends_now, is_open, new_walk, number_in, walk_after, walk_marked};
 
 use crate::became::{Became, became_in, ends};

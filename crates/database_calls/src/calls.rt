@@ -4,10 +4,10 @@
 //! differ, ` or not` stands behind it.
 
 use case_lines::{CallFault, row_of, say, say_difference, say_found};
-use gho_schema::key_of;
+use gho_values::gho_schema::key_of;
 use gho_values::{Duplicate, Name, Row, Sequence, Text};
 use paged_tables::Tables;
-use row_pages::Table;
+use paged_tables::row_pages::Table;
 use row_store::{
     AddFault, NotRenamed, Pair, Pairs, RenameFault, Table as ListedTable, Tables as ListedTables,
 };

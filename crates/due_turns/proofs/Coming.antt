@@ -15,13 +15,13 @@ use Rattle.plain_server.specs.declared.entry.Entry.{Entry}
 use Rattle.plain_server.specs.declared.request.Request.{Request}
 use Rattle.plain_server.specs.Entries.{is_cut}
 use Rattle.plan_words.specs.PlanData.{PlanData}
-use Rattle.journal_words.specs.Clients.{client_at, line_asks, client_asks}
-use Rattle.journal_words.specs.Journals.{turns_of, may_lose}
-use Rattle.journal_words.specs.Keeping.{words_of, or_first, cut_by, cut_among, cut_due, struck_among, side_due}
-use Rattle.journal_words.specs.Sessions.{live_session}
+use Rattle.migration_program.specs.JournalWords.Clients.{client_at, line_asks, client_asks}
+use Rattle.migration_program.specs.JournalWords.Journals.{turns_of, may_lose}
+use Rattle.migration_program.specs.JournalWords.Keeping.{words_of, or_first, cut_by, cut_among, cut_due, struck_among, side_due}
+use Rattle.migration_program.specs.JournalWords.Sessions.{live_session}
 use Rattle.migration_program.specs.Tools.{moment}
 use Rattle.migration_program.specs.Programs.{waits, tool_call, calls, commands, tool_asks, given}
-use Rattle.migration_run.specs.declared.turn.Turn.{Turn}
+use Rattle.due_turns.specs.declared.migration_run.turn.Turn.{Turn}
 use Rattle.due_turns.specs.Due.{own_turn, given_turn, cut_turn, due_by, due}
 
 -- a turn that is due: a session is lost between calls, or what is given to the actor is asked
@@ -49,7 +49,7 @@ comes plan journal actor turn is = by (cut_due plan journal) refl is
 line_called : (waiting : Bool) (left : List ScriptLine) (asked : Asked) → line_asks waiting left ≡ Some asked → may_lose asked ≡ true
 line_called waiting [] asked is = absurd (cc)
 line_called true (line ∷ left) asked is = let same : Poll ≡ asked = cc in subst (λ (a : Asked). may_lose a ≡ true) same refl
-line_called false (line ∷ left) asked is = by (Rattle.journal_words.specs.Clients.word_asks line.word) is
+line_called false (line ∷ left) asked is = by (Rattle.migration_program.specs.JournalWords.Clients.word_asks line.word) is
   where
     by : (request : Request) → Some (Call request) ≡ Some asked → may_lose asked ≡ true
     by request is = let same : Call request ≡ asked = cc in subst (λ (a : Asked). may_lose a ≡ true) same refl

@@ -11,18 +11,18 @@ use Rattle.plain_server.specs.Entries.{is_client, is_command, is_cut}
 use Rattle.plain_server.specs.States.{State}
 use Rattle.plain_server.specs.Serving.{given_at}
 use Rattle.plan_words.specs.PlanData.{PlanData}
-use Rattle.journal_words.specs.Journals.{opening, state_at, after_entry, inner_answer, heard, missed, may_lose, IsAnswered}
-use Rattle.journal_words.specs.Keeping.{side_due, TakesNext, IsStruck, IsPlanned}
-use Rattle.journal_words.specs.Sessions.{live_session, sessions_named, IsInSession, IsNumbered, NumbersSessions}
+use Rattle.migration_program.specs.JournalWords.Journals.{opening, state_at, after_entry, inner_answer, heard, missed, may_lose, IsAnswered}
+use Rattle.migration_program.specs.JournalWords.Keeping.{side_due, TakesNext, IsStruck, IsPlanned}
+use Rattle.migration_program.specs.JournalWords.Sessions.{live_session, sessions_named, IsInSession, IsNumbered, NumbersSessions}
 use Rattle.migration_program.specs.Programs.{given, IsGiven, IsFollowed}
-use Rattle.run_laws.specs.Counting.{IsBehind}
-use Rattle.run_laws.specs.Kept.{IsKept}
-use Rattle.run_laws.specs.Laws.{Living}
-use Rattle.run_laws.proofs.Keeping.{kept_more, next_of}
+use Rattle.history_laws.specs.RunLaws.Counting.{IsBehind}
+use Rattle.history_laws.specs.RunLaws.Kept.{IsKept}
+use Rattle.history_laws.specs.RunLaws.Laws.{Living}
+use Rattle.history_laws.proofs.RunLaws.Keeping.{kept_more, next_of}
 use Rattle.history_laws.proofs.Journals.{state_more}
-use Rattle.run_laws.proofs.Living.{all_living}
-use Rattle.migration_run.specs.declared.turn.Turn.{Turn}
-use Rattle.migration_run.specs.Turning.{answer_on, entry_on}
+use Rattle.history_laws.proofs.RunLaws.Living.{all_living}
+use Rattle.due_turns.specs.declared.migration_run.turn.Turn.{Turn}
+use Rattle.due_turns.specs.MigrationRun.Turning.{answer_on, entry_on}
 use Rattle.due_turns.specs.Due.{session_at, next_entry}
 use Rattle.due_turns.specs.Laws.{IsKeptWith, DueTurnsAreKept, DueTurnsAreNumbered}
 use Rattle.due_turns.proofs.Coming.{Comes, Cuts, Gives, comes, Asks, Commands, Called, given_asks, given_uncut, operator_unstruck, Lives, cut_lives}

@@ -2,3 +2,4 @@ pub mod Coming
 pub mod Serving
 pub mod Keeping
 pub mod DueCalls
+pub mod MigrationRun

@@ -6,11 +6,11 @@ use Rattle.plain_server.specs.declared.entry.Asked.TheVariants.{Command, Cut}
 use Rattle.plain_server.specs.declared.entry.Entry.{Entry}
 use Rattle.plain_server.specs.States.{State}
 use Rattle.plan_words.specs.PlanData.{PlanData}
-use Rattle.journal_words.specs.Keeping.{cut_due, side_due}
-use Rattle.journal_words.specs.Sessions.{live_session}
+use Rattle.migration_program.specs.JournalWords.Keeping.{cut_due, side_due}
+use Rattle.migration_program.specs.JournalWords.Sessions.{live_session}
 use Rattle.migration_program.specs.Programs.{given}
-use Rattle.migration_run.specs.declared.turn.Turn.{Turn}
-use Rattle.migration_run.specs.Turning.{session_for, entry_on}
+use Rattle.due_turns.specs.declared.migration_run.turn.Turn.{Turn}
+use Rattle.due_turns.specs.MigrationRun.Turning.{session_for, entry_on}
 
 -- an actor's turn in which it asks this; its session is lost in it where a loss strikes
 abbrev pub own_turn : PlanData → List Entry → Actor → Asked → Turn

@@ -4,11 +4,11 @@ use Rattle.script_text.specs.declared.actor.Actor.{Actor}
 use Rattle.plain_server.specs.declared.entry.Entry.{Entry}
 use Rattle.plain_server.specs.States.{State}
 use Rattle.plan_words.specs.PlanData.{PlanData}
-use Rattle.journal_words.specs.Journals.{after_entry, state_at}
-use Rattle.journal_words.specs.Sessions.{NumbersSessions}
-use Rattle.run_laws.specs.Counting.{IsBehind}
-use Rattle.run_laws.specs.Kept.{IsKept}
-use Rattle.migration_run.specs.declared.turn.Turn.{Turn}
+use Rattle.migration_program.specs.JournalWords.Journals.{after_entry, state_at}
+use Rattle.migration_program.specs.JournalWords.Sessions.{NumbersSessions}
+use Rattle.history_laws.specs.RunLaws.Counting.{IsBehind}
+use Rattle.history_laws.specs.RunLaws.Kept.{IsKept}
+use Rattle.due_turns.specs.declared.migration_run.turn.Turn.{Turn}
 use Rattle.due_turns.specs.Due.{due, next_entry}
 
 -- the journal with this entry is kept, and the server as the entry leaves it is the one behind it

@@ -1,3 +1,4 @@
 pub mod Due
 pub mod Laws
 pub mod DueCalls
+pub mod MigrationRun

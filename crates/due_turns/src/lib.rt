@@ -3,3 +3,4 @@
 
 pub mod due_calls;
 pub mod laws;
+pub mod migration_run;

@@ -4,3 +4,6 @@ pub mod PrintedValues
 pub mod SpanLaws
 pub mod StoredValues
 pub mod TextNumbers
+pub mod GhoSchema
+pub mod AlterImage
+pub mod SchemaRules

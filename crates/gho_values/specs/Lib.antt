@@ -4,3 +4,6 @@ pub mod Printing
 pub mod Spans
 pub mod Storing
 pub mod ValueOrder
+pub mod GhoSchema
+pub mod AlterImage
+pub mod SchemaRules

@@ -1,13 +1,16 @@
 //! The values of MySQL's columns, and the lists, names and texts that every layer above is made of.
 #![tactic(auto)]
 
+pub mod alter_image;
 mod comparing;
 mod duplicate;
 mod fault;
+pub mod gho_schema;
 mod kind;
 pub mod laws;
 mod name;
 mod printing;
+pub mod schema_rules;
 mod sequence;
 mod span;
 mod storing;

@@ -15,9 +15,9 @@ use Rattle.plain_server.specs.declared.entry.Asked.TheVariants.{Call, Poll, Comm
 use Rattle.plain_server.specs.declared.entry.Entry.{Entry}
 use Rattle.plain_server.specs.Entries.{same_actor, is_client, is_command, is_cut}
 use Rattle.plain_server.specs.Along.{Along-keeps}
-use Rattle.journal_words.specs.Sessions.{session_left, session_in, live_session, sessions_named, IsInSession, IsSeated, KeepsSessions}
+use Rattle.migration_program.specs.JournalWords.Sessions.{session_left, session_in, live_session, sessions_named, IsInSession, IsSeated, KeepsSessions}
 use Rattle.history_laws.specs.Plans.{is_client_session}
-use Rattle.statement_laws.proofs.Tests.{same_number, are_one}
+use Rattle.plain_server.proofs.StatementLaws.Tests.{same_number, are_one}
 
 -- ACTORS
 

@@ -23,7 +23,7 @@ use Rattle.std.specs.Prelude.{option_to_list}
 use Rattle.plain_server.specs.Alone.{reply_of}
 use Rattle.history_laws.specs.Scenes.{PlainItem, Stored, Scene, NamesTable, EventsMine, SessionHold, Going, no_hold, not_going, IsSteady, IsFine, Besides}
 use Rattle.plain_server.specs.Alone.{stays, commit_was_done, is_commit, is_done, is_statement, line_says, line_events, line_replies}
-use Rattle.statement_laws.specs.Covering.{Apart}
+use Rattle.plain_server.specs.StatementLaws.Covering.{Apart}
 use Rattle.history_laws.proofs.Held.{hold_in, holding_face, rests_face, said_mine, mine_both}
 use Rattle.plain_server.specs.Jobs.{job_of, says, after_events}
 use Rattle.history_laws.specs.Turns.{Adds, Ends, Breaks, fate_answered}
@@ -35,7 +35,7 @@ use Rattle.plain_server.specs.declared.need.Need.{Need}
 use Rattle.plain_server.specs.States.{State, is_in_transaction, locked_names, session_of, view, with_session, writes_of}
 use Rattle.plain_server.specs.Serving.{at_rest, commits, goes_on, holding, loses}
 use Rattle.history_laws.specs.Asking.{does_word, need_of_word}
-use Rattle.statement_laws.proofs.Tests.{turned}
+use Rattle.plain_server.proofs.StatementLaws.Tests.{turned}
 
 -- the last line of a lost transaction decides whether it was done
 commit_last : (first : TxnLine) (lines : List TxnLine) (line : TxnLine) → commit_was_done first (lines ++ line ∷ []) ≡ (is_commit line.word && is_done line.mark)

@@ -6,8 +6,8 @@ use Rattle.std.specs.List.{AllByRecursion}
 use Rattle.std.proofs.lemmas.Cmp.{tied_itself}
 use Rattle.gho_values.specs.Comparing.{compare_keys}
 use Rattle.gho_values.proofs.Orders.{keys_total, tied_keys}
-use Rattle.gho_schema.specs.Rows.{key_of}
-use Rattle.gho_schema.specs.Tables.{Ascends}
+use Rattle.gho_values.specs.GhoSchema.Rows.{key_of}
+use Rattle.gho_values.specs.GhoSchema.Tables.{Ascends}
 use Rattle.event_codec.specs.declared.event.RowEvent.{RowEvent}
 use Rattle.row_store.specs.Databases.{Database, with_change}
 use Rattle.row_store.specs.RowLists.{is_at, without_key}
@@ -20,9 +20,9 @@ use Rattle.plain_server.specs.Rows.{same_row, stands, without_row}
 use Rattle.plain_server.specs.Jobs.{table_of, job_says, after_events, change_table}
 use Rattle.history_laws.specs.Scenes.{FoundAlike, NamesTable}
 use Rattle.plain_server.specs.Alone.{line_says, Ran, lines_run}
-use Rattle.statement_laws.proofs.Standing.{one_row, same_itself, stands-filter, one_list}
-use Rattle.statement_laws.proofs.Finding.{found_after}
-use Rattle.statement_laws.proofs.Stables.{one_more, more_alike}
+use Rattle.plain_server.proofs.StatementLaws.Standing.{one_row, same_itself, stands-filter, one_list}
+use Rattle.plain_server.proofs.StatementLaws.Finding.{found_after}
+use Rattle.plain_server.proofs.StatementLaws.Stables.{one_more, more_alike}
 
 pub alike_events : (names : List (List ℕ)) (a b : Database) (events : List RowEvent) → FoundAlike names a b → FoundAlike names (after_events a events) (after_events b events)
 unfolding after_events

@@ -12,7 +12,7 @@ use Rattle.history_laws.specs.Turns.{IsExchange}
 use Rattle.history_laws.specs.Laws.{ExchangeAlters}
 use Rattle.history_laws.proofs.Kept.{unfound}
 use Rattle.history_laws.proofs.Moves.{renamed_other, renamed_new}
-use Rattle.statement_laws.proofs.Tests.{are_same, turned_bytes}
+use Rattle.plain_server.proofs.StatementLaws.Tests.{are_same, turned_bytes}
 
 -- what each of two pairs that are renamed found
 pub record Both (old kept ghost : List ℕ) (tables after : Database) : Type 0 where

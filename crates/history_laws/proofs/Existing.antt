@@ -8,7 +8,7 @@ use Rattle.plain_server.specs.declared.entry.Entry.{Entry}
 use Rattle.history_laws.specs.Laws.{TurnsHaveJournals}
 use Rattle.history_laws.proofs.Journals.{state_more}
 use Rattle.plain_server.specs.States.{State, opened}
-use Rattle.journal_words.specs.Journals.{after_entry, state_behind}
+use Rattle.migration_program.specs.JournalWords.Journals.{after_entry, state_behind}
 
 from_here : (limits : Limits) (scene : Scene) (before : List Entry) (state : State) (turns : List Turn) → scene_state limits scene before ≡ state → Along (IsTold limits scene) before (kept_from state turns)
 unfolding kept_from

@@ -10,14 +10,14 @@ use Rattle.row_locks.specs.Granting.{conflict, refusal, refuser_of_lock, refuser
 use Rattle.least_session.proofs.Sessions.{none_of, not_refused}
 use Rattle.row_locks.proofs.HeldLocks.{conflict_both_ways}
 use Rattle.plain_server.specs.declared.session.Session.{Session}
-use Rattle.statement_laws.specs.Agreeing.{Among}
-use Rattle.statement_laws.specs.Covering.{Apart}
+use Rattle.plain_server.specs.StatementLaws.Agreeing.{Among}
+use Rattle.plain_server.specs.StatementLaws.Covering.{Apart}
 use Rattle.history_laws.specs.Scenes.{Besides}
 use Rattle.history_laws.specs.Holdings.{no_face, face_in, face_of}
 use Rattle.std.specs.Prelude.{is_some}
 use Rattle.plain_server.specs.States.{connected, State, locks_held, new_session, session_of, with_session, writes_of, is_in_transaction}
-use Rattle.journal_words.specs.Journals.{opens_if}
-use Rattle.statement_laws.proofs.Tests.{same_number, are_one}
+use Rattle.migration_program.specs.JournalWords.Journals.{opens_if}
+use Rattle.plain_server.proofs.StatementLaws.Tests.{same_number, are_one}
 
 -- the session that is changed, and the others
 pub changed_here : (number : ℕ) (change : Session → Session) (sessions : List Session) (found : Session) → ((s : Session) → (change s).number ≡ s.number) → session_of number sessions ≡ Some found → session_of number (with_session number change sessions) ≡ Some (change found)

@@ -19,8 +19,8 @@ use Rattle.plain_server.specs.States.{State, session_of, is_in_transaction, view
 use Rattle.plain_server.specs.Locking.{need, need_within, blocker}
 use Rattle.plain_server.specs.Deeds.{result_deed, deed_within, deed_unless, is_outside}
 use Rattle.plain_server.specs.Serving.{does, done, called_unless, calls, is_over, polled_over, polled_unless, polled_of, polls, serves, without_waiting}
-use Rattle.journal_words.specs.Journals.{may_lose}
-use Rattle.journal_words.specs.Clients.{Reached, lost_side, word_asks}
+use Rattle.migration_program.specs.JournalWords.Journals.{may_lose}
+use Rattle.migration_program.specs.JournalWords.Clients.{Reached, lost_side, word_asks}
 use Rattle.history_laws.specs.Turns.{answer_at, missed_at, was_given, mark_lost, request_of}
 use Rattle.history_laws.proofs.Replies.{IsReply, line_replies_so}
 use Rattle.history_laws.proofs.Progress.{IsLineAnswer, HeardSo, Heard, CutOff, LostAt, AsksNext, Calls, Polls, IsCut, LineWaits, not_waiting}

@@ -16,7 +16,7 @@ use Rattle.history_laws.specs.Scenes.{Scene, Stored, PlainItem, Txn, Alter, Lead
 use Rattle.plain_server.specs.Alone.{alone}
 use Rattle.history_laws.specs.Turns.{scene_state, inner, answer_at, missed_at, IsTold}
 use Rattle.plain_server.specs.Serving.{given_at}
-use Rattle.journal_words.specs.Journals.{opens, heard, missed, may_lose, inner_answer, IsAnswered}
+use Rattle.migration_program.specs.JournalWords.Journals.{opens, heard, missed, may_lose, inner_answer, IsAnswered}
 use Rattle.std.proofs.lemmas.Bool.{false≢true}
 
 heard_is : (side : Option Side) (state : State) (number : ℕ) (asked : Asked) → (is_cut asked ≡ true → side ≡ None) → heard side (given_at side asked (serves state number asked).answer) ≡ answer_at side (serves state number asked).answer

@@ -10,22 +10,22 @@ use Rattle.script_text.specs.declared.script.ScriptWord.TheVariants as words
 use Rattle.plain_server.specs.declared.session.Limits.{Limits}
 use Rattle.plain_server.specs.declared.session.Session.{Session}
 use Rattle.plain_server.specs.Along.{Along, Along-both, Along-keeps, gathered-more}
-use Rattle.statement_laws.specs.Databases.{IsOrderly}
+use Rattle.plain_server.specs.StatementLaws.Databases.{IsOrderly}
 use Rattle.plain_server.specs.Alone.{Ran, lines_run, nothing_ran}
-use Rattle.statement_laws.specs.Stability.{RunSo}
+use Rattle.plain_server.specs.StatementLaws.Stability.{RunSo}
 use Rattle.history_laws.specs.Scenes.{PlainItem, Stored, Scene, is_mine, tables_left, left, seen, NamesTable, SessionHold, Going, no_hold, not_going, IsFine, Besides}
 use Rattle.plain_server.specs.declared.answer.Answer.{Answer}
 use Rattle.plain_server.specs.declared.answer.Answer.TheVariants as answers
 use Rattle.plain_server.specs.Answers.{ok}
 use Rattle.history_laws.specs.Turns.{scene_state, inner, answer_at, missed_at, told_at, IsTold, Fate, Still, word_given, was_given, broken, word_lost, word_asked, fate_renamed, request_of, about, is_busy, fate_if, fate, happens, goings_after, goings_from, goings_at, entry_adds, history, MayAskIf, MayAsk, ClientAsks, ToolAsks, RenamesSo, DefinesSo, AtRest, IsAllowed, IsSceneRun}
-use Rattle.journal_words.specs.Histories.{renames_away}
+use Rattle.migration_program.specs.JournalWords.Histories.{renames_away}
 use Rattle.plain_server.specs.declared.entry.Asked.{Asked}
 use Rattle.plain_server.specs.declared.entry.Asked.TheVariants.{Call, Poll, Cut, Command}
 use Rattle.plain_server.specs.declared.entry.Entry.{Entry}
 use Rattle.plain_server.specs.Entries.{is_command, is_client}
 use Rattle.history_laws.specs.Holdings.{Face, no_face, face_in, face_of, stored, Holds, ProperWaits}
 use Rattle.history_laws.specs.Laws.{SceneSerial, ScenesAreSerial, IsPlain, PlainScenesAreSerial}
-use Rattle.statement_laws.proofs.Stables.{stable_end}
+use Rattle.plain_server.proofs.StatementLaws.Stables.{stable_end}
 use Rattle.history_laws.proofs.Left.{serial_left, left_found, none_alters}
 use Rattle.history_laws.proofs.Bridges.{lines_alike}
 use Rattle.history_laws.proofs.Kept.{kept_same, fine_rest}
@@ -44,10 +44,10 @@ use Rattle.plain_server.specs.Deeds.{Deed, Forgets, Grows, Locks, Moves, Rests, 
 use Rattle.plain_server.specs.Serving.{at_rest, called_unless, calls, counting, does, done, is_over, leaves, loses, polled_of, polled_over, polled_unless, polls, serves, without_waiting}
 use Rattle.plain_server.specs.declared.session.Waiting.{Waiting}
 use Rattle.history_laws.specs.Asking.{word_in}
-use Rattle.journal_words.specs.Clients.{word_asks}
+use Rattle.migration_program.specs.JournalWords.Clients.{word_asks}
 use Rattle.plain_server.specs.Locking.{need, blocker}
-use Rattle.journal_words.specs.Journals.{after_entry, opens, opens_if, state_behind}
-use Rattle.statement_laws.proofs.Tests.{are_one, turned}
+use Rattle.migration_program.specs.JournalWords.Journals.{after_entry, opens, opens_if, state_behind}
+use Rattle.plain_server.proofs.StatementLaws.Tests.{are_one, turned}
 
 -- A CLIENT'S TURN
 

@@ -12,17 +12,17 @@ use Rattle.row_locks.proofs.HeldLocks.{conflict_both_ways}
 use Rattle.row_store.specs.Databases.{TableRows, Database, find_table, with_change}
 use Rattle.plain_server.specs.declared.transaction.TxnEnd.{TxnEnd}
 use Rattle.plain_server.specs.Alone.{stays, lines_run, nothing_ran, outcome_if, alone}
-use Rattle.statement_laws.specs.Agreeing.{Agree}
-use Rattle.statement_laws.specs.Covering.{Apart}
-use Rattle.statement_laws.specs.Databases.{IsOrderly}
+use Rattle.plain_server.specs.StatementLaws.Agreeing.{Agree}
+use Rattle.plain_server.specs.StatementLaws.Covering.{Apart}
+use Rattle.plain_server.specs.StatementLaws.Databases.{IsOrderly}
 use Rattle.plain_server.specs.Jobs.{after_events, change_table}
-use Rattle.statement_laws.specs.Stability.{RunSo}
+use Rattle.plain_server.specs.StatementLaws.Stability.{RunSo}
 use Rattle.history_laws.specs.Scenes.{PlainItem, Txn, Stored, Scene, is_mine, logged, seen, FoundAlike, Alike, NamesTable, Leads, Serial, SessionHold, Going, no_hold, not_going, IsLasting, EventsMine, IsFine, IsKept, Besides}
-use Rattle.statement_laws.proofs.Finding.{agree_itself, tables_itself, found_after, change_if}
-use Rattle.statement_laws.proofs.Stables.{stable_begin, stable_others, stable_end, covered_others, others_agree}
+use Rattle.plain_server.proofs.StatementLaws.Finding.{agree_itself, tables_itself, found_after, change_if}
+use Rattle.plain_server.proofs.StatementLaws.Stables.{stable_begin, stable_others, stable_end, covered_others, others_agree}
 use Rattle.event_codec.specs.declared.event.Change.{Change}
 use Rattle.history_laws.proofs.Tools.{safe_begin, safe_others}
-use Rattle.statement_laws.proofs.Tests.{are_one, are_same}
+use Rattle.plain_server.proofs.StatementLaws.Tests.{are_one, are_same}
 
 pub apart-turn : (a b : List Lock) → Apart a b → Apart b a
 apart-turn a b apart lock other one two = conflict_both_ways lock other ∙ apart other lock two one

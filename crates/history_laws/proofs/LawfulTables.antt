@@ -2,12 +2,12 @@
 use Rattle.std.proofs.Common.{Option, Some, None, List, [], ◌∷◌}
 use Rattle.std.specs.List.{AllByRecursion}
 use Rattle.gho_values.specs.declared.value.Value.{Value}
-use Rattle.gho_schema.specs.declared.schema.Column.{Column}
-use Rattle.gho_schema.specs.declared.schema.Schema.{Schema}
-use Rattle.schema_rules.specs.Lawful as lawful
-use Rattle.schema_rules.specs.Lawful.{IsColumn, IsLawful}
-use Rattle.statement_laws.specs.Covering as covering
-use Rattle.statement_laws.specs.Covering.{IsOrderlyTable}
+use Rattle.gho_values.specs.declared.gho_schema.schema.Column.{Column}
+use Rattle.gho_values.specs.declared.gho_schema.schema.Schema.{Schema}
+use Rattle.gho_values.specs.SchemaRules.Lawful as lawful
+use Rattle.gho_values.specs.SchemaRules.Lawful.{IsColumn, IsLawful}
+use Rattle.plain_server.specs.StatementLaws.Covering as covering
+use Rattle.plain_server.specs.StatementLaws.Covering.{IsOrderlyTable}
 use Rattle.plan_words.proofs.KeyedSchemas.{lawful_keyed}
 
 pub default_fits : (column : Column) (default : Option Value) → lawful.StoresDefault column default → covering.StoresDefault column default

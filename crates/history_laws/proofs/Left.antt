@@ -12,9 +12,9 @@ use Rattle.plain_server.specs.Alone.{stays, Ran, lines_run, nothing_ran, outcome
 use Rattle.plain_server.specs.Jobs.{after_events, change_table}
 use Rattle.history_laws.specs.Scenes.{Past, PlainItem, Txn, Alter, Stored, Scene, is_mine, FoundAlike, AltersTo, Leads, Serial, tables_left, LeadsTo, SerialHistory}
 use Rattle.history_laws.specs.Laws.{IsTxn}
-use Rattle.statement_laws.proofs.Finding.{found_after, change_if}
+use Rattle.plain_server.proofs.StatementLaws.Finding.{found_after, change_if}
 use Rattle.history_laws.proofs.Bridges.{lines_alike}
-use Rattle.statement_laws.proofs.Tests.{same_bytes, are_same, turned_bytes}
+use Rattle.plain_server.proofs.StatementLaws.Tests.{same_bytes, are_same, turned_bytes}
 
 -- a table that is found has the name
 found_named : (name : List ℕ) (tables : Database) (table : TableRows) → find_table name tables ≡ Some table → bytes_eq table.schema.name name ≡ true

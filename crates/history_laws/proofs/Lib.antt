@@ -27,3 +27,7 @@ pub mod Naming
 pub mod PlanJournals
 pub mod LawfulTables
 pub mod ServerLaws
+pub mod GhostLaws
+pub mod RunLaws
+pub mod SentryLaws
+pub mod MachineLaws

@@ -29,12 +29,12 @@ use Rattle.plain_server.specs.Entries.{same_actor, is_client, is_command, is_cut
 use Rattle.plain_server.specs.States.{State, session_of, is_in_transaction, waiting_of}
 use Rattle.plain_server.specs.Serving.{serves, leaves, loses}
 use Rattle.plan_words.specs.PlanData.{PlanData}
-use Rattle.journal_words.specs.Journals.{opening, opens, after_entry, state_at, missed, may_lose}
-use Rattle.journal_words.specs.Sessions.{session_left, live_session, sessions_named}
-use Rattle.journal_words.specs.Clients.{Reached, became, client_after, after_turn, client_at, new_client, script_of, is_inside, client_asks, line_asks, word_asks}
-use Rattle.journal_words.specs.Keeping.{TakesNext}
-use Rattle.journal_words.specs.Histories as histories
-use Rattle.journal_words.specs.Histories.{HistoryItem, waits_behind, waits_in, request_waiting, asked_about, told_in, renames_away, alters, adds, client_ends}
+use Rattle.migration_program.specs.JournalWords.Journals.{opening, opens, after_entry, state_at, missed, may_lose}
+use Rattle.migration_program.specs.JournalWords.Sessions.{session_left, live_session, sessions_named}
+use Rattle.migration_program.specs.JournalWords.Clients.{Reached, became, client_after, after_turn, client_at, new_client, script_of, is_inside, client_asks, line_asks, word_asks}
+use Rattle.migration_program.specs.JournalWords.Keeping.{TakesNext}
+use Rattle.migration_program.specs.JournalWords.Histories as histories
+use Rattle.migration_program.specs.JournalWords.Histories.{HistoryItem, waits_behind, waits_in, request_waiting, asked_about, told_in, renames_away, alters, adds, client_ends}
 use Rattle.history_laws.specs.Scenes.{PlainItem, AltersTo, Scene, NamesTable, Going, not_going}
 use Rattle.history_laws.specs.Turns.{request_of, Fate, fate_renamed, fate_if, client_fate, going_on, goings_after, happens, told_at, is_busy, inner, fate, ClientAsks, LineOf, MayAsk, MayAskIf, AtRest, RenamesSo, IsAllowed, answer_at, missed_at}
 use Rattle.history_laws.specs.Turns as law
@@ -47,7 +47,7 @@ use Rattle.history_laws.proofs.Journals.{opened_waits, state_more, word_back}
 use Rattle.history_laws.proofs.Waiting.{waits_there, waits_called, waits_polled, none_waits, filter_gone}
 use Rattle.history_laws.proofs.Progress.{plain, going_of, LineWaits, Free, Held, Alike, AsksNext, Calls, Polls, IsCut, HeardSo, client_alike, client_gone, lines_stay}
 use Rattle.history_laws.proofs.Hearing.{heard_so}
-use Rattle.statement_laws.proofs.Tests.{same_number, turned}
+use Rattle.plain_server.proofs.StatementLaws.Tests.{same_number, turned}
 
 -- ONE TURN MORE
 

@@ -4,16 +4,16 @@ use Rattle.std.proofs.lemmas.Bool.{true≢false}
 use Rattle.std.specs.List.{list_any}
 use Rattle.std.specs.Str.{bytes_eq}
 use Rattle.std.specs.Option.{option_map}
-use Rattle.gho_schema.specs.declared.schema.Schema.{Schema}
+use Rattle.gho_values.specs.declared.gho_schema.schema.Schema.{Schema}
 use Rattle.row_store.specs.Databases.{TableRows, Database, find_table, has_table, is_named, without_table, with_name, name_table, rename_tables}
 use Rattle.row_store.specs.declared.renaming.Pair.{Pair}
 use Rattle.row_store.specs.declared.renaming.NotRenamed.TheVariants as reasons
 use Rattle.row_store.specs.declared.renaming.NotRenamed.{NotRenamed}
-use Rattle.statement_laws.specs.Covering.{IsOrderlyTable}
-use Rattle.statement_laws.specs.Databases.{WhereFound, IsOrderly}
+use Rattle.plain_server.specs.StatementLaws.Covering.{IsOrderlyTable}
+use Rattle.plain_server.specs.StatementLaws.Databases.{WhereFound, IsOrderly}
 use Rattle.plain_server.specs.States.{pair_names}
 use Rattle.plain_server.specs.Deeds.{renamed_or}
-use Rattle.statement_laws.proofs.Tests.{same_bytes, are_same, turned_bytes, nor_left, nor_right}
+use Rattle.plain_server.proofs.StatementLaws.Tests.{same_bytes, are_same, turned_bytes, nor_left, nor_right}
 
 -- whole tables of these names changed
 pub record Moved (names : List (List ℕ)) (before after : Database) : Type 0 where

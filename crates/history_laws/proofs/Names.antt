@@ -18,8 +18,8 @@ use Rattle.std.specs.Prelude.{is_some}
 use Rattle.plain_server.specs.States.{connected, State, name_held, names_held, new_session, session_of, shared_names, with_session}
 use Rattle.plain_server.specs.declared.need.Need.{Need}
 use Rattle.plain_server.specs.Serving.{at_rest, counting, exclusive, holding, locking, shared, unlocking}
-use Rattle.journal_words.specs.Journals.{opens_if}
-use Rattle.statement_laws.proofs.Tests.{same_number, are_one, are_same, turned_bytes}
+use Rattle.migration_program.specs.JournalWords.Journals.{opens_if}
+use Rattle.plain_server.proofs.StatementLaws.Tests.{same_number, are_one, are_same, turned_bytes}
 
 -- a held name among two lists
 pub held_parts : (one : grants.HeldName) (a b : List grants.HeldName) → IsHeld one (a ++ b) → IsHeld one a ⊎ IsHeld one b

@@ -17,12 +17,12 @@ use Rattle.plain_server.specs.Alone.{Ran, outcome_if, alone, stays, lines_run, n
 use Rattle.plain_server.specs.Jobs.{change_table, after_events}
 use Rattle.changelog_table.specs.ToolNames.{is_tool_name, ghost_name, log_name, old_name}
 use Rattle.plan_words.specs.PlanData.{PlanData}
-use Rattle.journal_words.specs.Clients.{script_of}
-use Rattle.journal_words.specs.Serials as serials
+use Rattle.migration_program.specs.JournalWords.Clients.{script_of}
+use Rattle.migration_program.specs.JournalWords.Serials as serials
 use Rattle.std.proofs.Common.{append_assoc, append-nil}
 use Rattle.history_laws.specs.Scenes.{PlainItem, Txn, Alter, Stored, Scene, is_mine, NamesTable, Leads, Serial, tables_left}
 use Rattle.history_laws.specs.Plans.{client_tables, names_of, script_names, client_names, IsSerialPlan}
-use Rattle.statement_laws.proofs.Tests.{same_bytes, are_same, nor_right}
+use Rattle.plain_server.proofs.StatementLaws.Tests.{same_bytes, are_same, nor_right}
 
 -- A NAME AMONG OTHERS
 

@@ -2,8 +2,8 @@
 use Rattle.std.proofs.Common.{ℕ, Bool, true, false, List, [], ◌∷◌, cond, Some}
 use Rattle.std.specs.List.{AllByRecursion}
 use Rattle.row_store.specs.Databases.{TableRows, Database, find_table, is_named}
-use Rattle.statement_laws.specs.Covering.{IsOrderlyTable}
-use Rattle.statement_laws.specs.Databases.{WhereFound, IsOrderly}
+use Rattle.plain_server.specs.StatementLaws.Covering.{IsOrderlyTable}
+use Rattle.plain_server.specs.StatementLaws.Databases.{WhereFound, IsOrderly}
 
 where_found : (P : TableRows → Type 0) (name : List ℕ) (tables : Database) → AllByRecursion P tables → WhereFound P (find_table name tables)
 where_found P name [] all = tt

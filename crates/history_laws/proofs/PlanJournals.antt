@@ -10,14 +10,14 @@ use Rattle.plain_server.specs.declared.entry.Entry.{Entry}
 use Rattle.plain_server.specs.Alone.{lines_run, nothing_ran}
 use Rattle.plain_server.specs.States.{opened}
 use Rattle.plan_words.specs.PlanData.{PlanData}
-use Rattle.journal_words.specs.Journals.{state_behind, state_at, IsAnswered}
-use Rattle.journal_words.specs.Sessions.{live_session, IsSeated, KeepsSessions}
-use Rattle.journal_words.specs.Clients.{client_at}
-use Rattle.journal_words.specs.Keeping.{IsPlanned, KeepsPlan}
-use Rattle.journal_words.specs.Histories as histories
-use Rattle.journal_words.specs.Histories.{HistoryItem, request_waiting}
-use Rattle.journal_words.specs.Serials as serials
-use Rattle.journal_words.specs.Serials.{altered_in, altered_database, IsSerial}
+use Rattle.migration_program.specs.JournalWords.Journals.{state_behind, state_at, IsAnswered}
+use Rattle.migration_program.specs.JournalWords.Sessions.{live_session, IsSeated, KeepsSessions}
+use Rattle.migration_program.specs.JournalWords.Clients.{client_at}
+use Rattle.migration_program.specs.JournalWords.Keeping.{IsPlanned, KeepsPlan}
+use Rattle.migration_program.specs.JournalWords.Histories as histories
+use Rattle.migration_program.specs.JournalWords.Histories.{HistoryItem, request_waiting}
+use Rattle.migration_program.specs.JournalWords.Serials as serials
+use Rattle.migration_program.specs.JournalWords.Serials.{altered_in, altered_database, IsSerial}
 use Rattle.history_laws.specs.Scenes.{PlainItem, Scene, Going, not_going, tables_left, seen, left}
 use Rattle.history_laws.specs.Turns.{goings_at, goings_from, entry_adds, history, IsAllowed}
 use Rattle.history_laws.specs.Holdings.{stored}

@@ -21,14 +21,14 @@ use Rattle.plain_server.specs.declared.transaction.Reply.TheVariants as replies
 use Rattle.plain_server.specs.declared.transaction.TxnEnd.{TxnEnd}
 use Rattle.plain_server.specs.declared.transaction.TxnEnd.TheVariants as ends
 use Rattle.plain_server.specs.Alone.{reply_of}
-use Rattle.journal_words.specs.Clients.{Reached, Became, Nothing, Waits, Marked, Broken, became_of, lost_side, cut_off, became_in, is_inside, answered_ends, ends_with, closes, behind_transaction, left_behind, kept_unless, with_line, with_reply, marked, client_after, word_asks}
-use Rattle.journal_words.specs.Histories as histories
-use Rattle.journal_words.specs.Histories.{HistoryItem, waits_behind, asked_about, ends_so, line_ends, breaks, client_ends}
+use Rattle.migration_program.specs.JournalWords.Clients.{Reached, Became, Nothing, Waits, Marked, Broken, became_of, lost_side, cut_off, became_in, is_inside, answered_ends, ends_with, closes, behind_transaction, left_behind, kept_unless, with_line, with_reply, marked, client_after, word_asks}
+use Rattle.migration_program.specs.JournalWords.Histories as histories
+use Rattle.migration_program.specs.JournalWords.Histories.{HistoryItem, waits_behind, asked_about, ends_so, line_ends, breaks, client_ends}
 use Rattle.history_laws.specs.Scenes.{PlainItem, Txn, Alter, Going, not_going}
 use Rattle.history_laws.specs.Turns as fates
 use Rattle.history_laws.specs.Turns.{Fate, fate_answered, word_given, was_given, mark_lost, broken, word_lost, word_asked, client_fate, going_on, happens}
 use Rattle.history_laws.proofs.Journals.{word_back}
-use Rattle.journal_words.specs.Sessions.{session_left}
+use Rattle.migration_program.specs.JournalWords.Sessions.{session_left}
 use Rattle.plain_server.specs.Entries.{is_command}
 use Rattle.std.proofs.Common.{cond}
 

@@ -4,13 +4,13 @@ use Rattle.std.specs.Prelude.{◌==◌, length, position}
 use Rattle.std.specs.List.{list_any, slice_get}
 use Rattle.gho_values.specs.declared.value.Value.{Value}
 use Rattle.gho_values.specs.declared.fault.Unfit.{Unfit}
-use Rattle.gho_schema.specs.declared.schema.Schema.{Schema}
-use Rattle.gho_schema.specs.declared.schema.Column.{Column}
-use Rattle.gho_schema.specs.Tables.{clash}
-use Rattle.gho_schema.specs.Clustering.{clustered_place}
-use Rattle.gho_schema.specs.Rows.{key_places}
+use Rattle.gho_values.specs.declared.gho_schema.schema.Schema.{Schema}
+use Rattle.gho_values.specs.declared.gho_schema.schema.Column.{Column}
+use Rattle.gho_values.specs.GhoSchema.Tables.{clash}
+use Rattle.gho_values.specs.GhoSchema.Clustering.{clustered_place}
+use Rattle.gho_values.specs.GhoSchema.Rows.{key_places}
 use Rattle.gho_values.specs.Storing.{stores, seeks}
-use Rattle.alter_image.specs.declared.image_fault.UnfitAt.{UnfitAt}
+use Rattle.gho_values.specs.declared.alter_image.image_fault.UnfitAt.{UnfitAt}
 use Rattle.event_codec.specs.declared.event.Change.{Change}
 use Rattle.event_codec.specs.declared.event.Change.TheVariants as changes
 use Rattle.row_store.specs.Databases.{TableRows, Database, find_table, row_at_key}
@@ -37,8 +37,8 @@ use Rattle.plain_server.specs.Checking.{◌>>=◌, unless, or_unknown, place_of,
 use Rattle.plain_server.specs.Saying.{TableResult, only, clashes_besides, change_first, with_sets, updates, result_or_refusal, updated, selected, tells}
 use Rattle.plain_server.specs.Jobs.{Job, result_in, job_of, job_says, copy_work, copy_from, copy_job}
 use Rattle.std.specs.Option.{option_map}
-use Rattle.alter_image.specs.declared.map.MapColumn.{MapColumn}
-use Rattle.alter_image.specs.Images.{image}
+use Rattle.gho_values.specs.declared.alter_image.map.MapColumn.{MapColumn}
+use Rattle.gho_values.specs.AlterImage.Images.{image}
 use Rattle.std.specs.Option.{option_to_list}
 use Rattle.plain_server.specs.Alone.{reply_of}
 use Rattle.plain_server.specs.Alone.{line_says}

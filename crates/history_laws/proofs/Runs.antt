@@ -5,14 +5,14 @@ use Rattle.gho_values.specs.declared.value.Value.{Value}
 use Rattle.gho_values.specs.declared.value.Value.TheVariants.{Num}
 use Rattle.gho_values.specs.declared.kind.Kind.TheVariants.{Int}
 use Rattle.gho_values.specs.Spans.{point}
-use Rattle.gho_schema.specs.declared.schema.Schema.{Schema}
-use Rattle.gho_schema.specs.Names as X
-use Rattle.gho_schema.specs.Clustering as X1
+use Rattle.gho_values.specs.declared.gho_schema.schema.Schema.{Schema}
+use Rattle.gho_values.specs.GhoSchema.Names as X
+use Rattle.gho_values.specs.GhoSchema.Clustering as X1
 use Rattle.gho_values.specs.Storing as X2
-use Rattle.gho_schema.specs.Rows as X3
+use Rattle.gho_values.specs.GhoSchema.Rows as X3
 use Rattle.gho_values.specs.Spans as X4
 use Rattle.gho_values.specs.Comparing as X5
-use Rattle.gho_schema.specs.declared.schema.Column.{Column}
+use Rattle.gho_values.specs.declared.gho_schema.schema.Column.{Column}
 use Rattle.event_codec.specs.declared.event.Change.TheVariants as changes
 use Rattle.script_text.specs.declared.statement.Statement.{Statement}
 use Rattle.script_text.specs.declared.statement.Statement.TheVariants as statements
@@ -41,7 +41,7 @@ use Rattle.script_text.specs.declared.actor.Actor.TheVariants.{Insp, Client}
 use Rattle.std.proofs.lemmas.Bool.{false≢true, true≢false}
 use Rattle.std.specs.Str.{bytes_eq}
 use Rattle.plain_server.specs.Along.{Along}
-use Rattle.statement_laws.specs.Covering.{IsOrderlyTable}
+use Rattle.plain_server.specs.StatementLaws.Covering.{IsOrderlyTable}
 use Rattle.history_laws.specs.Turns.{IsExchange, RenamesSo, IsAllowed, Turn, journal_of, kept_from, scene_state, goings_from, history}
 use Rattle.history_laws.proofs.Exchanging.{exchange_alters}
 use Rattle.plain_server.specs.declared.entry.Asked.{Asked}
@@ -52,7 +52,7 @@ use Rattle.plain_server.specs.declared.request.Request.{Request}
 use Rattle.plain_server.specs.declared.request.Request.TheVariants as requests
 use Rattle.plain_server.specs.Serving.{calls, done, loses, polls}
 use Rattle.plain_server.specs.Showing.{events_read, read_from, tables_shown, waits_shown}
-use Rattle.journal_words.specs.Journals.{opens_if, state_behind}
+use Rattle.migration_program.specs.JournalWords.Journals.{opens_if, state_behind}
 
 col : List ℕ → ℕ → Column
 col name bytes = record { name = name; kind = Int bytes false; nullable = false; default = None }

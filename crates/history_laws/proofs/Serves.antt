@@ -5,7 +5,7 @@ use Rattle.std.proofs.lemmas.Bool.{false≢true, true≢false}
 use Rattle.std.proofs.lemmas.List.{append-nil}
 use Rattle.std.specs.List.{list_any, flat_map}
 use Rattle.std.specs.Str.{bytes_eq}
-use Rattle.gho_schema.specs.declared.schema.Schema.{Schema}
+use Rattle.gho_values.specs.declared.gho_schema.schema.Schema.{Schema}
 use Rattle.row_locks.specs.Granting.{refuser_of_set}
 use Rattle.metadata_locks.specs.Granting.{refuser_of_names}
 use Rattle.row_store.specs.Databases.{TableRows, Database, find_table, has_table, rename_tables}
@@ -15,11 +15,11 @@ use Rattle.script_text.specs.declared.script.ScriptWord.{ScriptWord}
 use Rattle.script_text.specs.declared.script.ScriptWord.TheVariants as words
 use Rattle.plain_server.specs.declared.answer.Answer.{Answer}
 use Rattle.plain_server.specs.declared.session.Session.{Session}
-use Rattle.statement_laws.specs.Covering.{Apart}
+use Rattle.plain_server.specs.StatementLaws.Covering.{Apart}
 use Rattle.plain_server.specs.Jobs.{says, job_says, after_events, copy_job}
 use Rattle.history_laws.specs.Scenes.{PlainItem, Alter, Scene, seen, is_mine, AltersTo, NamesTable, Going, not_going, IsFine}
 use Rattle.history_laws.specs.Turns.{Fate, Still, Alters, ClientAsks, ToolAsks, AllOther, RenamesSo, DefinesSo, fate_renamed, word_given, mark_lost, was_given, happens, is_busy}
-use Rattle.journal_words.specs.Histories.{takes_away, renames_away}
+use Rattle.migration_program.specs.JournalWords.Histories.{takes_away, renames_away}
 use Rattle.history_laws.specs.Turns as fates
 use Rattle.plain_server.specs.declared.transaction.TxnEnd.TheVariants as ends
 use Rattle.plain_server.specs.declared.work.StatementResult.{StatementResult}
@@ -45,8 +45,8 @@ use Rattle.plain_server.specs.declared.need.Need.{Need}
 use Rattle.plain_server.specs.Locking.{need, need_within, blocker}
 use Rattle.plain_server.specs.States.{State, is_in_transaction, locks_held, names_held, pair_names, session_of, tables_named, view, waits_for, writes_of}
 use Rattle.history_laws.specs.Asking.{does_word, need_of_word}
-use Rattle.journal_words.specs.Clients.{word_asks}
-use Rattle.statement_laws.proofs.Tests.{are_same}
+use Rattle.migration_program.specs.JournalWords.Clients.{word_asks}
+use Rattle.plain_server.proofs.StatementLaws.Tests.{are_same}
 
 -- WHAT A GRANT TELLS
 

@@ -6,10 +6,10 @@ use Rattle.std.proofs.lemmas.List.{append-nil}
 use Rattle.std.specs.List.{list_any}
 use Rattle.std.specs.Str.{bytes_eq}
 use Rattle.gho_values.specs.declared.value.Value.{Value}
-use Rattle.gho_schema.specs.Tables.{IsRow}
-use Rattle.alter_image.specs.declared.map.MapColumn.{MapColumn}
-use Rattle.alter_image.specs.declared.image_fault.UnfitAt.{UnfitAt}
-use Rattle.alter_image.specs.Images.{image}
+use Rattle.gho_values.specs.GhoSchema.Tables.{IsRow}
+use Rattle.gho_values.specs.declared.alter_image.map.MapColumn.{MapColumn}
+use Rattle.gho_values.specs.declared.alter_image.image_fault.UnfitAt.{UnfitAt}
+use Rattle.gho_values.specs.AlterImage.Images.{image}
 use Rattle.event_codec.specs.declared.event.RowEvent.{RowEvent}
 use Rattle.row_locks.specs.declared.lock.Lock.{Lock}
 use Rattle.row_store.specs.Databases.{TableRows, Database, find_table, row_at_key}
@@ -19,17 +19,17 @@ use Rattle.script_text.specs.declared.statement.Statement.{Statement}
 use Rattle.plain_server.specs.declared.session.Session.{Session}
 use Rattle.plain_server.specs.declared.work.Work.TheVariants.{Copy}
 use Rattle.plain_server.specs.Checking.{new_row}
-use Rattle.statement_laws.specs.Agreeing.{Within}
-use Rattle.statement_laws.specs.Covering.{Apart, IsOrderlyTable, IsSound}
-use Rattle.statement_laws.specs.Databases.{WhereFound, IsOrderly, TaskSound}
+use Rattle.plain_server.specs.StatementLaws.Agreeing.{Within}
+use Rattle.plain_server.specs.StatementLaws.Covering.{Apart, IsOrderlyTable, IsSound}
+use Rattle.plain_server.specs.StatementLaws.Databases.{WhereFound, IsOrderly, TaskSound}
 use Rattle.plain_server.specs.Jobs.{Job, table_of, job_of, says, job_says, job_needs, row_needs, after_events, copy_from, copy_job, copy_work}
 use Rattle.history_laws.specs.Scenes.{PlainItem, Scene, seen, is_mine, Serial, SessionHold, Going, no_hold, not_going, IsFine, Besides}
 use Rattle.history_laws.specs.Turns.{Still, happens}
 use Rattle.history_laws.specs.Holdings.{Face, no_face, face_in, face_of, stored, Holds}
-use Rattle.statement_laws.proofs.Sound.{new_is, refused_or}
-use Rattle.statement_laws.proofs.Points.{within-left, within-right, within-itself}
-use Rattle.statement_laws.proofs.Finding.{agree_within, agree_itself, says_covered}
-use Rattle.statement_laws.proofs.Stables.{covered_both, covered_more, covered_before, statement_sound}
+use Rattle.plain_server.proofs.StatementLaws.Sound.{new_is, refused_or}
+use Rattle.plain_server.proofs.StatementLaws.Points.{within-left, within-right, within-itself}
+use Rattle.plain_server.proofs.StatementLaws.Finding.{agree_within, agree_itself, says_covered}
+use Rattle.plain_server.proofs.StatementLaws.Stables.{covered_both, covered_more, covered_before, statement_sound}
 use Rattle.history_laws.proofs.Tools.{safe_task}
 use Rattle.history_laws.proofs.Words.{names_left, names_last, quiet_covered}
 use Rattle.history_laws.proofs.Faces.{faces_with, faces_without}
@@ -40,7 +40,7 @@ use Rattle.plain_server.specs.Serving.{at_rest, commits, counting, forgets, goes
 use Rattle.plain_server.specs.declared.need.Need.{Need}
 use Rattle.plain_server.specs.States.{State, is_in_transaction, locked_names, session_of, view, with_session, writes_of}
 use Rattle.history_laws.specs.Asking.{does_word, need_of_word}
-use Rattle.statement_laws.proofs.Tests.{turned, same_bytes, or_true}
+use Rattle.plain_server.proofs.StatementLaws.Tests.{turned, same_bytes, or_true}
 
 -- a session of the tool at work on the server
 pub record ToolWork (scene : Scene) (state : State) (number : ℕ) (going : ℕ → Going) (past : List PlainItem) : Type 0 where

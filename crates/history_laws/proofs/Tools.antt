@@ -5,14 +5,14 @@ use Rattle.std.specs.Str.{bytes_eq}
 use Rattle.event_codec.specs.declared.event.RowEvent.{RowEvent}
 use Rattle.row_locks.specs.declared.lock.Lock.{Lock}
 use Rattle.row_store.specs.Databases.{TableRows, Database, find_table}
-use Rattle.statement_laws.specs.Agreeing.{TablesAgree, Agree, Within}
-use Rattle.statement_laws.specs.Covering.{IsSound}
-use Rattle.statement_laws.specs.Databases.{TaskSound, IsOrderly, WhereFound}
+use Rattle.plain_server.specs.StatementLaws.Agreeing.{TablesAgree, Agree, Within}
+use Rattle.plain_server.specs.StatementLaws.Covering.{IsSound}
+use Rattle.plain_server.specs.StatementLaws.Databases.{TaskSound, IsOrderly, WhereFound}
 use Rattle.plain_server.specs.Jobs.{Job, job_says, job_needs, after_events}
 use Rattle.history_laws.specs.Scenes.{IsSafe}
-use Rattle.statement_laws.proofs.Finding.{NamesWithin, agree_events, agree_itself, agree_then, agree_within, says_alike, says_orderly}
-use Rattle.statement_laws.specs.Laws.{SaysAlike}
-use Rattle.statement_laws.proofs.Stables.{after_events-append}
+use Rattle.plain_server.proofs.StatementLaws.Finding.{NamesWithin, agree_events, agree_itself, agree_then, agree_within, says_alike, says_orderly}
+use Rattle.plain_server.specs.StatementLaws.Laws.{SaysAlike}
+use Rattle.plain_server.proofs.StatementLaws.Stables.{after_events-append}
 
 pub safe_begin : (tables : Database) → IsSafe [] [] [] tables
 unfolding after_events

@@ -13,15 +13,15 @@ use Rattle.plain_server.specs.declared.transaction.TxnEnd.{TxnEnd}
 use Rattle.plain_server.specs.declared.transaction.TxnLine.{TxnLine}
 use Rattle.plain_server.specs.declared.transaction.Reply.{Reply}
 use Rattle.plain_server.specs.Alone.{stays}
-use Rattle.statement_laws.specs.Covering.{Apart}
-use Rattle.statement_laws.specs.Databases.{IsOrderly}
+use Rattle.plain_server.specs.StatementLaws.Covering.{Apart}
+use Rattle.plain_server.specs.StatementLaws.Databases.{IsOrderly}
 use Rattle.plain_server.specs.Jobs.{after_events}
 use Rattle.history_laws.specs.Scenes.{PlainItem, Stored, Scene, seen, Serial, SessionHold, Going, no_hold, not_going, IsFine, Besides}
 use Rattle.history_laws.specs.Turns.{Fate, Still, Adds, Ends, Breaks, Alters, going_on, happens, goings_after}
 use Rattle.history_laws.specs.Holdings.{Face, no_face, Fits, Holds, lines_after}
 use Rattle.std.specs.Str.{bytes_eq}
 use Rattle.history_laws.proofs.Kept.{kept_goes, kept_ends, kept_same, kept_writes, kept_moves, fine_rest}
-use Rattle.statement_laws.proofs.Tests.{are_one}
+use Rattle.plain_server.proofs.StatementLaws.Tests.{are_one}
 
 -- new_holds of faces
 pub holds_besides : (number : ℕ) (old new : ℕ → Face) (own : Face) → Besides number old new own → Besides number (λ n. (old n).hold) (λ n. (new n).hold) own.hold

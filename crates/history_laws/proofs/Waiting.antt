@@ -5,7 +5,7 @@ use Rattle.std.specs.List.{list_any}
 use Rattle.std.proofs.lemmas.Bool.{true≢false}
 use Rattle.std.proofs.lemmas.Bool.Decides.{nat_tests}
 use Rattle.gho_values.specs.declared.value.Value.{Value}
-use Rattle.gho_schema.specs.Rows.{key_places}
+use Rattle.gho_values.specs.GhoSchema.Rows.{key_places}
 use Rattle.row_store.specs.Databases.{TableRows, Database, find_table, has_table, rename_tables}
 use Rattle.script_text.specs.declared.actor.Side.{Side}
 use Rattle.script_text.specs.declared.actor.Side.TheVariants.{Before, After}
@@ -25,12 +25,12 @@ use Rattle.plain_server.specs.declared.need.Need.{Need}
 use Rattle.plain_server.specs.declared.work.StatementResult.{StatementResult}
 use Rattle.plain_server.specs.Deeds.{of_table, result_deed, begins, all_stand, locks_if, created, dropped, renamed_or, defined, deed_within, deed_unless, is_outside}
 use Rattle.plain_server.specs.Serving.{does, done, called_unless, calls, is_over, polled_over, polled_unless, polled_of, polls, loses, leaves, serves, without_waiting}
-use Rattle.journal_words.specs.Histories.{waits_behind}
+use Rattle.migration_program.specs.JournalWords.Histories.{waits_behind}
 use Rattle.history_laws.specs.Turns.{request_of}
 use Rattle.history_laws.proofs.Replies.{IsReply, line_replies_so, copied_replies}
 use Rattle.script_text.specs.declared.script.ScriptWord.TheVariants as words
 use Rattle.history_laws.proofs.Journals.{done_waits}
-use Rattle.statement_laws.proofs.Tests.{same_number, are_one, turned}
+use Rattle.plain_server.proofs.StatementLaws.Tests.{same_number, are_one, turned}
 
 -- ANSWERS OF WHAT WAS DONE
 

@@ -13,16 +13,16 @@ use Rattle.script_text.specs.declared.script.ScriptWord.TheVariants as words
 use Rattle.plain_server.specs.declared.transaction.Mark.{Mark}
 use Rattle.plain_server.specs.declared.transaction.Mark.TheVariants as marks
 use Rattle.plain_server.specs.declared.transaction.Reply.{Reply}
-use Rattle.statement_laws.specs.Databases.{IsOrderly, EventsCovered}
+use Rattle.plain_server.specs.StatementLaws.Databases.{IsOrderly, EventsCovered}
 use Rattle.plain_server.specs.Jobs.{table_of, row_needs, after_events}
 use Rattle.plain_server.specs.Alone.{line_events, line_replies, Ran}
-use Rattle.statement_laws.specs.Stability.{Stable}
+use Rattle.plain_server.specs.StatementLaws.Stability.{Stable}
 use Rattle.history_laws.specs.Scenes.{SessionHold, Going, IsSteady}
 use Rattle.history_laws.specs.Holdings.{held_after, lines_after}
-use Rattle.statement_laws.proofs.Points.{within-left, within-right, within-itself}
-use Rattle.statement_laws.proofs.Finding.{NamesWithin}
-use Rattle.statement_laws.proofs.Stables.{one_more, more_alike, stable_more, stable_statement, covered_statement, covered_more}
-use Rattle.statement_laws.proofs.Tests.{same_bytes, or_true}
+use Rattle.plain_server.proofs.StatementLaws.Points.{within-left, within-right, within-itself}
+use Rattle.plain_server.proofs.StatementLaws.Finding.{NamesWithin}
+use Rattle.plain_server.proofs.StatementLaws.Stables.{one_more, more_alike, stable_more, stable_statement, covered_statement, covered_more}
+use Rattle.plain_server.proofs.StatementLaws.Tests.{same_bytes, or_true}
 
 pub names_left : (a b : List (List ℕ)) → NamesWithin a (a ++ b)
 names_left a b name is = list_any-append (bytes_eq name) a b ∙ rw is refl

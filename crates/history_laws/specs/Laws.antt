@@ -5,7 +5,7 @@ use Rattle.std.specs.List.{AllByRecursion}
 use Rattle.plain_server.specs.Along.{Along}
 use Rattle.row_store.specs.declared.renaming.Pair.{Pair}
 use Rattle.row_store.specs.Databases.{Database}
-use Rattle.statement_laws.specs.Databases.{IsOrderly}
+use Rattle.plain_server.specs.StatementLaws.Databases.{IsOrderly}
 use Rattle.plain_server.specs.Alone.{lines_run, nothing_ran}
 use Rattle.history_laws.specs.Scenes.{Scene, PlainItem, Txn, Alter, is_mine, SerialHistory, left}
 use Rattle.history_laws.specs.Turns.{Turn, journal_of, AllTold, IsSceneRun, MayAsk, AtRest, is_busy, about, IsExchange, RenamesSo, scene_state, goings_at, history}
@@ -14,10 +14,10 @@ use Rattle.plain_server.specs.Entries.{is_command}
 use Rattle.history_laws.specs.Holdings.{stored}
 use Rattle.plain_server.specs.declared.request.Request.TheVariants.{Rename}
 use Rattle.plan_words.specs.PlanData.{PlanData}
-use Rattle.journal_words.specs.Journals.{opens}
-use Rattle.journal_words.specs.Histories as histories
-use Rattle.journal_words.specs.Histories.{is_alter}
-use Rattle.journal_words.specs.Serials.{IsSerial}
+use Rattle.migration_program.specs.JournalWords.Journals.{opens}
+use Rattle.migration_program.specs.JournalWords.Histories as histories
+use Rattle.migration_program.specs.JournalWords.Histories.{is_alter}
+use Rattle.migration_program.specs.JournalWords.Serials.{IsSerial}
 use Rattle.history_laws.specs.Plans.{limits_of, scene_of, IsPlanRun}
 
 -- the history is serial over the client tables and their log, which are what is left of the tables and the log; and each

@@ -5,3 +5,7 @@ pub mod Holdings
 pub mod Laws
 pub mod Plans
 pub mod ServerLaws
+pub mod GhostLaws
+pub mod RunLaws
+pub mod SentryLaws
+pub mod MachineLaws

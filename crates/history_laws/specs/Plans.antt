@@ -15,14 +15,14 @@ use Rattle.plain_server.specs.Jobs.{table_of}
 use Rattle.plain_server.specs.States.{State, session_of, is_in_transaction, is_waiting}
 use Rattle.changelog_table.specs.ToolNames.{is_tool_name}
 use Rattle.plan_words.specs.PlanData.{PlanData}
-use Rattle.journal_words.specs.Altering.{plan_altered_table}
-use Rattle.journal_words.specs.Journals.{state_at, IsFaithful}
-use Rattle.journal_words.specs.Keeping.{KeepsPlan}
-use Rattle.journal_words.specs.Sessions.{KeepsSessions}
+use Rattle.migration_program.specs.JournalWords.Altering.{plan_altered_table}
+use Rattle.migration_program.specs.JournalWords.Journals.{state_at, IsFaithful}
+use Rattle.migration_program.specs.JournalWords.Keeping.{KeepsPlan}
+use Rattle.migration_program.specs.JournalWords.Sessions.{KeepsSessions}
 use Rattle.plain_server.specs.declared.session.Limits.{Limits}
 use Rattle.plain_server.specs.Along.{Along}
-use Rattle.journal_words.specs.Histories.{about, told_in}
-use Rattle.statement_laws.specs.Covering.{IsOrderlyTable}
+use Rattle.migration_program.specs.JournalWords.Histories.{about, told_in}
+use Rattle.plain_server.specs.StatementLaws.Covering.{IsOrderlyTable}
 use Rattle.history_laws.specs.Scenes.{Scene}
 use Rattle.history_laws.specs.Turns.{ToolAsks, AtRest, RenamesSo}
 

@@ -11,12 +11,12 @@ use Rattle.script_text.specs.declared.script.ScriptWord.TheVariants as words
 use Rattle.plain_server.specs.declared.transaction.EndedTxn.{EndedTxn}
 use Rattle.plain_server.specs.declared.transaction.TxnLine.{TxnLine}
 use Rattle.plain_server.specs.declared.transaction.Reply.{Reply}
-use Rattle.statement_laws.specs.Agreeing.{Agree}
-use Rattle.statement_laws.specs.Covering.{Apart}
-use Rattle.statement_laws.specs.Databases.{IsOrderly, EventsCovered}
+use Rattle.plain_server.specs.StatementLaws.Agreeing.{Agree}
+use Rattle.plain_server.specs.StatementLaws.Covering.{Apart}
+use Rattle.plain_server.specs.StatementLaws.Databases.{IsOrderly, EventsCovered}
 use Rattle.plain_server.specs.Jobs.{table_of, after_events}
 use Rattle.plain_server.specs.Alone.{alone}
-use Rattle.statement_laws.specs.Stability.{Stable}
+use Rattle.plain_server.specs.StatementLaws.Stability.{Stable}
 
 -- a transaction that ended, and the replies to its lines
 pub record Past : Type 0 where

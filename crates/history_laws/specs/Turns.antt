@@ -18,8 +18,8 @@ use Rattle.plain_server.specs.declared.transaction.Reply.TheVariants as replies
 use Rattle.plain_server.specs.declared.session.Limits.{Limits}
 use Rattle.history_laws.specs.Scenes.{Scene, is_mine, AltersTo, NamesTable, PlainItem, Txn, Alter, Going, not_going}
 use Rattle.plain_server.specs.Along.{Along, gathered}
-use Rattle.statement_laws.specs.Covering.{IsOrderlyTable}
-use Rattle.statement_laws.specs.Databases.{IsOrderly}
+use Rattle.plain_server.specs.StatementLaws.Covering.{IsOrderlyTable}
+use Rattle.plain_server.specs.StatementLaws.Databases.{IsOrderly}
 use Rattle.plain_server.specs.Jobs.{table_of}
 use Rattle.plain_server.specs.declared.request.Request.TheVariants as requests
 use Rattle.plain_server.specs.declared.request.Request.TheVariants.{CopyRow, Create, Drop, Rename}
@@ -35,8 +35,8 @@ use Rattle.plain_server.specs.Alone.{reply_of}
 use Rattle.plain_server.specs.States.{State, is_in_transaction, names_in, opened, session_of, waiting_of}
 use Rattle.plain_server.specs.declared.session.Waiting.{Waiting}
 use Rattle.history_laws.specs.Asking.{word_in}
-use Rattle.journal_words.specs.Journals.{opens, after_entry, state_behind}
-use Rattle.journal_words.specs.Histories.{takes_away, renames_away}
+use Rattle.migration_program.specs.JournalWords.Journals.{opens, after_entry, state_behind}
+use Rattle.migration_program.specs.JournalWords.Histories.{takes_away, renames_away}
 
 -- *State of a scene*: the server behind a journal that begins with the scene's tables
 abbrev pub scene_state : Limits → Scene → List Entry → State

@@ -9,8 +9,8 @@ use Rattle.script_text.specs.declared.script.ScriptLine.{ScriptLine}
 use Rattle.plain_server.specs.declared.entry.Entry.{Entry}
 use Rattle.plain_server.specs.Entries.{same_actor}
 use Rattle.plan_words.specs.PlanData.{PlanData}
-use Rattle.journal_words.specs.Clients.{Reached, became, client_after, client_at, new_client, script_of}
-use Rattle.journal_words.specs.Histories.{client_ends, entry_adds}
+use Rattle.migration_program.specs.JournalWords.Clients.{Reached, became, client_after, client_at, new_client, script_of}
+use Rattle.migration_program.specs.JournalWords.Histories.{client_ends, entry_adds}
 use Rattle.client_lines.proofs.Passing.{apart}
 use Rattle.client_lines.proofs.Strangers.{stranger_ends}
 use Rattle.client_lines.proofs.Walking.{other_turn, own_turn}

@@ -9,8 +9,8 @@ use Rattle.plain_server.specs.declared.answer.Answer.TheVariants as answers
 use Rattle.plain_server.specs.declared.entry.Entry.{Entry}
 use Rattle.plain_server.specs.Entries.{is_client}
 use Rattle.plan_words.specs.PlanData.{PlanData}
-use Rattle.journal_words.specs.Histories.{HistoryItem, about, adds, alters, entry_adds, is_alter, renames_away, told_in}
-use Rattle.journal_words.specs.Histories as histories
+use Rattle.migration_program.specs.JournalWords.Histories.{HistoryItem, about, adds, alters, entry_adds, is_alter, renames_away, told_in}
+use Rattle.migration_program.specs.JournalWords.Histories as histories
 
 abbrev alter_if : Bool → List HistoryItem
 alter_if b = cond b (histories.Alter ∷ []) []

@@ -5,8 +5,8 @@ use Rattle.std.specs.Prelude.{option_to_list}
 use Rattle.plain_server.specs.declared.entry.Entry.{Entry}
 use Rattle.plain_server.specs.Along.{gathered-more}
 use Rattle.plan_words.specs.PlanData.{PlanData}
-use Rattle.journal_words.specs.Clients.{Reached}
-use Rattle.journal_words.specs.Histories.{HistoryItem, entry_adds, history}
+use Rattle.migration_program.specs.JournalWords.Clients.{Reached}
+use Rattle.migration_program.specs.JournalWords.Histories.{HistoryItem, entry_adds, history}
 use Rattle.client_lines.specs.declared.renaming.Renaming.{Renaming}
 use Rattle.client_lines.specs.Walks.{AreRenaming, renaming_after}
 use Rattle.client_lines.proofs.Ending.{renaming_more}

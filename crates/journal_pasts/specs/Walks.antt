@@ -4,9 +4,9 @@ use Rattle.std.specs.List.{slice_get}
 use Rattle.script_text.specs.declared.script.ScriptLine.{ScriptLine}
 use Rattle.plain_server.specs.declared.entry.Entry.{Entry}
 use Rattle.plan_words.specs.PlanData.{PlanData}
-use Rattle.journal_words.specs.Clients.{Reached, client_at, script_of}
-use Rattle.journal_words.specs.Histories.{HistoryItem, history}
-use Rattle.journal_words.specs.Histories as histories
+use Rattle.migration_program.specs.JournalWords.Clients.{Reached, client_at, script_of}
+use Rattle.migration_program.specs.JournalWords.Histories.{HistoryItem, history}
+use Rattle.migration_program.specs.JournalWords.Histories as histories
 use Rattle.journal_pasts.specs.declared.pasts.Past.{Past}
 use Rattle.journal_pasts.specs.declared.pasts.PastItem.{PastItem}
 use Rattle.journal_pasts.specs.declared.pasts.PastItem.TheVariants.{Txn, Alter}

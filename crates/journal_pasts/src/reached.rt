@@ -1,9 +1,9 @@
 //! How far a client is in its script, with the lines of its open transaction and the replies to them.
 
 ghost use Rattle.std.specs.Prelude.{◌≡◌, [], false, IfOk, OnOk};
-ghost use Rattle.journal_words.specs.Clients.{Broken, client_after, ends_with, is_inside, is_loss, marked, new_client, number_of, with_line, with_reply};
-ghost use Rattle.journal_words.specs.Clients as clients;
-ghost use Rattle.journal_words.specs.Histories.{breaks, client_ends, line_ends};
+ghost use Rattle.migration_program.specs.JournalWords.Clients.{Broken, client_after, ends_with, is_inside, is_loss, marked, new_client, number_of, with_line, with_reply};
+ghost use Rattle.migration_program.specs.JournalWords.Clients as clients;
+ghost use Rattle.migration_program.specs.JournalWords.Histories.{breaks, client_ends, line_ends};
 ghost use Rattle.journal_pasts.specs.Walks.{ended_items};
 
 use crate::pasts::Past;
@@ -28,7 +28,7 @@ pub struct Reached<'a> {
 }
 
 impl<'a> Model for Reached<'a> {
-    ghost use Rattle.journal_words.specs.Clients.{Reached as ReachedView};
+    ghost use Rattle.migration_program.specs.JournalWords.Clients.{Reached as ReachedView};
 
     ghost Value = { ReachedView };
 

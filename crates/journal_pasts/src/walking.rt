@@ -5,8 +5,8 @@ ghost use Rattle.script_text.specs.declared.actor.Actor.TheVariants.{Client};
 ghost use Rattle.plain_server.specs.declared.entry.Entry.{Entry};
 ghost use Rattle.plain_server.specs.Entries.{is_client};
 ghost use Rattle.plan_words.specs.PlanData.{PlanData};
-ghost use Rattle.journal_words.specs.Clients.{new_client};
-ghost use Rattle.journal_words.specs.Histories.{entry_adds};
+ghost use Rattle.migration_program.specs.JournalWords.Clients.{new_client};
+ghost use Rattle.migration_program.specs.JournalWords.Histories.{entry_adds};
 ghost use Rattle.client_lines.specs.Walks.{AreRenaming};
 ghost use Rattle.journal_pasts.specs.Walks.{AreReached, WasWalked, item_as};
 

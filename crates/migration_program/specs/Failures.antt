@@ -5,8 +5,8 @@ use Rattle.std.specs.List.{slice_get, AllByRecursion}
 use Rattle.gho_values.specs.declared.value.Value.{Value}
 use Rattle.gho_values.specs.declared.fault.Unfit.{Unfit}
 use Rattle.gho_values.specs.Storing.{error_number}
-use Rattle.gho_schema.specs.Rows.{key_of, key_places}
-use Rattle.alter_image.specs.Images.{image}
+use Rattle.gho_values.specs.GhoSchema.Rows.{key_of, key_places}
+use Rattle.gho_values.specs.AlterImage.Images.{image}
 use Rattle.row_store.specs.Databases.{TableRows, find_table, row_at_key}
 use Rattle.script_text.specs.declared.actor.Actor.{Actor}
 use Rattle.script_text.specs.declared.actor.Actor.TheVariants.{Insp, Copy, Apply, Lock, Ren}
@@ -21,11 +21,11 @@ use Rattle.plain_server.specs.declared.outcome.Cause.TheVariants as causes
 use Rattle.plain_server.specs.declared.outcome.Task.TheVariants as tasks
 use Rattle.plain_server.specs.States.{has_work}
 use Rattle.plan_words.specs.PlanData.{PlanData, old_schema, new_map}
-use Rattle.event_applier.specs.Appliers as appliers
-use Rattle.cutover_core.specs.declared.cutover.Phase.{Phase}
-use Rattle.cutover_core.specs.declared.cutover.Phase.TheVariants.{Attempting}
-use Rattle.cutover_core.specs.declared.cutover.Stage.TheVariants.{Draining}
-use Rattle.cutover_core.specs.CutOvers.{is_wait, may_succeed, is_resting}
+use Rattle.migration_program.specs.EventApplier.Appliers as appliers
+use Rattle.migration_program.specs.declared.cutover_core.cutover.Phase.{Phase}
+use Rattle.migration_program.specs.declared.cutover_core.cutover.Phase.TheVariants.{Attempting}
+use Rattle.migration_program.specs.declared.cutover_core.cutover.Stage.TheVariants.{Draining}
+use Rattle.migration_program.specs.CutoverCore.CutOvers.{is_wait, may_succeed, is_resting}
 use Rattle.migration_program.specs.Tools.{Course, SettingUp, Migrating, Moment, moment}
 use Rattle.migration_program.specs.Verdicts.{column_at}
 

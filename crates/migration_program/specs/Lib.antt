@@ -8,3 +8,8 @@ pub mod Online
 pub mod Orders
 pub mod ProgramLaws
 pub mod ReplayLaws
+pub mod ChunkCopier
+pub mod EventApplier
+pub mod CutoverCore
+pub mod JournalWords
+pub mod ToolSetup

@@ -6,7 +6,7 @@ use Rattle.script_text.specs.declared.operator.OperatorWord.TheVariants.{Throttl
 use Rattle.plain_server.specs.States.{State, load}
 use Rattle.plan_words.specs.PlanData.{PlanData}
 use Rattle.plan_words.specs.declared.options.Options.{Options}
-use Rattle.journal_words.specs.Keeping.{words_of}
+use Rattle.migration_program.specs.JournalWords.Keeping.{words_of}
 
 pub record Operator : Type 0 where
   -- how many of its commands were taken, each unit of a wait as one

@@ -12,9 +12,9 @@ use Rattle.plain_server.specs.declared.entry.Asked.TheVariants.{Poll}
 use Rattle.plain_server.specs.declared.entry.Entry.{Entry}
 use Rattle.plain_server.specs.Entries.{same_actor, is_cut}
 use Rattle.plan_words.specs.PlanData.{PlanData}
-use Rattle.journal_words.specs.Journals.{IsFaithful}
-use Rattle.journal_words.specs.Keeping.{KeepsPlan}
-use Rattle.journal_words.specs.Sessions.{NumbersSessions}
+use Rattle.migration_program.specs.JournalWords.Journals.{IsFaithful}
+use Rattle.migration_program.specs.JournalWords.Keeping.{KeepsPlan}
+use Rattle.migration_program.specs.JournalWords.Sessions.{NumbersSessions}
 use Rattle.migration_program.specs.Programs.{given, Follows}
 
 -- the clients from this number on

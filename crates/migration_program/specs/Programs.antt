@@ -14,14 +14,14 @@ use Rattle.plain_server.specs.declared.entry.Asked.TheVariants.{Call, Poll, Comm
 use Rattle.plain_server.specs.States.{State, session_of, is_waiting, is_in_transaction, unread}
 use Rattle.plan_words.specs.PlanData.{PlanData}
 use Rattle.changelog_table.specs.ToolNames.{log_name}
-use Rattle.journal_words.specs.Sessions.{live_session, IsInSession}
-use Rattle.journal_words.specs.Clients.{client_asks}
-use Rattle.journal_words.specs.Keeping.{words_of}
-use Rattle.chunk_copier.specs.Copiers as copiers
-use Rattle.event_applier.specs.Appliers as appliers
-use Rattle.cutover_core.specs.declared.cutover.Role.TheVariants.{Inspector, Locker, Renamer}
-use Rattle.cutover_core.specs.Attempts as cutovers
-use Rattle.cutover_core.specs.CutOvers.{stands, is_done, is_resting}
+use Rattle.migration_program.specs.JournalWords.Sessions.{live_session, IsInSession}
+use Rattle.migration_program.specs.JournalWords.Clients.{client_asks}
+use Rattle.migration_program.specs.JournalWords.Keeping.{words_of}
+use Rattle.migration_program.specs.ChunkCopier.Copiers as copiers
+use Rattle.migration_program.specs.EventApplier.Appliers as appliers
+use Rattle.migration_program.specs.declared.cutover_core.cutover.Role.TheVariants.{Inspector, Locker, Renamer}
+use Rattle.migration_program.specs.CutoverCore.Attempts as cutovers
+use Rattle.migration_program.specs.CutoverCore.CutOvers.{stands, is_done, is_resting}
 use Rattle.migration_program.specs.Setups.{setup_call}
 use Rattle.migration_program.specs.Operators.{is_throttled, is_postponed}
 use Rattle.migration_program.specs.Tools.{Work, Course, SettingUp, Migrating, Tool, Moment, is_reverting, moment}

@@ -11,9 +11,9 @@ use Rattle.plain_server.specs.declared.answer.KeyRange.{KeyRange}
 use Rattle.plan_words.specs.PlanData.{PlanData, new_schema}
 use Rattle.changelog_table.specs.ToolNames.{ghost_name, log_name, old_name}
 use Rattle.changelog_table.specs.ToolTables.{log_schema}
-use Rattle.cutover_core.specs.declared.cutover.Leftovers.{Leftovers}
-use Rattle.cutover_core.specs.Attempts.{has_name, first_name, without_first, is_clear}
-use Rattle.cutover_core.specs.CutOvers.{is_bad}
+use Rattle.migration_program.specs.declared.cutover_core.cutover.Leftovers.{Leftovers}
+use Rattle.migration_program.specs.CutoverCore.Attempts.{has_name, first_name, without_first, is_clear}
+use Rattle.migration_program.specs.CutoverCore.CutOvers.{is_bad}
 
 pub data Setup : Type 0 where
   -- the tables are listed

@@ -19,22 +19,22 @@ use Rattle.plain_server.specs.declared.outcome.Task.TheVariants as tasks
 use Rattle.plain_server.specs.States.{State, has_work}
 use Rattle.plan_words.specs.PlanData.{PlanData, new_schema, new_map}
 use Rattle.changelog_table.specs.ToolNames.{ghost_name}
-use Rattle.journal_words.specs.Journals.{opening, after_entry}
-use Rattle.chunk_copier.specs.declared.copier.Copier.{Copier}
-use Rattle.chunk_copier.specs.declared.copier.CopyRange.{CopyRange}
-use Rattle.chunk_copier.specs.Copiers.{new_copier, resized}
-use Rattle.chunk_copier.specs.Copiers as copiers
-use Rattle.event_applier.specs.declared.applier.Applier.{Applier}
-use Rattle.event_applier.specs.Appliers.{new_applier}
-use Rattle.event_applier.specs.Appliers as appliers
-use Rattle.cutover_core.specs.declared.cutover.CutOver.{CutOver}
-use Rattle.cutover_core.specs.declared.cutover.Phase.{Phase}
-use Rattle.cutover_core.specs.declared.cutover.Role.{Role}
-use Rattle.cutover_core.specs.declared.cutover.Phase.TheVariants.{Resting}
-use Rattle.cutover_core.specs.declared.cutover.Role.TheVariants.{Inspector, Locker, Renamer}
-use Rattle.cutover_core.specs.Attempts.{new_cutover}
-use Rattle.cutover_core.specs.CutOvers.{is_bad, may_succeed, is_done}
-use Rattle.cutover_core.specs.CutOvers as cutovers
+use Rattle.migration_program.specs.JournalWords.Journals.{opening, after_entry}
+use Rattle.migration_program.specs.declared.chunk_copier.copier.Copier.{Copier}
+use Rattle.migration_program.specs.declared.chunk_copier.copier.CopyRange.{CopyRange}
+use Rattle.migration_program.specs.ChunkCopier.Copiers.{new_copier, resized}
+use Rattle.migration_program.specs.ChunkCopier.Copiers as copiers
+use Rattle.migration_program.specs.declared.event_applier.applier.Applier.{Applier}
+use Rattle.migration_program.specs.EventApplier.Appliers.{new_applier}
+use Rattle.migration_program.specs.EventApplier.Appliers as appliers
+use Rattle.migration_program.specs.declared.cutover_core.cutover.CutOver.{CutOver}
+use Rattle.migration_program.specs.declared.cutover_core.cutover.Phase.{Phase}
+use Rattle.migration_program.specs.declared.cutover_core.cutover.Role.{Role}
+use Rattle.migration_program.specs.declared.cutover_core.cutover.Phase.TheVariants.{Resting}
+use Rattle.migration_program.specs.declared.cutover_core.cutover.Role.TheVariants.{Inspector, Locker, Renamer}
+use Rattle.migration_program.specs.CutoverCore.Attempts.{new_cutover}
+use Rattle.migration_program.specs.CutoverCore.CutOvers.{is_bad, may_succeed, is_done}
+use Rattle.migration_program.specs.CutoverCore.CutOvers as cutovers
 use Rattle.migration_program.specs.Setups.{Setup, Listing, Ready, setup_after}
 use Rattle.migration_program.specs.Operators.{Operator, new_operator, commanded}
 

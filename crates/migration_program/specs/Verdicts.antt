@@ -2,7 +2,7 @@
 use Rattle.std.specs.Prelude.{ℕ, Bool, true, false, ◌&&◌, not, if◌then◌else◌, List, [], Option, Some, None}
 use Rattle.std.specs.List.{list_any}
 use Rattle.gho_values.specs.declared.value.Value.{Value}
-use Rattle.gho_schema.specs.Rows.{key_places}
+use Rattle.gho_values.specs.GhoSchema.Rows.{key_places}
 use Rattle.plain_server.specs.declared.entry.Entry.{Entry}
 use Rattle.plain_server.specs.declared.outcome.Cause.{Cause}
 use Rattle.plain_server.specs.declared.outcome.Verdict.{Verdict}
@@ -10,12 +10,12 @@ use Rattle.plain_server.specs.declared.outcome.Cause.TheVariants as causes
 use Rattle.plain_server.specs.declared.outcome.Verdict.TheVariants as verdicts
 use Rattle.plain_server.specs.States.{is_tool_busy}
 use Rattle.plan_words.specs.PlanData.{PlanData, old_schema, new_schema}
-use Rattle.journal_words.specs.Clients.{clients_over}
-use Rattle.journal_words.specs.Histories.{history, is_alter}
-use Rattle.chunk_copier.specs.Copiers as copiers
-use Rattle.event_applier.specs.Appliers as appliers
-use Rattle.cutover_core.specs.CutOvers.{stands}
-use Rattle.cutover_core.specs.CutOvers as cutovers
+use Rattle.migration_program.specs.JournalWords.Clients.{clients_over}
+use Rattle.migration_program.specs.JournalWords.Histories.{history, is_alter}
+use Rattle.migration_program.specs.ChunkCopier.Copiers as copiers
+use Rattle.migration_program.specs.EventApplier.Appliers as appliers
+use Rattle.migration_program.specs.CutoverCore.CutOvers.{stands}
+use Rattle.migration_program.specs.CutoverCore.CutOvers as cutovers
 use Rattle.migration_program.specs.Tools.{Course, SettingUp, Migrating, Reason, CopyUnfit, ApplyUnfit, Spent, Panicked, Tool, Moment, is_renamed, is_reverting, moment}
 
 -- no attempt stands

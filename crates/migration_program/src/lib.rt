@@ -2,5 +2,10 @@
 //! orders of turns.
 #![tactic(auto)]
 
+pub mod chunk_copier;
+pub mod cutover_core;
+pub mod event_applier;
+pub mod journal_words;
 pub mod program_laws;
 pub mod replay_laws;
+pub mod tool_setup;

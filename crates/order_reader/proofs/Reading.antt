@@ -1,7 +1,7 @@
 -- Reading lines one after the other, as a loop does.
 use Rattle.std.proofs.Common.{◌≡◌, ℕ, ◌+◌, ◌<◌, ◌≤◌, List, ◌++◌, length, drop, map, get_or, option_to_list, Option, Result, Ok, Err, Bor, refl, sym, ap, ◌∙◌, append_assoc}
 use Rattle.std.proofs.lemmas.List.{append-nil, drop_all, drop_more}
-use Rattle.schema_rules.specs.Results.{◌>>=◌}
+use Rattle.gho_values.specs.SchemaRules.Results.{◌>>=◌}
 use Rattle.script_text.specs.declared.operator.Command.{Command}
 use Rattle.order_reader.specs.declared.fault.OrderFault.{OrderFault}
 use Rattle.order_reader.specs.declared.fault.OrderFault.TheVariants as faults

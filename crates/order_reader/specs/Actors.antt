@@ -2,7 +2,7 @@
 use Rattle.std.specs.Prelude.{codes, ℕ, Bool, true, not, nat_lt, ◌==◌, if◌then◌else◌, List, [], ◌∷◌, Option, Some, None}
 use Rattle.std.specs.Option.{option_map}
 use Rattle.std.specs.Str.{bytes_eq}
-use Rattle.gho_schema.specs.Options.{◌>>=◌}
+use Rattle.gho_values.specs.GhoSchema.Options.{◌>>=◌}
 use Rattle.script_text.specs.declared.actor.Actor.{Actor}
 use Rattle.script_text.specs.declared.actor.Actor.TheVariants.{Op, Insp, Copy, Apply, Lock, Ren, Client}
 use Rattle.order_reader.specs.Numbers.{number_of}

@@ -1,7 +1,7 @@
 -- *Loss*: the loss of a session that a text names. This project's rule.
 use Rattle.std.specs.Prelude.{codes, ℕ, if◌then◌else◌, List, [], ◌∷◌, Option, Some, None, Result, Ok, Err}
 use Rattle.std.specs.Str.{bytes_eq}
-use Rattle.schema_rules.specs.Results.{◌>>=◌}
+use Rattle.gho_values.specs.SchemaRules.Results.{◌>>=◌}
 use Rattle.script_text.specs.declared.actor.Actor.{Actor}
 use Rattle.script_text.specs.declared.actor.Side.{Side}
 use Rattle.script_text.specs.declared.actor.Side.TheVariants.{Before, After}

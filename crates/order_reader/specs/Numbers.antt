@@ -3,7 +3,7 @@ use Rattle.std.specs.Prelude.{ℕ, ◌-◌, ◌^◌, min, Bool, false, not, ◌&
 use Rattle.std.specs.Char.{is_ascii_digit}
 use Rattle.std.specs.List.{list_all}
 use Rattle.std.specs.Str.Parse.{digits_value}
-use Rattle.gho_schema.specs.Options.{◌>>=◌}
+use Rattle.gho_values.specs.GhoSchema.Options.{◌>>=◌}
 
 -- digits without a sign or a leading zero, so from 1 on
 abbrev pub is_number : List ℕ → Bool

@@ -1,9 +1,9 @@
 -- The last row of pages is that of the last page.
 use Rattle.std.proofs.Common.{◌≡◌, ℕ, zero, suc, ◌+◌, ◌-◌, ◌<◌, List, [], ◌∷◌, ◌++◌, length, get_or, map, refl, sym, ap, ◌∙◌, arith, length-append, append-nil, Some}
 use Rattle.std.specs.List.{slice_get, flat_map}
-use Rattle.gho_schema.specs.Rows.{key_of}
+use Rattle.gho_values.specs.GhoSchema.Rows.{key_of}
 use Rattle.row_store.proofs.Orders.{Row}
-use Rattle.row_pages.specs.StoredRows.{ArePagesOfRows}
+use Rattle.paged_tables.specs.RowPages.StoredRows.{ArePagesOfRows}
 use Rattle.plain_server.specs.declared.answer.Answer.TheVariants as answers
 use Rattle.plain_server.specs.declared.answer.KeyRange.{KeyRange}
 use Rattle.plain_server.specs.Chunks.{keys_of, last_of, ends_of}

@@ -1,7 +1,7 @@
 //! What is answered of one committed table, or that it doesn't stand.
 
 ghost use Rattle.std.specs.Prelude.{◌≡◌, option_map, IfOk};
-ghost use Rattle.gho_schema.specs.Rows.{key_places};
+ghost use Rattle.gho_values.specs.GhoSchema.Rows.{key_places};
 ghost use Rattle.row_store.specs.Databases.{database, find_table};
 ghost use Rattle.plain_server.specs.Answers.{refuses};
 ghost use Rattle.plain_server.specs.Chunks.{keys_of, ends_of, chunk_end, span_keys};

@@ -1,13 +1,13 @@
 //! The keys of a table that a chunk of the copy asks for.
 
 ghost use Rattle.std.specs.Prelude.{◌≡◌, ◌-◌, [], IfOk, OnOk, length, slice_get, option_copied, take, drop};
-ghost use Rattle.gho_schema.specs.Rows.{key_of, key_places};
+ghost use Rattle.gho_values.specs.GhoSchema.Rows.{key_of, key_places};
 ghost use Rattle.plain_server.specs.Chunks.{keys_of, last_of, ends_of, chunk_end, end_key, first_keys, span_keys};
 
-use gho_schema::key_of;
+use gho_values::gho_schema::key_of;
 use gho_values::{Bound, Duplicate, Key, Keys, Row, Sequence, Span};
+use paged_tables::row_pages::{SpanRows, Table};
 use plain_server::{Answer, KeyRange};
-use row_pages::{SpanRows, Table};
 use std::alloc::{AllocError, Global};
 
 /// The row at this place among those that are left.

@@ -1,2 +1,3 @@
 pub mod Paged
 pub mod TableNames
+pub mod RowPages

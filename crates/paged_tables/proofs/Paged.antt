@@ -7,9 +7,9 @@ use Rattle.std.specs.Option.{option_copied}
 use Rattle.std.proofs.lemmas.List.{map-set, map_push, take_more, take-map, length-map}
 use Rattle.std.proofs.lemmas.Option.{slice_get_within, get_or_from_slice_get}
 use Rattle.gho_values.specs.declared.value.Value.{Value}
-use Rattle.gho_schema.specs.declared.schema.Schema.{Schema}
-use Rattle.gho_schema.specs.Rows.{key_places, with_row}
-use Rattle.row_pages.specs.StoredRows.{PagedTable}
+use Rattle.gho_values.specs.declared.gho_schema.schema.Schema.{Schema}
+use Rattle.gho_values.specs.GhoSchema.Rows.{key_places, with_row}
+use Rattle.paged_tables.specs.RowPages.StoredRows.{PagedTable}
 use Rattle.row_store.specs.Databases.{TableRows, StoredTable, Database, IsNewIn, put_in_table, is_named, find_table, has_table, find_stored, others, spare_in, database, with_change, name_table, name_stored, NamesDiffer}
 use Rattle.row_store.proofs.RowsBetween.{one_more as one_further}
 use Rattle.row_store.proofs.NamedTables.{before, within, Stands, stands, Wrote, wrote, Put, put, is_new, has_found, IsTaken, take_out, IsAbsent, absent, added_differ}

@@ -4,7 +4,7 @@ use Rattle.std.specs.List.{slice_get, slice_set}
 use Rattle.std.proofs.lemmas.List.{map-set}
 use Rattle.name_map.specs.NameMaps.{NamedValues, has_name, with_value}
 use Rattle.name_map.proofs.Entries.{got_map}
-use Rattle.row_pages.specs.StoredRows.{PagedTable}
+use Rattle.paged_tables.specs.RowPages.StoredRows.{PagedTable}
 use Rattle.row_store.specs.Databases.{TableRows, has_table, database, name_table, name_stored}
 use Rattle.paged_tables.specs.PagedDatabases.{stored, table_names}
 use Rattle.paged_tables.proofs.Paged.{has_named, renamed_at}

@@ -1,1 +1,2 @@
 pub mod PagedDatabases
+pub mod RowPages

@@ -2,7 +2,7 @@
 use Rattle.std.specs.Prelude.{◌≡◌, ℕ, List, map}
 use Rattle.name_map.specs.NameMaps.{NamedValues}
 use Rattle.row_store.specs.Databases.{StoredTable, NamesDiffer, database}
-use Rattle.row_pages.specs.StoredRows.{PagedTable}
+use Rattle.paged_tables.specs.RowPages.StoredRows.{PagedTable}
 
 -- the schema and the rows of a table, and for how many more rows it has room
 abbrev pub stored_of : PagedTable → StoredTable

@@ -4,8 +4,8 @@ ghost use Rattle.std.specs.Prelude.{◌≡◌, false, [], ◌∷◌, ◌++◌, O
 ghost use Rattle.row_store.specs.Databases.{database, has_table};
 ghost use Rattle.paged_tables.specs.PagedDatabases.{stored, AreNamed};
 
+use crate::row_pages::Table;
 use name_map::NameMap;
-use row_pages::Table;
 use std::alloc::AllocError;
 
 /// Adds a table of a new name behind the others, under its own name.

@@ -5,9 +5,9 @@ ghost use Rattle.row_store.specs.Databases.{database};
 ghost use Rattle.paged_tables.specs.PagedDatabases.{stored, AreNamed};
 
 use crate::adding::add_new;
+use crate::row_pages::Table;
 use gho_values::Duplicate;
 use name_map::NameMap;
-use row_pages::Table;
 use row_store::{Table as PlainTable, Tables as PlainTables};
 use std::alloc::{AllocError, Global};
 

@@ -5,9 +5,9 @@ ghost use Rattle.std.specs.List.{prefix_len};
 ghost use Rattle.row_store.specs.Databases.{database, has_table, is_named};
 ghost use Rattle.paged_tables.specs.PagedDatabases.{stored, AreNamed};
 
+use crate::row_pages::Table;
 use gho_values::Name;
 use name_map::NameMap;
-use row_pages::Table;
 
 /// How many tables stand before the one of this name.
 pub fn place_of(name: &Name, tables: &NameMap<Table>) -> usize

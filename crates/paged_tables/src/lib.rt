@@ -5,6 +5,7 @@ mod adding;
 mod copying;
 mod finding;
 mod renaming;
+pub mod row_pages;
 mod tables;
 
 pub use tables::Tables;

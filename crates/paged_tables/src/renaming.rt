@@ -7,9 +7,9 @@ ghost use Rattle.row_store.specs.declared.renaming.RenameFault.TheVariants.{Memo
 ghost use Rattle.paged_tables.specs.PagedDatabases.{stored, table_names, AreNamed};
 
 use crate::finding::{has_name, place_of};
+use crate::row_pages::Table;
 use gho_values::{Duplicate, Name};
 use name_map::NameMap;
-use row_pages::Table;
 use row_store::{NotRenamed, Pair, RenameFault};
 
 /// A table's name twice: as the map finds it, and as its schema has it.

@@ -1,7 +1,7 @@
 -- How the server refuses (MySQL's manual, "Server Error Message Reference").
 use Rattle.std.specs.Prelude.{ℕ, Some, None}
 use Rattle.gho_values.specs.Storing.{error_number}
-use Rattle.alter_image.specs.declared.image_fault.UnfitAt.{UnfitAt}
+use Rattle.gho_values.specs.declared.alter_image.image_fault.UnfitAt.{UnfitAt}
 use Rattle.plain_server.specs.declared.answer.Answer.{Answer}
 use Rattle.plain_server.specs.declared.answer.Answer.TheVariants as answers
 

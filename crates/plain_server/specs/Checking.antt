@@ -12,13 +12,13 @@ use Rattle.gho_values.specs.declared.span.Bound.TheVariants.{Open, Closed, Free}
 use Rattle.gho_values.specs.Comparing.{compare_keys}
 use Rattle.gho_values.specs.Spans.{point}
 use Rattle.gho_values.specs.Storing.{stores, seeks}
-use Rattle.gho_schema.specs.declared.schema.Schema.{Schema}
-use Rattle.gho_schema.specs.declared.schema.Column.{Column}
-use Rattle.gho_schema.specs.declared.schema.Index.{Index}
-use Rattle.gho_schema.specs.Names.{same_name}
-use Rattle.gho_schema.specs.Clustering.{clustered_place}
-use Rattle.gho_schema.specs.Rows.{key_places}
-use Rattle.alter_image.specs.declared.image_fault.UnfitAt.{UnfitAt}
+use Rattle.gho_values.specs.declared.gho_schema.schema.Schema.{Schema}
+use Rattle.gho_values.specs.declared.gho_schema.schema.Column.{Column}
+use Rattle.gho_values.specs.declared.gho_schema.schema.Index.{Index}
+use Rattle.gho_values.specs.GhoSchema.Names.{same_name}
+use Rattle.gho_values.specs.GhoSchema.Clustering.{clustered_place}
+use Rattle.gho_values.specs.GhoSchema.Rows.{key_places}
+use Rattle.gho_values.specs.declared.alter_image.image_fault.UnfitAt.{UnfitAt}
 use Rattle.script_text.specs.declared.statement.Statement.{Statement}
 use Rattle.script_text.specs.declared.statement.Statement.TheVariants as statements
 use Rattle.script_text.specs.declared.statement.Condition.{Condition}

@@ -6,7 +6,7 @@ use Rattle.gho_values.specs.declared.value.Value.{Value}
 use Rattle.gho_values.specs.declared.span.Bound.{Bound}
 use Rattle.gho_values.specs.declared.span.Bound.TheVariants.{Open, Closed, Free}
 use Rattle.gho_values.specs.declared.span.Span.{Span}
-use Rattle.gho_schema.specs.Rows.{key_places, key_of}
+use Rattle.gho_values.specs.GhoSchema.Rows.{key_places, key_of}
 use Rattle.row_store.specs.Databases.{TableRows, rows_in}
 use Rattle.plain_server.specs.declared.answer.Answer.{Answer}
 use Rattle.plain_server.specs.declared.answer.Answer.TheVariants as answers

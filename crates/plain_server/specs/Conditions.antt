@@ -5,14 +5,14 @@ use Rattle.std.specs.List.{AllByRecursion, slice_get, flat_map}
 use Rattle.gho_values.specs.declared.kind.Kind.{Kind}
 use Rattle.gho_values.specs.Storing.{character_count, AreOfKinds}
 use Rattle.gho_values.specs.Spans.{EndOfKinds, SpanOfKinds}
-use Rattle.gho_schema.specs.declared.schema.Column.{Column}
-use Rattle.gho_schema.specs.declared.schema.Schema.{Schema}
-use Rattle.gho_schema.specs.Rows.{key_places}
-use Rattle.alter_image.specs.declared.map.MapColumn.{MapColumn}
-use Rattle.alter_image.specs.declared.map.Origin.{Origin}
-use Rattle.alter_image.specs.declared.map.Origin.TheVariants.{Old, Added}
+use Rattle.gho_values.specs.declared.gho_schema.schema.Column.{Column}
+use Rattle.gho_values.specs.declared.gho_schema.schema.Schema.{Schema}
+use Rattle.gho_values.specs.GhoSchema.Rows.{key_places}
+use Rattle.gho_values.specs.declared.alter_image.map.MapColumn.{MapColumn}
+use Rattle.gho_values.specs.declared.alter_image.map.Origin.{Origin}
+use Rattle.gho_values.specs.declared.alter_image.map.Origin.TheVariants.{Old, Added}
 use Rattle.row_store.specs.Databases.{TableRows, Database, find_table}
-use Rattle.schema_rules.specs.Lawful.{IsLawful}
+use Rattle.gho_values.specs.SchemaRules.Lawful.{IsLawful}
 use Rattle.script_text.specs.declared.actor.Side.{Side}
 use Rattle.plain_server.specs.declared.request.Request.{Request}
 use Rattle.plain_server.specs.declared.request.Request.TheVariants as requests

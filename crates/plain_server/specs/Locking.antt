@@ -3,8 +3,8 @@
 -- are granted at once, or none, is this project's rule.)
 use Rattle.std.specs.Prelude.{ℕ, false, List, [], ◌∷◌, Option, Some, None}
 use Rattle.gho_values.specs.declared.span.Span.{Span}
-use Rattle.gho_schema.specs.declared.schema.Schema.{Schema}
-use Rattle.gho_schema.specs.Clustering.{clustered_place}
+use Rattle.gho_values.specs.declared.gho_schema.schema.Schema.{Schema}
+use Rattle.gho_values.specs.GhoSchema.Clustering.{clustered_place}
 use Rattle.row_locks.specs.declared.lock.Lock.{Lock}
 use Rattle.row_locks.specs.Granting.{refuser_of_set}
 use Rattle.least_session.specs.Least.{least}

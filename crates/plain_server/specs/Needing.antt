@@ -4,11 +4,11 @@ use Rattle.std.specs.Prelude.{ℕ, ◌+◌, Bool, true, false, if◌then◌else�
 use Rattle.std.specs.List.{flat_map}
 use Rattle.gho_values.specs.declared.value.Value.{Value}
 use Rattle.gho_values.specs.Spans.{point}
-use Rattle.gho_schema.specs.declared.schema.Schema.{Schema}
-use Rattle.gho_schema.specs.declared.schema.Index.{Index}
-use Rattle.gho_schema.specs.Rows.{key_of}
-use Rattle.gho_schema.specs.Tables.{no_null}
-use Rattle.alter_image.specs.declared.image_fault.UnfitAt.{UnfitAt}
+use Rattle.gho_values.specs.declared.gho_schema.schema.Schema.{Schema}
+use Rattle.gho_values.specs.declared.gho_schema.schema.Index.{Index}
+use Rattle.gho_values.specs.GhoSchema.Rows.{key_of}
+use Rattle.gho_values.specs.GhoSchema.Tables.{no_null}
+use Rattle.gho_values.specs.declared.alter_image.image_fault.UnfitAt.{UnfitAt}
 use Rattle.row_locks.specs.declared.lock.Lock.{Lock}
 use Rattle.plain_server.specs.declared.work.Reach.{Reach}
 use Rattle.plain_server.specs.Rows.{rows_met}

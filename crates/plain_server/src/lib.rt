@@ -9,7 +9,9 @@ mod need;
 mod outcome;
 mod request;
 mod session;
+pub mod statement_laws;
 mod transaction;
+pub mod turn_answers;
 mod work;
 
 pub use answer::{Answer, KeyRange};

@@ -2,8 +2,8 @@
 
 ghost use Rattle.std.specs.Prelude.{◌≡◌, IfOk};
 
-use alter_image::ColumnMap;
-use gho_schema::Schema;
+use gho_values::alter_image::ColumnMap;
+use gho_values::gho_schema::Schema;
 use gho_values::{Bound, Duplicate, Key, Name, Names, Span};
 use row_store::Pairs;
 use script_text::Statement;

@@ -1,9 +1,9 @@
 //! What a statement is to do, once it is checked against its table's schema, and what it gives.
 
 use crate::answer::Answer;
-use alter_image::UnfitAt;
 use event_codec::Events;
-use gho_schema::Places;
+use gho_values::alter_image::UnfitAt;
+use gho_values::gho_schema::Places;
 use gho_values::{Row, Sequence, Span, Value};
 
 /// Some values of one unique key of a table: those that a condition asks for.

@@ -5,7 +5,7 @@ use Rattle.alter_schema.specs.declared.code.AlterCode.{AlterCode}
 use Rattle.alter_schema.specs.Altering.{altered}
 use Rattle.alter_text.specs.Reading.{alter_at}
 use Rattle.row_store.specs.Databases.{TableRows, Database, is_named, find_table}
-use Rattle.schema_rules.proofs.Steps.{bind_ok, ok_is, kept_out}
+use Rattle.gho_values.proofs.SchemaRules.Steps.{bind_ok, ok_is, kept_out}
 use Rattle.plan_words.specs.PlanData.{PlanData, Altered, plan_altered}
 use Rattle.plan_keys.specs.PlanKeys.{KeyData}
 use Rattle.plan_tables.specs.Tables.{tables_of, IsSound}

@@ -1,8 +1,8 @@
 -- Reading texts one after the other, as a loop does.
 use Rattle.std.proofs.Common.{◌≡◌, ℕ, ◌+◌, ◌<◌, ◌≤◌, List, [], ◌∷◌, ◌++◌, length, drop, map, get_or, Result, Ok, Err, Bor, refl, sym, ap, ◌∙◌, append_assoc, suc}
 use Rattle.std.proofs.lemmas.List.{append-nil, drop_all, drop_more, length-map}
-use Rattle.schema_rules.proofs.Steps.{bind_ok, ok_is}
-use Rattle.schema_rules.specs.Results.{◌>>=◌}
+use Rattle.gho_values.proofs.SchemaRules.Steps.{bind_ok, ok_is}
+use Rattle.gho_values.specs.SchemaRules.Results.{◌>>=◌}
 use Rattle.plan_tables.specs.Rows.{next_number}
 use Rattle.plan_document.specs.declared.fault.PlanFault.{PlanFault}
 use Rattle.plan_document.specs.declared.fault.PlanFault.TheVariants as faults

@@ -2,9 +2,9 @@
 -- project's rule, and gh-ost's where it has the option.
 use Rattle.std.specs.Prelude.{ℕ, Bool, not, ◌&&◌, ◌||◌, if◌then◌else◌, false, List, Option, Some, None, Result, Ok, Err}
 use Rattle.std.specs.Str.{bytes_eq}
-use Rattle.alter_image.specs.declared.clause.Clause.{Clause}
+use Rattle.gho_values.specs.declared.alter_image.clause.Clause.{Clause}
 use Rattle.row_store.specs.Databases.{Database, TableRows, find_table, has_table, database}
-use Rattle.schema_rules.specs.Results.{◌>>=◌}
+use Rattle.gho_values.specs.SchemaRules.Results.{◌>>=◌}
 use Rattle.alter_schema.specs.Altering.{altered}
 use Rattle.alter_text.specs.Reading.{alter_at}
 use Rattle.changelog_table.specs.ToolNames.{ghost_name, old_name}

@@ -1,7 +1,7 @@
 -- *Orders* of a plan: what the operator commands, which sessions are lost, and whose turns are asked for. This project's
 -- rule.
 use Rattle.std.specs.Prelude.{ℕ, Bool, ◌||◌, nat_lt, if◌then◌else◌, List, Result, Ok, Err}
-use Rattle.schema_rules.specs.Results.{◌>>=◌}
+use Rattle.gho_values.specs.SchemaRules.Results.{◌>>=◌}
 use Rattle.script_text.specs.declared.loss.Loss.{Loss}
 use Rattle.script_text.specs.declared.operator.Command.{Command}
 use Rattle.order_reader.specs.Losses.{loss_of}

@@ -3,7 +3,7 @@ use Rattle.std.specs.Prelude.{ℕ, nat_lt, if◌then◌else◌, List, length, Op
 use Rattle.std.specs.Str.{is_utf8}
 use Rattle.toml.specs.Data.{Members}
 use Rattle.toml.specs.Parse.{parse_document}
-use Rattle.schema_rules.specs.Results.{◌>>=◌}
+use Rattle.gho_values.specs.SchemaRules.Results.{◌>>=◌}
 use Rattle.script_text.specs.declared.script.ScriptLine.{ScriptLine}
 use Rattle.plan_words.specs.PlanData.{PlanData}
 use Rattle.plan_keys.specs.PlanKeys.{KeyData, keys_of}

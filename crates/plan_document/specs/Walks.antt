@@ -1,6 +1,6 @@
 -- Going through texts that are counted.
 use Rattle.std.specs.Prelude.{ℕ, List, [], ◌∷◌, Result, Ok}
-use Rattle.schema_rules.specs.Results.{◌>>=◌}
+use Rattle.gho_values.specs.SchemaRules.Results.{◌>>=◌}
 use Rattle.plan_tables.specs.Rows.{next_number}
 use Rattle.plan_document.specs.declared.fault.PlanRefusal.{PlanRefusal}
 

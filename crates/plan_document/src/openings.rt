@@ -5,7 +5,7 @@ ghost use Rattle.std.specs.List.{AllByRecursion};
 ghost use Rattle.alter_schema.specs.Altering.{altered};
 ghost use Rattle.alter_text.specs.Reading.{alter_at};
 ghost use Rattle.row_store.specs.Databases.{database, find_table, has_table};
-ghost use Rattle.schema_rules.specs.Lawful.{IsLawful};
+ghost use Rattle.gho_values.specs.SchemaRules.Lawful.{IsLawful};
 ghost use Rattle.schema_text.specs.Laws.{ReadSchemasAreLawful};
 ghost use Rattle.plan_keys.specs.PlanKeys.{table_data, key_data};
 ghost use Rattle.plan_tables.specs.Tables.{tables_of, IsSound};
@@ -13,12 +13,12 @@ ghost use Rattle.plan_document.specs.Openings.{has_left_ghost, is_no_sentry, has
 ghost use Rattle.plan_document.specs.Refusals.{Reads, of_tables, of_alter};
 
 use crate::fault::{PlanFault, PlanRefusal};
-use alter_image::Clauses;
 use alter_schema::{AlterFault, altered};
 use alter_text::read_alter;
 use changelog_table::{SENTRY_COMMENT, ghost_name, old_name};
-use gho_schema::Schema;
 use gho_values::Name;
+use gho_values::alter_image::Clauses;
+use gho_values::gho_schema::Schema;
 use plan_keys::PlanKeys;
 use plan_tables::{TableFault, read_tables};
 use plan_words::{AlteredSchema, Options};

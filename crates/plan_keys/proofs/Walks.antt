@@ -8,7 +8,7 @@ use Rattle.toml.proofs.Views.{Entry, items_view-drop}
 use Rattle.toml.specs.declared.value.Value.{Value}
 use Rattle.toml.specs.Data.{Data, item}
 use Rattle.toml.specs.View.{view, items_view, members_view}
-use Rattle.schema_rules.specs.Results.{◌>>=◌}
+use Rattle.gho_values.specs.SchemaRules.Results.{◌>>=◌}
 use Rattle.plan_keys.specs.declared.fault.KeyRefusal.{KeyRefusal}
 use Rattle.plan_keys.specs.declared.fault.KeyFault.{KeyFault}
 use Rattle.plan_keys.specs.declared.fault.KeyFault.TheVariants as faults

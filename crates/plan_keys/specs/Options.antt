@@ -2,7 +2,7 @@
 use Rattle.std.specs.Prelude.{codes, ℕ, pos, ℤ, ◌||◌, int_lt, nat_abs, if◌then◌else◌, List, Option, Result, Ok, Err}
 use Rattle.std.specs.Option.{option_and_then}
 use Rattle.toml.specs.Data.{Data, Members, get_member}
-use Rattle.schema_rules.specs.Results.{◌>>=◌}
+use Rattle.gho_values.specs.SchemaRules.Results.{◌>>=◌}
 use Rattle.plan_words.specs.declared.options.Options.{Options}
 use Rattle.plan_words.specs.PlanOptions.{default_options}
 use Rattle.plan_keys.specs.declared.fault.KeyRefusal.{KeyRefusal}

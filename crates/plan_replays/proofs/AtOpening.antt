@@ -4,11 +4,11 @@ use Rattle.row_store.specs.Databases.{Database}
 use Rattle.plain_server.specs.declared.session.Limits.{Limits}
 use Rattle.plain_server.specs.States.{opened}
 use Rattle.plan_words.specs.PlanData.{PlanData}
-use Rattle.journal_words.specs.Journals.{opening}
-use Rattle.statement_laws.specs.Databases.{IsOrderly}
+use Rattle.migration_program.specs.JournalWords.Journals.{opening}
+use Rattle.plain_server.specs.StatementLaws.Databases.{IsOrderly}
 use Rattle.history_laws.specs.Plans.{limits_of}
 use Rattle.history_laws.proofs.Openings.{opening_orderly}
-use Rattle.accepted_laws.specs.Laws.{ReadPlansAreSerial, WasRead}
+use Rattle.accepted_runs.specs.AcceptedLaws.Laws.{ReadPlansAreSerial, WasRead}
 
 pub orderly : ReadPlansAreSerial → (plan : PlanData) → WasRead plan → (tables : Database) → tables ≡ plan.tables → IsOrderly tables
 orderly law plan was tables is = subst IsOrderly (sym is) (opening_orderly plan.tables (law was.bytes plan was.is).tables)

@@ -1,3 +1,4 @@
 mod AtOpening
 mod SoundRuns
 pub mod WholeRuns
+pub mod WholeReplay

@@ -6,18 +6,18 @@ use Rattle.plain_server.specs.declared.entry.Entry.{Entry}
 use Rattle.plain_server.specs.declared.outcome.Verdict.{Verdict}
 use Rattle.plain_server.specs.States.{State}
 use Rattle.plan_words.specs.PlanData.{PlanData}
-use Rattle.journal_words.specs.Journals.{state_at}
-use Rattle.journal_words.specs.Sessions.{KeepsSessions}
+use Rattle.migration_program.specs.JournalWords.Journals.{state_at}
+use Rattle.migration_program.specs.JournalWords.Sessions.{KeepsSessions}
 use Rattle.migration_program.specs.Orders.{actors, is_ready, Found, Queue, first_ready, from_pass, from_round, from_words, actor_of, chosen, queue_at, next_actor, IsReplay}
 use Rattle.migration_program.specs.Verdicts.{has_ended, verdict_of}
-use Rattle.run_laws.specs.Kept.{IsKept}
+use Rattle.history_laws.specs.RunLaws.Kept.{IsKept}
 use Rattle.migration_program.specs.ReplayLaws.Laws.{OneReplay}
-use Rattle.accepted_laws.specs.Laws.{WasRead}
+use Rattle.accepted_runs.specs.AcceptedLaws.Laws.{WasRead}
 use Rattle.accepted_runs.specs.Laws.{AcceptedRunsGoOn}
 use Rattle.whole_run.specs.Runs.{RunView, is_over, Stops}
-use Rattle.whole_run.specs.WholeReplay.Replays.{IsStalled}
-use Rattle.whole_run.specs.declared.whole_replay.replaying.Replayed.{Replayed}
-use Rattle.whole_run.specs.declared.whole_replay.replaying.Replayed.TheVariants as replayed
+use Rattle.plan_replays.specs.WholeReplay.Replays.{IsStalled}
+use Rattle.plan_replays.specs.declared.whole_replay.replaying.Replayed.{Replayed}
+use Rattle.plan_replays.specs.declared.whole_replay.replaying.Replayed.TheVariants as replayed
 use Rattle.plan_replays.specs.SoundRuns.{KeptRunsAreSound}
 use Rattle.plan_replays.specs.Replays.{IsWholeReplay, IsEnd}
 

@@ -1,2 +1,4 @@
 pub mod Replays
 pub mod SoundRuns
+pub mod FinalServer
+pub mod WholeReplay

@@ -4,7 +4,7 @@ use Rattle.plain_server.specs.declared.entry.Entry.{Entry}
 use Rattle.plain_server.specs.declared.outcome.Verdict.{Verdict}
 use Rattle.plain_server.specs.States.{State}
 use Rattle.plan_words.specs.PlanData.{PlanData}
-use Rattle.journal_words.specs.Journals.{state_at}
+use Rattle.migration_program.specs.JournalWords.Journals.{state_at}
 use Rattle.migration_program.specs.Orders.{IsReplay}
 use Rattle.migration_program.specs.Verdicts.{verdict_of}
 use Rattle.whole_run.specs.Runs.{is_over}

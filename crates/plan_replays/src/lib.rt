@@ -2,9 +2,11 @@
 //! server at its opening.
 #![tactic(auto)]
 
+pub mod final_server;
 pub mod laws;
 mod opening;
 mod replaying;
+pub mod whole_replay;
 
 pub use opening::open_plan;
 pub use replaying::{End, Left, end_with, replay_plan};

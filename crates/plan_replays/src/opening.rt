@@ -1,13 +1,13 @@
 //! A plan's opening tables on a server.
 
 ghost use Rattle.std.specs.Prelude.{◌≡◌, IfOk};
-ghost use Rattle.journal_words.specs.Journals.{opening};
-ghost use Rattle.accepted_laws.specs.Laws.{WasRead};
+ghost use Rattle.migration_program.specs.JournalWords.Journals.{opening};
+ghost use Rattle.accepted_runs.specs.AcceptedLaws.Laws.{WasRead};
 
-use accepted_laws::laws::read_plans_are_serial;
-use accepted_laws::option_laws::read_options_allow;
+use crate::final_server::{FinalServer, open_server};
+use accepted_runs::accepted_laws::laws::read_plans_are_serial;
+use accepted_runs::accepted_laws::option_laws::read_options_allow;
 use changelog_table::log_name;
-use final_server::{FinalServer, open_server};
 use gho_values::{Duplicate, Names, Sequence};
 use paged_tables::Tables;
 use plain_server::Limits;

@@ -1,14 +1,15 @@
 //! The replay of a plan.
 
 ghost use Rattle.std.specs.Prelude.{◌≡◌, ◌≢◌, Some, IfSome, IfOk};
-ghost use Rattle.journal_words.specs.Journals.{opening};
+ghost use Rattle.migration_program.specs.JournalWords.Journals.{opening};
 ghost use Rattle.migration_program.specs.Verdicts.{verdict_of};
-ghost use Rattle.accepted_laws.specs.Laws.{WasRead};
-ghost use Rattle.whole_run.specs.declared.whole_replay.replaying.Replayed.TheVariants as answers;
+ghost use Rattle.accepted_runs.specs.AcceptedLaws.Laws.{WasRead};
+ghost use Rattle.plan_replays.specs.declared.whole_replay.replaying.Replayed.TheVariants as answers;
 ghost use Rattle.plan_replays.specs.Replays.{IsWholeReplay, IsEnd};
 
 use crate::laws::kept_runs_are_sound;
-use accepted_laws::laws::read_plans_are_runnable;
+use crate::whole_replay::{Replayed, replay};
+use accepted_runs::accepted_laws::laws::read_plans_are_runnable;
 use accepted_runs::laws::accepted_runs_go_on;
 use migration_program::replay_laws::replays_agree;
 use plain_server::{Journal, Verdict};
@@ -16,7 +17,6 @@ use plan_words::Plan;
 use serving::Serve;
 use std::alloc::{AllocError, Global};
 use whole_run::Run;
-use whole_run::whole_replay::{Replayed, replay};
 
 /// How a run ended.
 #[derive(Drop)]

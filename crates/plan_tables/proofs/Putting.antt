@@ -1,7 +1,7 @@
 -- Putting the row of a text into a table, as the code does.
 use Rattle.std.proofs.Common.{◌≡◌, false, is_some, List, Option, Some, None, refl}
 use Rattle.gho_values.specs.declared.value.Value.{Value}
-use Rattle.gho_schema.specs.Tables.{IsRow, IsTable}
+use Rattle.gho_values.specs.GhoSchema.Tables.{IsRow, IsTable}
 use Rattle.row_store.specs.ClusteredKeys.{HasClusteredKey}
 use Rattle.row_store.specs.Databases.{TableRows, clashing, IsNewIn}
 use Rattle.row_store.specs.Laws.{PutKeepsTables}

@@ -2,10 +2,10 @@
 use Rattle.std.proofs.Common.{◌≡◌, ℕ, ◌+◌, ◌<◌, ◌≤◌, List, [], ◌∷◌, ◌++◌, length, drop, map, get_or, Option, Some, None, Result, Ok, Err, Bor, refl, sym, ap, ◌∙◌}
 use Rattle.std.proofs.lemmas.List.{drop_all, drop_more}
 use Rattle.row_store.specs.Databases.{TableRows, Database}
-use Rattle.schema_rules.specs.Results.{◌>>=◌}
+use Rattle.gho_values.specs.SchemaRules.Results.{◌>>=◌}
 use Rattle.plan_keys.specs.declared.texts.TableKeys as code_table
 use Rattle.plan_keys.specs.PlanKeys.{table_data}
-use Rattle.gho_schema.proofs.Loops.{from_here}
+use Rattle.gho_values.proofs.GhoSchema.Loops.{from_here}
 use Rattle.plan_tables.specs.declared.fault.TableFault.{TableFault}
 use Rattle.plan_tables.specs.declared.fault.TableFault.TheVariants as faults
 use Rattle.plan_tables.specs.declared.fault.TableRefusal.{TableRefusal}

@@ -5,13 +5,13 @@ use Rattle.gho_values.specs.declared.fault.Unfit.{Unfit}
 use Rattle.gho_values.specs.declared.value.Value.{Value}
 use Rattle.gho_values.specs.Storing.{stores}
 use Rattle.gho_values.specs.Laws.{StoresAgain}
-use Rattle.gho_schema.specs.declared.schema.Column.{Column}
-use Rattle.gho_schema.specs.Options.{◌>>=◌}
-use Rattle.gho_schema.specs.Tables.{IsRow}
+use Rattle.gho_values.specs.declared.gho_schema.schema.Column.{Column}
+use Rattle.gho_values.specs.GhoSchema.Options.{◌>>=◌}
+use Rattle.gho_values.specs.GhoSchema.Tables.{IsRow}
 use Rattle.table_words.specs.declared.token.Token.{Token}
 use Rattle.table_words.specs.declared.tokens.TextWords.{TextWords}
 use Rattle.table_words.specs.Pieces.{behind_sign, literal_at}
-use Rattle.schema_rules.proofs.Steps.{some_is}
+use Rattle.gho_values.proofs.SchemaRules.Steps.{some_is}
 use Rattle.plan_tables.specs.declared.fault.RowFault.{RowFault}
 use Rattle.plan_tables.specs.Refusals.{Finds}
 use Rattle.plan_tables.specs.RowTexts.{value_at, mark, values_at, is_empty, row_of}

@@ -4,16 +4,16 @@ use Rattle.std.specs.List.{AllByRecursion, list_all}
 use Rattle.std.specs.Option.{option_and_then}
 use Rattle.gho_values.specs.declared.value.Value.{Value}
 use Rattle.gho_values.specs.Laws.{StoresAgain}
-use Rattle.gho_schema.specs.declared.schema.Schema.{Schema}
-use Rattle.gho_schema.specs.Rows.{key_places, with_row}
-use Rattle.gho_schema.specs.Tables.{IsRow, IsTable}
+use Rattle.gho_values.specs.declared.gho_schema.schema.Schema.{Schema}
+use Rattle.gho_values.specs.GhoSchema.Rows.{key_places, with_row}
+use Rattle.gho_values.specs.GhoSchema.Tables.{IsRow, IsTable}
 use Rattle.row_store.specs.ClusteredKeys.{HasClusteredKey}
 use Rattle.row_store.specs.Databases.{TableRows, Database, StoredTable, clashing, has_table}
 use Rattle.row_store.specs.Laws.{PutKeepsTables}
-use Rattle.schema_rules.proofs.Lists.{All-append}
-use Rattle.schema_rules.proofs.Steps.{bind_ok, kept_out}
-use Rattle.schema_rules.specs.Lawful.{IsLawful}
-use Rattle.schema_rules.specs.Results.{◌>>=◌}
+use Rattle.gho_values.proofs.SchemaRules.Lists.{All-append}
+use Rattle.gho_values.proofs.SchemaRules.Steps.{bind_ok, kept_out}
+use Rattle.gho_values.specs.SchemaRules.Lawful.{IsLawful}
+use Rattle.gho_values.specs.SchemaRules.Results.{◌>>=◌}
 use Rattle.schema_text.specs.Laws.{ReadSchemasAreLawful}
 use Rattle.schema_text.specs.Reading.{schema_at}
 use Rattle.table_words.specs.Tokens.{text_words}

@@ -3,8 +3,8 @@ use Rattle.std.specs.Prelude.{codes, ℕ, Bool, true, false, not, ◌&&◌, if�
 use Rattle.std.specs.Result.{result_ok}
 use Rattle.gho_values.specs.declared.value.Value.{Value}
 use Rattle.gho_values.specs.Storing.{stores}
-use Rattle.gho_schema.specs.declared.schema.Column.{Column}
-use Rattle.gho_schema.specs.Options.{◌>>=◌}
+use Rattle.gho_values.specs.declared.gho_schema.schema.Column.{Column}
+use Rattle.gho_values.specs.GhoSchema.Options.{◌>>=◌}
 use Rattle.table_words.specs.declared.token.Token.{Token}
 use Rattle.table_words.specs.declared.tokens.TextWords.{TextWords}
 use Rattle.table_words.specs.Pieces.{behind_sign, literal_at}

@@ -2,9 +2,9 @@
 use Rattle.std.specs.Prelude.{ℕ, ◌+◌, ◌-◌, ◌^◌, min, is_some, if◌then◌else◌, List, [], ◌∷◌, Option, Some, None, Result, Ok, Err}
 use Rattle.std.specs.Option.{option_and_then}
 use Rattle.gho_values.specs.declared.value.Value.{Value}
-use Rattle.gho_schema.specs.Rows.{key_places, with_row}
+use Rattle.gho_values.specs.GhoSchema.Rows.{key_places, with_row}
 use Rattle.row_store.specs.Databases.{TableRows, clashing}
-use Rattle.schema_rules.specs.Results.{◌>>=◌}
+use Rattle.gho_values.specs.SchemaRules.Results.{◌>>=◌}
 use Rattle.plan_tables.specs.RowTexts.{row_at}
 
 -- The table with a row more, in its place in order of the clustered key; none where the row clashes with one of the

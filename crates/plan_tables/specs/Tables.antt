@@ -1,10 +1,10 @@
 -- *Tables* of a plan: one after the other, or the first refusal. This project's rule.
 use Rattle.std.specs.Prelude.{ℕ, if◌then◌else◌, List, [], ◌∷◌, ◌++◌, Result, Ok, Err}
-use Rattle.gho_schema.specs.declared.schema.Schema.{Schema}
-use Rattle.gho_schema.specs.Tables.{IsTable}
+use Rattle.gho_values.specs.declared.gho_schema.schema.Schema.{Schema}
+use Rattle.gho_values.specs.GhoSchema.Tables.{IsTable}
 use Rattle.row_store.specs.Databases.{TableRows, Database, has_table}
-use Rattle.schema_rules.specs.Lawful.{IsLawful}
-use Rattle.schema_rules.specs.Results.{◌>>=◌}
+use Rattle.gho_values.specs.SchemaRules.Lawful.{IsLawful}
+use Rattle.gho_values.specs.SchemaRules.Results.{◌>>=◌}
 use Rattle.schema_text.specs.Reading.{schema_at}
 use Rattle.table_words.specs.declared.code.SchemaCode.{SchemaCode}
 use Rattle.table_words.specs.declared.code.SchemaCode.TheVariants.{RepeatedName}

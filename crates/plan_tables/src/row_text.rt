@@ -1,14 +1,14 @@
 //! The texts of rows.
 
 ghost use Rattle.std.specs.Prelude.{◌≡◌, true, option_map, IfOk};
-ghost use Rattle.gho_schema.specs.Tables.{IsRow};
+ghost use Rattle.gho_values.specs.GhoSchema.Tables.{IsRow};
 ghost use Rattle.table_words.specs.Pieces.{behind_sign};
 ghost use Rattle.table_words.specs.Tokens.{text_words};
 ghost use Rattle.plan_tables.specs.Refusals.{Finds};
 ghost use Rattle.plan_tables.specs.RowTexts.{value_at, mark, values_at, is_empty, row_of, row_at};
 
 use crate::fault::RowFault;
-use gho_schema::Column;
+use gho_values::gho_schema::Column;
 use gho_values::laws::stored_values_store_again;
 use gho_values::{Row, Sequence, StoreFault, Value, store};
 use std::alloc::Global;

@@ -1,7 +1,7 @@
 //! The rows of a plan's table.
 
 ghost use Rattle.std.specs.Prelude.{◌≡◌, ◌<◌, ◌≤◌, ◌+◌, None, is_some, map, length, IfOk, OnOk};
-ghost use Rattle.gho_schema.specs.Tables.{IsTable};
+ghost use Rattle.gho_values.specs.GhoSchema.Tables.{IsTable};
 ghost use Rattle.row_store.specs.Databases.{clashing};
 ghost use Rattle.row_store.specs.ClusteredKeys.{HasClusteredKey};
 ghost use Rattle.plan_tables.specs.Refusals.{Finds, Reads};
@@ -11,7 +11,7 @@ ghost use Rattle.plan_tables.specs.Tables.{of_rows};
 use crate::fault::{RowFault, TableFault, TableRefusal};
 use crate::row_text::read_row;
 use gho_values::{Duplicate, Row, Sequence};
-use row_pages::{SpanRows, Table as PagedTable};
+use paged_tables::row_pages::{SpanRows, Table as PagedTable};
 use row_store::Table;
 use row_store::laws::put_keeps_tables;
 use std::alloc::{AllocError, Global};

@@ -3,7 +3,7 @@
 ghost use Rattle.std.specs.Prelude.{◌≡◌, false, [], ◌∷◌, ◌++◌, map, IfOk, OnOk};
 ghost use Rattle.std.specs.List.{AllByRecursion};
 ghost use Rattle.row_store.specs.Databases.{database, has_table};
-ghost use Rattle.schema_rules.specs.Lawful.{IsLawful};
+ghost use Rattle.gho_values.specs.SchemaRules.Lawful.{IsLawful};
 ghost use Rattle.schema_text.specs.Laws.{ReadSchemasAreLawful};
 ghost use Rattle.schema_text.specs.Reading.{schema_at};
 ghost use Rattle.plan_keys.specs.PlanKeys.{table_data};
@@ -12,10 +12,10 @@ ghost use Rattle.plan_tables.specs.Tables.{of_schema, newly_named, table_at, tab
 
 use crate::fault::{TableFault, TableRefusal};
 use crate::rows::read_rows;
-use gho_schema::Schema;
+use gho_values::gho_schema::Schema;
 use gho_values::laws::stored_values_store_again;
+use paged_tables::row_pages::Table as PagedTable;
 use plan_keys::TableKeys;
-use row_pages::Table as PagedTable;
 use row_store::laws::put_keeps_tables;
 use row_store::{AddFault, Table, Tables};
 use schema_text::read_schema;

@@ -1,12 +1,12 @@
 -- The clustered key of a lawful schema has columns, none of which may be null.
 use Rattle.std.proofs.Common.{◌≡◌, ◌<◌, true, length, Option, Some, None, refl, ℕ}
 use Rattle.std.specs.List.{AllByRecursion, slice_get}
-use Rattle.gho_schema.specs.declared.schema.Index.{Index}
-use Rattle.gho_schema.specs.declared.schema.Schema.{Schema}
-use Rattle.gho_schema.specs.Clustering.{is_not_null, unique_at, clustered_place, clustered_key}
-use Rattle.gho_schema.specs.Rows.{places_of}
-use Rattle.schema_rules.proofs.Lists.{list_all-All, All-at}
-use Rattle.schema_rules.specs.Lawful.{IsKey, IsNotNull, IsLawful}
+use Rattle.gho_values.specs.declared.gho_schema.schema.Index.{Index}
+use Rattle.gho_values.specs.declared.gho_schema.schema.Schema.{Schema}
+use Rattle.gho_values.specs.GhoSchema.Clustering.{is_not_null, unique_at, clustered_place, clustered_key}
+use Rattle.gho_values.specs.GhoSchema.Rows.{places_of}
+use Rattle.gho_values.proofs.SchemaRules.Lists.{list_all-All, All-at}
+use Rattle.gho_values.specs.SchemaRules.Lawful.{IsKey, IsNotNull, IsLawful}
 use Rattle.row_store.specs.ClusteredKeys.{HasClusteredKey}
 
 pub one_keyed : (schema : Schema) (o : Option Index) → ((index : Index) → o ≡ Some index → IsKey (length schema.columns) index) → IsNotNull schema.columns o

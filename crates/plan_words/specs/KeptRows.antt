@@ -1,10 +1,10 @@
 -- What an ALTER keeps of a table's rows.
 use Rattle.std.specs.Prelude.{◌≡◌, true, List, Ok}
 use Rattle.gho_values.specs.declared.value.Value.{Value}
-use Rattle.gho_schema.specs.declared.schema.Schema.{Schema}
-use Rattle.gho_schema.specs.Rows.{key_of, key_places}
-use Rattle.gho_schema.specs.Tables.{IsRow, clash}
-use Rattle.alter_image.specs.Images.{image}
+use Rattle.gho_values.specs.declared.gho_schema.schema.Schema.{Schema}
+use Rattle.gho_values.specs.GhoSchema.Rows.{key_of, key_places}
+use Rattle.gho_values.specs.GhoSchema.Tables.{IsRow, clash}
+use Rattle.gho_values.specs.AlterImage.Images.{image}
 use Rattle.plan_words.specs.PlanData.{Altered}
 
 -- *Keeps the rows*: the table's name; of a row that has an image, the clustered key; that images are rows of the

@@ -2,9 +2,9 @@
 use Rattle.std.specs.Prelude.{ℕ, List, [], unwrap_or, Option, Some, None}
 use Rattle.std.specs.Option.{option_map}
 use Rattle.std.specs.Result.{result_ok}
-use Rattle.gho_schema.specs.declared.schema.Schema.{Schema}
-use Rattle.alter_image.specs.declared.clause.Clause.{Clause}
-use Rattle.alter_image.specs.declared.map.MapColumn.{MapColumn}
+use Rattle.gho_values.specs.declared.gho_schema.schema.Schema.{Schema}
+use Rattle.gho_values.specs.declared.alter_image.clause.Clause.{Clause}
+use Rattle.gho_values.specs.declared.alter_image.map.MapColumn.{MapColumn}
 use Rattle.alter_schema.specs.Altering.{altered}
 use Rattle.row_store.specs.Databases.{TableRows, Database, find_table}
 use Rattle.script_text.specs.declared.loss.Loss.{Loss}

@@ -7,8 +7,8 @@ ghost use Rattle.plan_words.specs.PlanParts.{data_of};
 
 use crate::options::Options;
 use crate::runs::ActorRuns;
-use alter_image::{Clauses, ColumnMap};
-use gho_schema::Schema;
+use gho_values::alter_image::{Clauses, ColumnMap};
+use gho_values::gho_schema::Schema;
 use gho_values::{Name, Sequence};
 use row_store::Tables;
 use script_text::{Commands, Loss, Script};

@@ -7,7 +7,7 @@ use Rattle.std.specs.List.{flat_map, slice_get}
 use Rattle.row_store.specs.Databases.{StoredTable, TableRows, Database, database, find_table}
 use Rattle.changelog_table.specs.ToolNames.{is_tool_name}
 use Rattle.plan_words.specs.PlanData.{PlanData}
-use Rattle.journal_words.specs.Serials.{tables_left}
+use Rattle.migration_program.specs.JournalWords.Serials.{tables_left}
 use Rattle.table_lines.proofs.Steps.{from_here}
 use Rattle.report_print.specs.Tables.{left_of, table_text, tables_text}
 

@@ -4,7 +4,7 @@ use Rattle.row_store.specs.Databases.{Database}
 use Rattle.plain_server.specs.declared.entry.Entry.{Entry}
 use Rattle.plain_server.specs.declared.outcome.Verdict.{Verdict}
 use Rattle.plan_words.specs.PlanData.{PlanData}
-use Rattle.journal_words.specs.Serials.{tables_left}
+use Rattle.migration_program.specs.JournalWords.Serials.{tables_left}
 use Rattle.table_lines.specs.Names.{names_line}
 use Rattle.report_print.specs.Verdicts.{verdict_line}
 use Rattle.client_lines.specs.Replies.{clients_text}

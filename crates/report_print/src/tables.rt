@@ -1,7 +1,7 @@
 //! The tables that are left.
 
 ghost use Rattle.std.specs.Prelude.{◌≡◌, ◌++◌, option_to_list, OnOk};
-ghost use Rattle.journal_words.specs.Serials.{tables_left};
+ghost use Rattle.migration_program.specs.JournalWords.Serials.{tables_left};
 ghost use Rattle.row_store.specs.Databases.{database, find_table};
 ghost use Rattle.table_lines.specs.Tables.{row_lines};
 ghost use Rattle.report_print.specs.Tables.{left_of, rows_text, table_text, tables_text};
@@ -10,8 +10,8 @@ use changelog_table::is_tool_name;
 use client_lines::push_number_line;
 use gho_values::Text;
 use paged_tables::Tables;
+use paged_tables::row_pages::{SpanRows, Table};
 use plan_words::Plan;
-use row_pages::{SpanRows, Table};
 use row_store::Table as PlainTable;
 use std::alloc::AllocError;
 use std::slice;

@@ -6,39 +6,39 @@ use Rattle.plain_server.specs.declared.entry.Entry.{Entry}
 use Rattle.plain_server.specs.declared.request.Request.{Request}
 use Rattle.script_text.specs.declared.actor.Actor.TheVariants.{Apply, Copy}
 use Rattle.plan_words.specs.PlanData.{PlanData}
-use Rattle.chunk_copier.specs.Copiers as copiers
-use Rattle.chunk_copier.specs.Copiers.{resized}
-use Rattle.chunk_copier.specs.declared.copier.Copier.{Copier}
-use Rattle.chunk_copier.specs.declared.copier.CopyStep.TheVariants.{Choosing}
-use Rattle.event_applier.specs.declared.applier.ApplyStep.{ApplyStep}
-use Rattle.event_applier.specs.declared.applier.ApplyStep.TheVariants.{Reading}
-use Rattle.event_applier.specs.Appliers as appliers
-use Rattle.journal_words.specs.Journals.{state_at}
-use Rattle.journal_words.specs.Sessions.{live_session, sessions_named}
+use Rattle.migration_program.specs.ChunkCopier.Copiers as copiers
+use Rattle.migration_program.specs.ChunkCopier.Copiers.{resized}
+use Rattle.migration_program.specs.declared.chunk_copier.copier.Copier.{Copier}
+use Rattle.migration_program.specs.declared.chunk_copier.copier.CopyStep.TheVariants.{Choosing}
+use Rattle.migration_program.specs.declared.event_applier.applier.ApplyStep.{ApplyStep}
+use Rattle.migration_program.specs.declared.event_applier.applier.ApplyStep.TheVariants.{Reading}
+use Rattle.migration_program.specs.EventApplier.Appliers as appliers
+use Rattle.migration_program.specs.JournalWords.Journals.{state_at}
+use Rattle.migration_program.specs.JournalWords.Sessions.{live_session, sessions_named}
 use Rattle.migration_program.specs.Operators.{is_throttled}
 use Rattle.migration_program.specs.Programs.{apply_call, copy_call, rolls_back, tool_call}
 use Rattle.migration_program.specs.Tools.{Course, Migrating, Work, is_reverting, moment}
 use Rattle.history_laws.specs.Plans.{limits_of, scene_of}
 use Rattle.history_laws.specs.Scenes.{no_hold}
-use Rattle.statement_laws.proofs.Tests.{turned}
-use Rattle.ghost_laws.specs.GhostRows.Moments.{Row}
-use Rattle.ghost_laws.specs.GhostRows.Timelines.{Migration}
-use Rattle.ghost_laws.specs.Holding.{Clustered}
-use Rattle.ghost_laws.specs.Running.{ToolStands}
-use Rattle.ghost_laws.specs.Tool.{CopyState}
-use Rattle.migration_laws.specs.ApplyLaws.Applying.{plan_at}
-use Rattle.migration_laws.specs.CopyLaws.Copying.{copy_state, moment_of}
-use Rattle.machine_laws.specs.Standings.{standing_of}
-use Rattle.machine_laws.proofs.Asking.{unless_called}
-use Rattle.machine_laws.proofs.Journals.{IsTogether, apply_called}
-use Rattle.migration_laws.specs.Machines.{IsUnbusy, Machines, MigrationStands, hold_at}
-use Rattle.migration_laws.specs.Machines.MigrationMove.{applier_moves, copier_moves}
-use Rattle.migration_laws.proofs.Migrating.{moves_keep}
-use Rattle.migration_laws.proofs.Moving.{copied_state}
-use Rattle.course_laws.proofs.UnalteredLaws.Away.{IsKnownAsked}
-use Rattle.follow_laws.specs.FollowTurns.Goes.{CopyWaits, Goes, machines_in}
-use Rattle.follow_laws.proofs.FollowTurns.Seats.{SomeSeats, new_holds, some_seats}
-use Rattle.follow_laws.proofs.FollowTurns.Goes.{rests_own}
+use Rattle.plain_server.proofs.StatementLaws.Tests.{turned}
+use Rattle.history_laws.specs.GhostLaws.GhostRows.Moments.{Row}
+use Rattle.history_laws.specs.GhostLaws.GhostRows.Timelines.{Migration}
+use Rattle.history_laws.specs.GhostLaws.Holding.{Clustered}
+use Rattle.history_laws.specs.GhostLaws.Running.{ToolStands}
+use Rattle.history_laws.specs.GhostLaws.Tool.{CopyState}
+use Rattle.revert_laws.specs.MigrationLaws.ApplyLaws.Applying.{plan_at}
+use Rattle.revert_laws.specs.MigrationLaws.CopyLaws.Copying.{copy_state, moment_of}
+use Rattle.history_laws.specs.MachineLaws.Standings.{standing_of}
+use Rattle.history_laws.proofs.MachineLaws.Asking.{unless_called}
+use Rattle.history_laws.proofs.MachineLaws.Journals.{IsTogether, apply_called}
+use Rattle.revert_laws.specs.MigrationLaws.Machines.{IsUnbusy, Machines, MigrationStands, hold_at}
+use Rattle.revert_laws.specs.MigrationLaws.Machines.MigrationMove.{applier_moves, copier_moves}
+use Rattle.revert_laws.proofs.MigrationLaws.Migrating.{moves_keep}
+use Rattle.revert_laws.proofs.MigrationLaws.Moving.{copied_state}
+use Rattle.revert_laws.proofs.CourseLaws.UnalteredLaws.Away.{IsKnownAsked}
+use Rattle.revert_laws.specs.FollowLaws.FollowTurns.Goes.{CopyWaits, Goes, machines_in}
+use Rattle.revert_laws.proofs.FollowLaws.FollowTurns.Seats.{SomeSeats, new_holds, some_seats}
+use Rattle.revert_laws.proofs.FollowLaws.FollowTurns.Goes.{rests_own}
 use Rattle.revert_laws.proofs.Stays.{StandsAt}
 use Rattle.revert_laws.proofs.Frozen.{CallsQuiet, Frozen, IsHarmless, IsQuiet, WaitsHarmless}
 

@@ -13,35 +13,35 @@ use Rattle.plain_server.specs.declared.request.Request.{Request}
 use Rattle.plain_server.specs.declared.request.Request.TheVariants as requests
 use Rattle.plan_words.specs.PlanData.{PlanData}
 use Rattle.changelog_table.specs.ToolNames.{ghost_name}
-use Rattle.event_applier.specs.declared.applier.ApplyStep.TheVariants.{Reading}
-use Rattle.journal_words.specs.Journals.{opens, state_at}
-use Rattle.journal_words.specs.Sessions.{sessions_named}
+use Rattle.migration_program.specs.declared.event_applier.applier.ApplyStep.TheVariants.{Reading}
+use Rattle.migration_program.specs.JournalWords.Journals.{opens, state_at}
+use Rattle.migration_program.specs.JournalWords.Sessions.{sessions_named}
 use Rattle.migration_program.specs.Programs.{given, tool_call}
 use Rattle.migration_program.specs.Tools.{Migrating, Work, is_reverting, moment}
 use Rattle.history_laws.specs.Plans.{limits_of, scene_of}
 use Rattle.history_laws.specs.Turns.{about, told_at}
 use Rattle.history_laws.proofs.Actors.{Placed, named_differs, placed, same_actor_is}
-use Rattle.statement_laws.proofs.Tests.{turned}
-use Rattle.ghost_laws.specs.GhostRows.Moments.{Row}
-use Rattle.ghost_laws.specs.GhostRows.Timelines.{Migration}
-use Rattle.ghost_laws.specs.Holding.{Clustered}
-use Rattle.run_laws.specs.Kept.{IsKept}
-use Rattle.machine_laws.specs.Standings.{IsAbout, Standing, answered, free, is_called, is_polled, standing_of}
-use Rattle.machine_laws.proofs.Journals.{Asking, IsRun, IsTogether, asking, calls_so, has_now, polls_so}
-use Rattle.machine_laws.proofs.Marks.{Unmarked}
-use Rattle.machine_laws.proofs.Seated.{IsServed, others_stand, own_lost}
-use Rattle.machine_laws.proofs.Tabling.{Behind, behind, rests, waits_on}
-use Rattle.migration_laws.specs.Away.{KeepsAway}
-use Rattle.migration_laws.specs.Machines.{Machines, MigrationStands}
-use Rattle.migration_laws.specs.Machines.MigrationTurn.{others_turn}
-use Rattle.migration_laws.proofs.Migrating.{turns_keep}
-use Rattle.course_laws.specs.UnalteredLaws.Laws.{IsUnaltered}
-use Rattle.course_laws.proofs.UnalteredLaws.Away.{IsKnownAsked, all_asked, unaltered_front}
-use Rattle.follow_laws.specs.FollowTurns.Laws.{IsMigrationOf}
-use Rattle.follow_laws.proofs.FollowTurns.Asked.{gave, waits_with}
-use Rattle.follow_laws.proofs.FollowTurns.Follows.{kept_front, kept_run, kept_scene, unmarked_now}
-use Rattle.follow_laws.proofs.FollowTurns.Goes.{in_scene}
-use Rattle.follow_laws.proofs.FollowTurns.Others.{ghost_named, others_away}
+use Rattle.plain_server.proofs.StatementLaws.Tests.{turned}
+use Rattle.history_laws.specs.GhostLaws.GhostRows.Moments.{Row}
+use Rattle.history_laws.specs.GhostLaws.GhostRows.Timelines.{Migration}
+use Rattle.history_laws.specs.GhostLaws.Holding.{Clustered}
+use Rattle.history_laws.specs.RunLaws.Kept.{IsKept}
+use Rattle.history_laws.specs.MachineLaws.Standings.{IsAbout, Standing, answered, free, is_called, is_polled, standing_of}
+use Rattle.history_laws.proofs.MachineLaws.Journals.{Asking, IsRun, IsTogether, asking, calls_so, has_now, polls_so}
+use Rattle.history_laws.proofs.MachineLaws.Marks.{Unmarked}
+use Rattle.history_laws.proofs.MachineLaws.Seated.{IsServed, others_stand, own_lost}
+use Rattle.history_laws.proofs.MachineLaws.Tabling.{Behind, behind, rests, waits_on}
+use Rattle.revert_laws.specs.MigrationLaws.Away.{KeepsAway}
+use Rattle.revert_laws.specs.MigrationLaws.Machines.{Machines, MigrationStands}
+use Rattle.revert_laws.specs.MigrationLaws.Machines.MigrationTurn.{others_turn}
+use Rattle.revert_laws.proofs.MigrationLaws.Migrating.{turns_keep}
+use Rattle.revert_laws.specs.CourseLaws.UnalteredLaws.Laws.{IsUnaltered}
+use Rattle.revert_laws.proofs.CourseLaws.UnalteredLaws.Away.{IsKnownAsked, all_asked, unaltered_front}
+use Rattle.revert_laws.specs.FollowLaws.FollowTurns.Laws.{IsMigrationOf}
+use Rattle.revert_laws.proofs.FollowLaws.FollowTurns.Asked.{gave, waits_with}
+use Rattle.revert_laws.proofs.FollowLaws.FollowTurns.Follows.{kept_front, kept_run, kept_scene, unmarked_now}
+use Rattle.revert_laws.proofs.FollowLaws.FollowTurns.Goes.{in_scene}
+use Rattle.revert_laws.proofs.FollowLaws.FollowTurns.Others.{ghost_named, others_away}
 use Rattle.revert_laws.proofs.Stays.{MayStay, StandsAt, applier_stays}
 
 -- WHAT THE TWO MAY STILL ASK

@@ -14,26 +14,26 @@ use Rattle.plain_server.specs.declared.entry.Entry.{Entry}
 use Rattle.plain_server.specs.declared.request.Request.{Request}
 use Rattle.plan_words.specs.PlanData.{PlanData}
 use Rattle.changelog_table.specs.ToolNames.{old_name}
-use Rattle.chunk_copier.specs.declared.copier.Copier.{Copier}
-use Rattle.event_applier.specs.declared.applier.Applier.{Applier}
-use Rattle.cutover_core.specs.CutOvers as cutovers
-use Rattle.cutover_core.specs.declared.cutover.Clearing.TheVariants.{Drops, Looking}
-use Rattle.cutover_core.specs.declared.cutover.CutOver.{CutOver}
-use Rattle.cutover_core.specs.declared.cutover.Hold.{Hold}
-use Rattle.cutover_core.specs.declared.cutover.Hold.TheVariants.{Locks, Nothing, WaitsToGuard, WaitsToLock}
-use Rattle.cutover_core.specs.declared.cutover.Phase.{Phase}
-use Rattle.cutover_core.specs.declared.cutover.Phase.TheVariants.{Attempting, Ending, Finished, Finishing, Resting}
-use Rattle.cutover_core.specs.declared.cutover.Stage.TheVariants.{Drained, Draining, Dropping, Exchanging, Guarding, Hinting, Locking, Showing, Unlocking}
+use Rattle.migration_program.specs.declared.chunk_copier.copier.Copier.{Copier}
+use Rattle.migration_program.specs.declared.event_applier.applier.Applier.{Applier}
+use Rattle.migration_program.specs.CutoverCore.CutOvers as cutovers
+use Rattle.migration_program.specs.declared.cutover_core.cutover.Clearing.TheVariants.{Drops, Looking}
+use Rattle.migration_program.specs.declared.cutover_core.cutover.CutOver.{CutOver}
+use Rattle.migration_program.specs.declared.cutover_core.cutover.Hold.{Hold}
+use Rattle.migration_program.specs.declared.cutover_core.cutover.Hold.TheVariants.{Locks, Nothing, WaitsToGuard, WaitsToLock}
+use Rattle.migration_program.specs.declared.cutover_core.cutover.Phase.{Phase}
+use Rattle.migration_program.specs.declared.cutover_core.cutover.Phase.TheVariants.{Attempting, Ending, Finished, Finishing, Resting}
+use Rattle.migration_program.specs.declared.cutover_core.cutover.Stage.TheVariants.{Drained, Draining, Dropping, Exchanging, Guarding, Hinting, Locking, Showing, Unlocking}
 use Rattle.migration_program.specs.Programs.{given, tool_call}
 use Rattle.migration_program.specs.Tools.{Work, moment}
 use Rattle.history_laws.proofs.Actors.{same_actor_is}
-use Rattle.machine_laws.specs.Standings.{IsAbout, Standing, answered, free, is_called, is_polled, standing_of}
-use Rattle.machine_laws.proofs.Journals.{Asking, IsRun, IsTogether, asking, calls_so, has_now, never_commands, polls_so}
-use Rattle.machine_laws.proofs.Seated.{IsServed, others_stand, own_lost}
-use Rattle.machine_laws.proofs.Tabling.{Behind, behind, rests, waits_on}
-use Rattle.course_laws.proofs.CourseTurns.{gives_asked}
-use Rattle.sentry_laws.specs.Sentries.{BehindFailure, BehindUnlock, Fits, Guards, HasSentry, InspectorTurns, IsDrained, LockerServes, MayExchange, RenamerServes, WhereItWaits, scene}
-use Rattle.sentry_laws.specs.Turning.{AskedTurn, InspectorTurn, LockerTurn, RenamerTurn, WorkTurn, told}
+use Rattle.history_laws.specs.MachineLaws.Standings.{IsAbout, Standing, answered, free, is_called, is_polled, standing_of}
+use Rattle.history_laws.proofs.MachineLaws.Journals.{Asking, IsRun, IsTogether, asking, calls_so, has_now, never_commands, polls_so}
+use Rattle.history_laws.proofs.MachineLaws.Seated.{IsServed, others_stand, own_lost}
+use Rattle.history_laws.proofs.MachineLaws.Tabling.{Behind, behind, rests, waits_on}
+use Rattle.revert_laws.proofs.CourseLaws.CourseTurns.{gives_asked}
+use Rattle.history_laws.specs.SentryLaws.Sentries.{BehindFailure, BehindUnlock, Fits, Guards, HasSentry, InspectorTurns, IsDrained, LockerServes, MayExchange, RenamerServes, WhereItWaits, scene}
+use Rattle.history_laws.specs.SentryLaws.Turning.{AskedTurn, InspectorTurn, LockerTurn, RenamerTurn, WorkTurn, told}
 use Rattle.revert_laws.proofs.Stays.{IsUndrained}
 
 -- WHERE THE RELATION LEAVES THE RENAME

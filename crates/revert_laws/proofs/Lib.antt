@@ -7,3 +7,7 @@ pub mod GoingLaws
 pub mod OnceLaws
 pub mod RenameLaws
 pub mod UnfitLaws
+pub mod MigrationLaws
+pub mod CourseLaws
+pub mod AttemptLaws
+pub mod FollowLaws

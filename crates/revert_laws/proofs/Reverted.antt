@@ -12,53 +12,53 @@ use Rattle.plain_server.specs.declared.entry.Entry.{Entry}
 use Rattle.plain_server.specs.declared.request.Request.{Request}
 use Rattle.plain_server.specs.declared.request.Request.TheVariants as requests
 use Rattle.plan_words.specs.PlanData.{PlanData}
-use Rattle.cutover_core.specs.Attempts as attempts
-use Rattle.cutover_core.specs.Attempts.{renamer_call}
-use Rattle.cutover_core.specs.CutOvers as cutovers
-use Rattle.cutover_core.specs.declared.cutover.Clearing.TheVariants.{Looking}
-use Rattle.cutover_core.specs.declared.cutover.Phase.{Phase}
-use Rattle.cutover_core.specs.declared.cutover.Phase.TheVariants.{Attempting, Ending}
-use Rattle.cutover_core.specs.declared.cutover.Role.TheVariants.{Renamer}
-use Rattle.cutover_core.specs.declared.cutover.Stage.TheVariants.{Drained}
-use Rattle.event_applier.specs.declared.applier.ApplyStep.TheVariants.{Reading}
-use Rattle.event_applier.specs.Appliers.{events_of}
-use Rattle.journal_words.specs.Histories.{entry_adds, is_alter}
-use Rattle.journal_words.specs.Journals.{state_at}
-use Rattle.journal_words.specs.Sessions.{live_session, sessions_named}
+use Rattle.migration_program.specs.CutoverCore.Attempts as attempts
+use Rattle.migration_program.specs.CutoverCore.Attempts.{renamer_call}
+use Rattle.migration_program.specs.CutoverCore.CutOvers as cutovers
+use Rattle.migration_program.specs.declared.cutover_core.cutover.Clearing.TheVariants.{Looking}
+use Rattle.migration_program.specs.declared.cutover_core.cutover.Phase.{Phase}
+use Rattle.migration_program.specs.declared.cutover_core.cutover.Phase.TheVariants.{Attempting, Ending}
+use Rattle.migration_program.specs.declared.cutover_core.cutover.Role.TheVariants.{Renamer}
+use Rattle.migration_program.specs.declared.cutover_core.cutover.Stage.TheVariants.{Drained}
+use Rattle.migration_program.specs.declared.event_applier.applier.ApplyStep.TheVariants.{Reading}
+use Rattle.migration_program.specs.EventApplier.Appliers.{events_of}
+use Rattle.migration_program.specs.JournalWords.Histories.{entry_adds, is_alter}
+use Rattle.migration_program.specs.JournalWords.Journals.{state_at}
+use Rattle.migration_program.specs.JournalWords.Sessions.{live_session, sessions_named}
 use Rattle.migration_program.specs.Programs.{apply_call, copy_call, in_transaction, rolls_back, tool_call}
 use Rattle.migration_program.specs.Setups.{Setup}
 use Rattle.migration_program.specs.Tools.{Course, Migrating, SettingUp, Work, is_reverting, moment}
 use Rattle.history_laws.specs.Plans.{IsSerialPlan, limits_of, scene_of}
 use Rattle.history_laws.proofs.Actors.{named_keeps, placed}
 use Rattle.history_laws.specs.ServerLaws.Others.{DefinitionsAreDone, ExclusiveIsAlone}
-use Rattle.ghost_laws.specs.GhostRows.Moments.{Row}
-use Rattle.ghost_laws.specs.GhostRows.Timelines.{Migration}
-use Rattle.ghost_laws.specs.Copies.{IsAltered}
-use Rattle.ghost_laws.specs.Holding.{Clustered}
-use Rattle.ghost_laws.proofs.Keys.{clustered}
-use Rattle.migration_laws.specs.PlanningLaws.Laws.{migration_of}
-use Rattle.run_laws.specs.Kept.{IsKept}
-use Rattle.machine_laws.specs.Machines.{CourseStands, WorkStands, renaming}
-use Rattle.machine_laws.specs.Runnable.{IsRunnable}
-use Rattle.machine_laws.specs.Standings.{Standing, free, standing_of}
-use Rattle.machine_laws.proofs.Journals.{Asking, IsRun, IsTogether, calls_so, polls_so}
-use Rattle.migration_laws.proofs.Migrating.{ends}
-use Rattle.course_laws.specs.RunnableLaws.Laws.{AlterablePlansAreRunnable, IsAlterable, IsWorded}
-use Rattle.course_laws.specs.UnalteredLaws.Laws.{IsUnaltered}
-use Rattle.course_laws.proofs.UnalteredLaws.Away.{IsKnownAsked, all_asked, unaltered_front}
-use Rattle.course_laws.proofs.ReadyLaws.Going.{CourseGoes, all_going}
-use Rattle.sentry_laws.specs.Sentries.{Fits, HasSentry, scene}
-use Rattle.sentry_laws.specs.Turning.{AskedTurn, CourseHolds, CourseTurn, Holds, IsGuarded, IsTurned, last_session}
-use Rattle.sentry_laws.proofs.Inductions.{all_guarded}
-use Rattle.course_laws.specs.WaitsLaws.Laws.{WaitsAreTold}
-use Rattle.follow_laws.specs.FollowTurns.Goes.{Goes}
-use Rattle.follow_laws.specs.FollowTurns.Laws.{GoesSomehow, IsMark, IsMigrationOf}
-use Rattle.follow_laws.proofs.FollowTurns.Follows.{kept_front, kept_run, kept_scene}
-use Rattle.follow_laws.proofs.FollowTurns.Goes.{in_scene}
-use Rattle.follow_laws.specs.Laws.{FollowersAlter}
-use Rattle.follow_laws.proofs.Follows.{migration, own_table}
-use Rattle.follow_laws.proofs.Starts.{followers_go}
-use Rattle.course_laws.specs.MarkedLaws.Laws.{IsMarkedAt, MarkedJournalsAreSerial}
+use Rattle.history_laws.specs.GhostLaws.GhostRows.Moments.{Row}
+use Rattle.history_laws.specs.GhostLaws.GhostRows.Timelines.{Migration}
+use Rattle.history_laws.specs.GhostLaws.Copies.{IsAltered}
+use Rattle.history_laws.specs.GhostLaws.Holding.{Clustered}
+use Rattle.history_laws.proofs.GhostLaws.Keys.{clustered}
+use Rattle.revert_laws.specs.MigrationLaws.PlanningLaws.Laws.{migration_of}
+use Rattle.history_laws.specs.RunLaws.Kept.{IsKept}
+use Rattle.history_laws.specs.MachineLaws.Machines.{CourseStands, WorkStands, renaming}
+use Rattle.history_laws.specs.MachineLaws.Runnable.{IsRunnable}
+use Rattle.history_laws.specs.MachineLaws.Standings.{Standing, free, standing_of}
+use Rattle.history_laws.proofs.MachineLaws.Journals.{Asking, IsRun, IsTogether, calls_so, polls_so}
+use Rattle.revert_laws.proofs.MigrationLaws.Migrating.{ends}
+use Rattle.revert_laws.specs.CourseLaws.RunnableLaws.Laws.{AlterablePlansAreRunnable, IsAlterable, IsWorded}
+use Rattle.revert_laws.specs.CourseLaws.UnalteredLaws.Laws.{IsUnaltered}
+use Rattle.revert_laws.proofs.CourseLaws.UnalteredLaws.Away.{IsKnownAsked, all_asked, unaltered_front}
+use Rattle.revert_laws.proofs.CourseLaws.ReadyLaws.Going.{CourseGoes, all_going}
+use Rattle.history_laws.specs.SentryLaws.Sentries.{Fits, HasSentry, scene}
+use Rattle.history_laws.specs.SentryLaws.Turning.{AskedTurn, CourseHolds, CourseTurn, Holds, IsGuarded, IsTurned, last_session}
+use Rattle.history_laws.proofs.SentryLaws.Inductions.{all_guarded}
+use Rattle.revert_laws.specs.CourseLaws.WaitsLaws.Laws.{WaitsAreTold}
+use Rattle.revert_laws.specs.FollowLaws.FollowTurns.Goes.{Goes}
+use Rattle.revert_laws.specs.FollowLaws.FollowTurns.Laws.{GoesSomehow, IsMark, IsMigrationOf}
+use Rattle.revert_laws.proofs.FollowLaws.FollowTurns.Follows.{kept_front, kept_run, kept_scene}
+use Rattle.revert_laws.proofs.FollowLaws.FollowTurns.Goes.{in_scene}
+use Rattle.revert_laws.specs.FollowLaws.Laws.{FollowersAlter}
+use Rattle.revert_laws.proofs.FollowLaws.Follows.{migration, own_table}
+use Rattle.revert_laws.proofs.FollowLaws.Starts.{followers_go}
+use Rattle.revert_laws.specs.CourseLaws.MarkedLaws.Laws.{IsMarkedAt, MarkedJournalsAreSerial}
 use Rattle.revert_laws.specs.OnceLaws.Laws.{RenamesComeOnce}
 use Rattle.revert_laws.specs.RenameLaws.Laws.{IsRename, JournalsAreTurned}
 use Rattle.revert_laws.proofs.RenameLaws.Renames.{Found, reads, renames_found, renames_marked}

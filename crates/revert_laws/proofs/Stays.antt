@@ -15,21 +15,21 @@ use Rattle.plain_server.specs.declared.outcome.Progress.{Progress}
 use Rattle.plain_server.specs.declared.outcome.Progress.TheVariants.{Going, TaskDone, TaskFailed}
 use Rattle.plain_server.specs.States.{State, has_work}
 use Rattle.plan_words.specs.PlanData.{PlanData}
-use Rattle.chunk_copier.specs.Copiers as copiers
-use Rattle.cutover_core.specs.declared.cutover.Phase.{Phase}
-use Rattle.cutover_core.specs.declared.cutover.Phase.TheVariants.{Attempting, Ending, Finished, Finishing, Resting}
-use Rattle.cutover_core.specs.declared.cutover.Role.{Role}
-use Rattle.cutover_core.specs.declared.cutover.Role.TheVariants.{Inspector, Locker, Renamer}
-use Rattle.cutover_core.specs.declared.cutover.Stage.TheVariants.{Drained, Draining, Dropping, Exchanging, Guarding, Hinting, Locking, Showing, Unlocking}
-use Rattle.cutover_core.specs.CutOvers as cutovers
-use Rattle.event_applier.specs.declared.applier.Applier.{Applier}
-use Rattle.event_applier.specs.declared.applier.ApplyStep.{ApplyStep}
-use Rattle.event_applier.specs.declared.applier.ApplyStep.TheVariants.{Reading}
-use Rattle.event_applier.specs.Appliers as appliers
+use Rattle.migration_program.specs.ChunkCopier.Copiers as copiers
+use Rattle.migration_program.specs.declared.cutover_core.cutover.Phase.{Phase}
+use Rattle.migration_program.specs.declared.cutover_core.cutover.Phase.TheVariants.{Attempting, Ending, Finished, Finishing, Resting}
+use Rattle.migration_program.specs.declared.cutover_core.cutover.Role.{Role}
+use Rattle.migration_program.specs.declared.cutover_core.cutover.Role.TheVariants.{Inspector, Locker, Renamer}
+use Rattle.migration_program.specs.declared.cutover_core.cutover.Stage.TheVariants.{Drained, Draining, Dropping, Exchanging, Guarding, Hinting, Locking, Showing, Unlocking}
+use Rattle.migration_program.specs.CutoverCore.CutOvers as cutovers
+use Rattle.migration_program.specs.declared.event_applier.applier.Applier.{Applier}
+use Rattle.migration_program.specs.declared.event_applier.applier.ApplyStep.{ApplyStep}
+use Rattle.migration_program.specs.declared.event_applier.applier.ApplyStep.TheVariants.{Reading}
+use Rattle.migration_program.specs.EventApplier.Appliers as appliers
 use Rattle.migration_program.specs.Operators.{commanded}
 use Rattle.migration_program.specs.Tools.{Course, Migrating, Moment, Panicked, SettingUp, Tool, Work, actor_took, apply_after, apply_took, asked_took, attempt_after, command_took, copy_took, cutover_took, drains, is_failure, is_reverting, moment, resizes, stopped, took, turn_counts}
-use Rattle.sentry_laws.proofs.Inductions.{moment_more}
-use Rattle.machine_laws.proofs.Lifting.{apply_keeps, attempt_keeps, copy_keeps, drains_keeps, reverts_keeps}
+use Rattle.history_laws.proofs.SentryLaws.Inductions.{moment_more}
+use Rattle.history_laws.proofs.MachineLaws.Lifting.{apply_keeps, attempt_keeps, copy_keeps, drains_keeps, reverts_keeps}
 
 -- the applier is at this position
 abbrev pub StandsAt : ℕ → Course → Type 0

@@ -2,13 +2,13 @@
 use Rattle.std.specs.Prelude.{List}
 use Rattle.plain_server.specs.declared.entry.Entry.{Entry}
 use Rattle.plan_words.specs.PlanData.{PlanData}
-use Rattle.journal_words.specs.Journals.{state_at}
-use Rattle.journal_words.specs.Serials.{IsSerial}
+use Rattle.migration_program.specs.JournalWords.Journals.{state_at}
+use Rattle.migration_program.specs.JournalWords.Serials.{IsSerial}
 use Rattle.history_laws.specs.Plans.{IsSerialPlan}
-use Rattle.ghost_laws.specs.Copies.{IsAltered}
-use Rattle.migration_laws.specs.PlanningLaws.Laws.{migration_of}
-use Rattle.run_laws.specs.Kept.{IsKept}
-use Rattle.course_laws.specs.RunnableLaws.Laws.{IsAlterable, IsWorded}
+use Rattle.history_laws.specs.GhostLaws.Copies.{IsAltered}
+use Rattle.revert_laws.specs.MigrationLaws.PlanningLaws.Laws.{migration_of}
+use Rattle.history_laws.specs.RunLaws.Kept.{IsKept}
+use Rattle.revert_laws.specs.CourseLaws.RunnableLaws.Laws.{IsAlterable, IsWorded}
 use Rattle.revert_laws.specs.RenameLaws.Laws.{IsRename}
 
 -- *Renames find the altered table*: where the RENAME is done, the new table is the altered one, whether or not all is reverted.

@@ -2,12 +2,12 @@
 
 ghost use Rattle.revert_laws.specs.Laws.{KeptJournalsAreSerial, RenamesFindTheAltered};
 
+use crate::course_laws::marked_laws::marked_journals_are_serial;
+use crate::course_laws::runnable_laws::alterable_plans_are_runnable;
+use crate::course_laws::waits_laws::waits_are_told;
+use crate::follow_laws::laws::followers_alter;
 use crate::once_laws::renames_come_once;
 use crate::rename_laws::journals_are_turned;
-use course_laws::marked_laws::marked_journals_are_serial;
-use course_laws::runnable_laws::alterable_plans_are_runnable;
-use course_laws::waits_laws::waits_are_told;
-use follow_laws::laws::followers_alter;
 use gho_values::laws::stored_values_store_again;
 use history_laws::server_laws::{definitions_are_done, exclusive_is_alone};
 

@@ -2,10 +2,10 @@
 
 ghost use Rattle.revert_laws.specs.RenameLaws.Laws.{ClientsAreTurned, JournalsAreTurned, OperatorsAreTurned, RenamesComeAtTheMark};
 
-use course_laws::waits_laws::waits_are_told;
-use follow_laws::batch_turns::{appliers_are_turned, copiers_are_turned};
-use follow_laws::inspector_turns::inspectors_are_turned;
-use follow_laws::locker_turns::{lockers_are_turned, renamers_are_turned};
+use crate::course_laws::waits_laws::waits_are_told;
+use crate::follow_laws::batch_turns::{appliers_are_turned, copiers_are_turned};
+use crate::follow_laws::inspector_turns::inspectors_are_turned;
+use crate::follow_laws::locker_turns::{lockers_are_turned, renamers_are_turned};
 use history_laws::server_laws::{definitions_are_done, entries_are_turns, exclusive_is_alone};
 
 /// A client's turn is such a turn as the sentry relation asks.

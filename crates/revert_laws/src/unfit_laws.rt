@@ -2,7 +2,7 @@
 
 ghost use Rattle.revert_laws.specs.UnfitLaws.Laws.{UnfitRowsStand};
 
-use course_laws::runnable_laws::alterable_plans_are_runnable;
+use crate::course_laws::runnable_laws::alterable_plans_are_runnable;
 use gho_values::laws::stored_values_store_again;
 
 /// Where a verdict names a row without an image, the copier read this row in that turn, or the applier wrote it for an event

@@ -1,13 +1,13 @@
 -- What a copy comes to, says and needs, of a session's tables: that of its two tables, as they are seen.
 use Rattle.std.proofs.Common.{◌≡◌, ℕ, List, [], Option, Some, None, sym, ap, ◌∙◌, subst}
 use Rattle.std.specs.Option.{option_map}
-use Rattle.alter_image.specs.declared.map.MapColumn.{MapColumn}
+use Rattle.gho_values.specs.declared.alter_image.map.MapColumn.{MapColumn}
 use Rattle.event_codec.specs.declared.event.Change.{Change}
 use Rattle.event_codec.specs.declared.event.RowEvent.{RowEvent}
 use Rattle.gho_values.specs.declared.value.Value.{Value}
-use Rattle.gho_schema.specs.declared.schema.Schema.{Schema}
-use Rattle.gho_schema.specs.Rows.{key_places}
-use Rattle.gho_schema.specs.Tables.{Ascends}
+use Rattle.gho_values.specs.declared.gho_schema.schema.Schema.{Schema}
+use Rattle.gho_values.specs.GhoSchema.Rows.{key_places}
+use Rattle.gho_values.specs.GhoSchema.Tables.{Ascends}
 use Rattle.row_store.specs.Databases.{TableRows, Database, find_table}
 use Rattle.plain_server.specs.declared.work.StatementResult.{StatementResult}
 use Rattle.plain_server.specs.declared.work.Work.{Work}
@@ -16,8 +16,8 @@ use Rattle.plain_server.specs.Answers.{refuses}
 use Rattle.plain_server.specs.Needing.{needs}
 use Rattle.plain_server.specs.Saying.{tells}
 use Rattle.plain_server.specs.Jobs.{after_events, copy_from, copy_job, job_needs, job_says, needs_in, result_in, result_of}
-use Rattle.statement_laws.specs.Covering.{IsOrderlyTable, IsSound}
-use Rattle.statement_laws.specs.Databases.{WhereFound}
+use Rattle.plain_server.specs.StatementLaws.Covering.{IsOrderlyTable, IsSound}
+use Rattle.plain_server.specs.StatementLaws.Databases.{WhereFound}
 use Rattle.history_laws.proofs.Tooling.{copies_sound}
 use Rattle.written_rows.specs.Written.{Written, nothing}
 use Rattle.written_rows.specs.Stored.{StoredWrites}

@@ -9,12 +9,12 @@ use Rattle.gho_values.specs.declared.value.Value.{Value}
 use Rattle.gho_values.specs.Comparing.{compare_keys}
 use Rattle.gho_values.specs.Spans.{has, point}
 use Rattle.gho_values.proofs.Orders.{keys_total}
-use Rattle.gho_schema.specs.Clustering.{clustered_place}
-use Rattle.gho_schema.specs.Rows.{key_of, key_places}
+use Rattle.gho_values.specs.GhoSchema.Clustering.{clustered_place}
+use Rattle.gho_values.specs.GhoSchema.Rows.{key_of, key_places}
 use Rattle.row_store.specs.Databases.{TableRows, row_at_key}
 use Rattle.row_store.specs.RowLists.{is_at}
 use Rattle.plain_server.specs.Rows.{rows_met}
-use Rattle.statement_laws.specs.Covering.{IsOrderlyTable}
+use Rattle.plain_server.specs.StatementLaws.Covering.{IsOrderlyTable}
 use Rattle.history_laws.proofs.ServerLaws.Spans.{rows_of_span}
 
 has_point : (key other : List Value) → has (point key) other ≡ is_eq (compare_keys key other)

@@ -1,24 +1,24 @@
 //! What is said, written and needed where a session copies the image of a row.
 
 ghost use Rattle.std.specs.Prelude.{◌≡◌, IfOk, IfSome};
-ghost use Rattle.gho_schema.specs.Rows.{key_places};
+ghost use Rattle.gho_values.specs.GhoSchema.Rows.{key_places};
 ghost use Rattle.row_store.specs.Databases.{database};
 ghost use Rattle.plain_server.specs.Jobs.{after_events, copy_job, job_needs, job_says, result_of};
 ghost use Rattle.plain_server.specs.Needing.{needs};
 ghost use Rattle.plain_server.specs.Saying.{tells};
-ghost use Rattle.statement_laws.specs.Covering.{IsOrderlyTable, IsSound};
+ghost use Rattle.plain_server.specs.StatementLaws.Covering.{IsOrderlyTable, IsSound};
 ghost use Rattle.txn_session.specs.Premises.{HasSchema, IsOf, events_ready};
 ghost use Rattle.written_rows.specs.Written.{seen};
 
 use crate::working::work_of_copy;
-use alter_image::ColumnMap;
+use gho_values::alter_image::ColumnMap;
 use gho_values::{Key, Name, Sequence};
 use paged_tables::Tables;
+use paged_tables::row_pages::Table;
 use plain_server::Work;
 use row_locks::LockSet;
-use row_pages::Table;
 use server_data::Told;
-use statement_work::needs;
+use statement_replies::statement_work::needs;
 use std::alloc::{AllocError, Global};
 use txn_session::{Txn, Writes, missing, tell};
 use written_rows::{SeenTable, WrittenRows};

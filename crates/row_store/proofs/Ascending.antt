@@ -4,9 +4,9 @@ use Rattle.std.specs.Ordering.{is_eq, match_ordering, ordering_reverse}
 use Rattle.std.specs.List.{AllByRecursion}
 use Rattle.gho_values.specs.Comparing.{compare_keys}
 use Rattle.gho_values.proofs.Orders.{keys_total}
-use Rattle.gho_schema.specs.Rows.{key_of, with_row}
-use Rattle.gho_schema.specs.Tables.{Ascends}
-use Rattle.gho_schema.proofs.Orders.{all-with_row}
+use Rattle.gho_values.specs.GhoSchema.Rows.{key_of, with_row}
+use Rattle.gho_values.specs.GhoSchema.Tables.{Ascends}
+use Rattle.gho_values.proofs.GhoSchema.Orders.{all-with_row}
 use Rattle.row_store.specs.RowLists.{is_at}
 use Rattle.row_store.proofs.Orders.{Row}
 

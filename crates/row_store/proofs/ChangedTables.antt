@@ -3,8 +3,8 @@ use Rattle.std.proofs.Common.{◌≡◌, ℕ, Bool, true, false, ◌||◌, List,
 use Rattle.std.specs.List.{AllByRecursion}
 use Rattle.std.specs.Str.{bytes_eq}
 use Rattle.std.specs.Cmp.Lexicographic.{bytes_decides}
-use Rattle.gho_schema.specs.Rows.{key_places, with_row}
-use Rattle.gho_schema.specs.Tables.{IsTable}
+use Rattle.gho_values.specs.GhoSchema.Rows.{key_places, with_row}
+use Rattle.gho_values.specs.GhoSchema.Tables.{IsTable}
 use Rattle.row_store.specs.Databases.{TableRows, Database, is_named, find_table, has_table, with_change, NamesDiffer, IsDatabase, IsNewIn, put_in_table}
 use Rattle.row_store.proofs.Orders.{Row}
 use Rattle.row_store.proofs.FoundRows.{put_new}

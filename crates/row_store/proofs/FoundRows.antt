@@ -5,8 +5,8 @@ use Rattle.std.specs.Option.{option_and_then}
 use Rattle.std.specs.Ordering.{is_eq, is_gt, match_ordering}
 use Rattle.std.specs.List.{list_any, AllByRecursion, prefix_len, slice_get}
 use Rattle.gho_values.specs.Comparing.{compare_keys}
-use Rattle.gho_schema.specs.Rows.{key_of, has_key, put, with_row}
-use Rattle.gho_schema.specs.Tables.{Ascends}
+use Rattle.gho_values.specs.GhoSchema.Rows.{key_of, has_key, put, with_row}
+use Rattle.gho_values.specs.GhoSchema.Tables.{Ascends}
 use Rattle.row_store.specs.RowLists.{is_at, comes_before, without_key, StandsAt}
 use Rattle.row_store.proofs.Orders.{Row, not_greater}
 use Rattle.row_store.proofs.RowsBetween.{one_more}

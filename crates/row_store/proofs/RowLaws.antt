@@ -5,8 +5,8 @@ use Rattle.std.specs.List.{AllByRecursion}
 use Rattle.std.proofs.lemmas.Cmp.{tied_itself}
 use Rattle.gho_values.specs.Comparing.{compare_keys}
 use Rattle.gho_values.proofs.Orders.{keys_total, tied_keys}
-use Rattle.gho_schema.specs.Rows.{key_of, with_row}
-use Rattle.gho_schema.specs.Tables.{Ascends}
+use Rattle.gho_values.specs.GhoSchema.Rows.{key_of, with_row}
+use Rattle.gho_values.specs.GhoSchema.Tables.{Ascends}
 use Rattle.row_store.specs.RowLists.{is_at, without_key}
 use Rattle.row_store.proofs.Orders.{Row, not_greater, is_Equal}
 use Rattle.row_store.proofs.Ascending.{all-filter}

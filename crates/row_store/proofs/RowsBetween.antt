@@ -1,7 +1,7 @@
 -- The rows in a span stand together.
 use Rattle.std.proofs.Common.{◌≡◌, ℕ, zero, suc, ◌+◌, Bool, true, false, not, ◌&&◌, List, [], ◌∷◌, take, drop, filter, cond, refl, sym, ap, ◌∙◌, arith}
 use Rattle.std.specs.List.{AllByRecursion, prefix_len}
-use Rattle.gho_schema.specs.Tables.{Ascends}
+use Rattle.gho_values.specs.GhoSchema.Tables.{Ascends}
 use Rattle.row_store.proofs.Orders.{Row, FailsOn}
 
 pub ascends-drop : (places : List ℕ) (n : ℕ) (rows : List Row) → Ascends places rows → Ascends places (drop n rows)

@@ -9,13 +9,13 @@ use Rattle.gho_values.specs.Comparing.{compare_keys}
 use Rattle.gho_values.specs.Laws.{StoresNullWhereNullable}
 use Rattle.gho_values.specs.Storing.{stores}
 use Rattle.gho_values.proofs.Orders.{keys_total, tied_keys}
-use Rattle.gho_schema.specs.declared.schema.Schema.{Schema}
-use Rattle.gho_schema.specs.declared.schema.Column.{Column}
-use Rattle.gho_schema.specs.declared.schema.Index.{Index}
-use Rattle.gho_schema.specs.Clustering.{is_not_null, clustered_place, unique_at}
-use Rattle.gho_schema.specs.Rows.{key_of, key_places, places_of, with_row}
-use Rattle.gho_schema.specs.Tables.{IsRow, no_null, clash, Apart, IsTable}
-use Rattle.gho_schema.proofs.Orders.{all-with_row}
+use Rattle.gho_values.specs.declared.gho_schema.schema.Schema.{Schema}
+use Rattle.gho_values.specs.declared.gho_schema.schema.Column.{Column}
+use Rattle.gho_values.specs.declared.gho_schema.schema.Index.{Index}
+use Rattle.gho_values.specs.GhoSchema.Clustering.{is_not_null, clustered_place, unique_at}
+use Rattle.gho_values.specs.GhoSchema.Rows.{key_of, key_places, places_of, with_row}
+use Rattle.gho_values.specs.GhoSchema.Tables.{IsRow, no_null, clash, Apart, IsTable}
+use Rattle.gho_values.proofs.GhoSchema.Orders.{all-with_row}
 use Rattle.row_store.specs.RowLists.{is_at, without_key}
 use Rattle.row_store.specs.ClusteredKeys.{HasClusteredKey}
 use Rattle.row_store.specs.Databases.{TableRows, clashing, IsNewIn}

@@ -1,10 +1,10 @@
 -- Tables that have a clustered key.
 use Rattle.std.specs.Prelude.{◌≡◌, ◌<◌, true, [], ◌∷◌, length}
 use Rattle.std.specs.List.{AllByRecursion, slice_get}
-use Rattle.gho_schema.specs.declared.schema.Schema.{Schema}
-use Rattle.gho_schema.specs.declared.schema.Index.{Index}
-use Rattle.gho_schema.specs.Clustering.{is_not_null}
-use Rattle.gho_schema.specs.Rows.{key_places}
+use Rattle.gho_values.specs.declared.gho_schema.schema.Schema.{Schema}
+use Rattle.gho_values.specs.declared.gho_schema.schema.Index.{Index}
+use Rattle.gho_values.specs.GhoSchema.Clustering.{is_not_null}
+use Rattle.gho_values.specs.GhoSchema.Rows.{key_places}
 
 -- The schema has a clustered key: the key has columns, and none of them may be null (MySQL's manual, "Clustered and
 -- Secondary Indexes"; that each table has one is this project's rule).

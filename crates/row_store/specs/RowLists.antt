@@ -5,8 +5,8 @@ use Rattle.std.specs.List.{slice_get}
 use Rattle.std.specs.Ordering.{is_eq, is_gt}
 use Rattle.gho_values.specs.declared.value.Value.{Value}
 use Rattle.gho_values.specs.Comparing.{compare_keys}
-use Rattle.gho_schema.specs.Rows.{key_of}
-use Rattle.gho_schema.specs.Tables.{no_null}
+use Rattle.gho_values.specs.GhoSchema.Rows.{key_of}
+use Rattle.gho_values.specs.GhoSchema.Tables.{no_null}
 
 -- the row has this key
 abbrev pub is_at : List ℕ → List Value → List Value → Bool

@@ -2,13 +2,13 @@
 
 ghost use Rattle.std.specs.Prelude.{◌≡◌};
 ghost use Rattle.gho_values.specs.Comparing.{compare_keys};
-ghost use Rattle.gho_schema.specs.Rows.{key_of};
-ghost use Rattle.gho_schema.specs.Tables.{no_null, clash};
+ghost use Rattle.gho_values.specs.GhoSchema.Rows.{key_of};
+ghost use Rattle.gho_values.specs.GhoSchema.Tables.{no_null, clash};
 ghost use Rattle.row_store.specs.RowLists.{is_at};
 
 use crate::key_values::KeyValues;
-use gho_schema::Index;
 use gho_values::Value;
+use gho_values::gho_schema::Index;
 use std::cmp::Ordering;
 
 /// Which comes first: this key, or the key of a row.

@@ -1,13 +1,13 @@
 //! Rows found among rows in order of their keys.
 
 ghost use Rattle.std.specs.Prelude.{◌≡◌, ◌&&◌, not, find, slice_get, None, MatchOption, option_copied};
-ghost use Rattle.gho_schema.specs.Rows.{key_of};
-ghost use Rattle.gho_schema.specs.Tables.{Ascends, clash};
+ghost use Rattle.gho_values.specs.GhoSchema.Rows.{key_of};
+ghost use Rattle.gho_values.specs.GhoSchema.Tables.{Ascends, clash};
 ghost use Rattle.row_store.specs.RowLists.{is_at, is_besides, clashes_by_key, StandsAt};
 
 use crate::comparing::{clash, compare_rows, has_no_null, is_at};
 use crate::places::{place_of_key, place_of_row};
-use gho_schema::Index;
+use gho_values::gho_schema::Index;
 use gho_values::{Key, Row, Value};
 
 fn row_at(rows: &[Row], place: usize) -> Option<&Row>

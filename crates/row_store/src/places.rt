@@ -4,8 +4,8 @@ ghost use Rattle.std.specs.Prelude.{◌≡◌, ◌≤◌, length, not, filter};
 ghost use Rattle.std.specs.List.{prefix_len};
 ghost use Rattle.gho_values.specs.Comparing.{compare_keys};
 ghost use Rattle.gho_values.specs.Spans.{above, below, has};
-ghost use Rattle.gho_schema.specs.Rows.{key_of};
-ghost use Rattle.gho_schema.specs.Tables.{Ascends};
+ghost use Rattle.gho_values.specs.GhoSchema.Rows.{key_of};
+ghost use Rattle.gho_values.specs.GhoSchema.Tables.{Ascends};
 ghost use Rattle.row_store.specs.RowLists.{comes_before};
 
 use crate::comparing::{compare_key, compare_rows};

@@ -1,8 +1,8 @@
 //! A table: a schema, and rows in order of the clustered key.
 
 ghost use Rattle.std.specs.Prelude.{◌≡◌, ◌≤◌, ◌<◌, ◌+◌, ◌==◌, true, [], None, length, option_copied, IfOk, OnOk};
-ghost use Rattle.gho_schema.specs.Rows.{key_of, key_places, with_row};
-ghost use Rattle.gho_schema.specs.Tables.{Ascends};
+ghost use Rattle.gho_values.specs.GhoSchema.Rows.{key_of, key_places, with_row};
+ghost use Rattle.gho_values.specs.GhoSchema.Tables.{Ascends};
 ghost use Rattle.row_store.specs.RowLists.{without_key};
 ghost use Rattle.row_store.specs.ClusteredKeys.{IsOnlyKey};
 ghost use Rattle.row_store.specs.Databases.{row_at_key, clashing, rows_in, name_table};
@@ -10,7 +10,7 @@ ghost use Rattle.row_store.specs.Databases.{row_at_key, clashing, rows_in, name_
 use crate::finding::{clash_by_key, first_clash, key_place, row_of_key};
 use crate::places::{place_of_row, rows_between};
 use crate::span_rows::SpanRows;
-use gho_schema::{Schema, may_cluster};
+use gho_values::gho_schema::{Schema, may_cluster};
 use gho_values::{Duplicate, Key, Name, Row, Rows, Span};
 use std::alloc::{AllocError, Global};
 use std::marker::Model;
@@ -25,8 +25,8 @@ pub struct Table {
 
 impl Model for Table {
     ghost use Rattle.std.specs.Prelude.{◌-◌, vec_len, vec_capacity};
-    ghost use Rattle.gho_schema.specs.Rows.{key_places};
-    ghost use Rattle.gho_schema.specs.Tables.{Ascends};
+    ghost use Rattle.gho_values.specs.GhoSchema.Rows.{key_places};
+    ghost use Rattle.gho_values.specs.GhoSchema.Tables.{Ascends};
     ghost use Rattle.row_store.specs.Databases.{StoredTable};
 
     ghost Value = { StoredTable };
@@ -47,7 +47,7 @@ fn copy_of(alloc: Global, rows: &[Row]) -> Result<Vec<Row>, AllocError>
 }
 
 /// Whether the clustered key is the only unique key.
-#[tactic(auto, unfolding(gho_schema::specs::Clustering::clustered_among))]
+#[tactic(auto, unfolding(gho_values::specs::GhoSchema::Clustering::clustered_among))]
 fn is_only_key(schema: &Schema) -> bool
     ensures { result ≡ true → IsOnlyKey schema.now }
 {

@@ -7,15 +7,15 @@ use Rattle.gho_values.specs.declared.value.Value.{Value}
 use Rattle.gho_values.specs.declared.value.Value.TheVariants.{Null}
 use Rattle.gho_values.specs.Laws.{StoresAgain}
 use Rattle.gho_values.specs.Storing.{stores}
-use Rattle.gho_schema.specs.declared.schema.Column.{Column}
+use Rattle.gho_values.specs.declared.gho_schema.schema.Column.{Column}
 use Rattle.table_words.specs.declared.code.SchemaCode.{SchemaCode}
-use Rattle.schema_rules.specs.Results.{◌>>=◌}
+use Rattle.gho_values.specs.SchemaRules.Results.{◌>>=◌}
 use Rattle.schema_text.specs.declared.written.WrittenColumn.{WrittenColumn}
 use Rattle.schema_text.specs.Declaring.{nullable_of, declared_column, declared_columns}
-use Rattle.schema_rules.specs.Defaults.{stored, stored_default, default_or}
-use Rattle.schema_rules.specs.Lawful.{StoresDefault, IsColumn}
+use Rattle.gho_values.specs.SchemaRules.Defaults.{stored, stored_default, default_or}
+use Rattle.gho_values.specs.SchemaRules.Lawful.{StoresDefault, IsColumn}
 use Rattle.schema_laws.proofs.Parts.{IsWritten}
-use Rattle.schema_rules.proofs.Steps.{bind_ok, done, ok_is, default_is}
+use Rattle.gho_values.proofs.SchemaRules.Steps.{bind_ok, done, ok_is, default_is}
 use Rattle.table_words.specs.declared.code.SchemaCode.TheVariants.{BadDefault}
 
 -- a column as it is declared

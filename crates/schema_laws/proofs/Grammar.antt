@@ -15,7 +15,7 @@ use Rattle.table_words.specs.Keys.{closed, names_at, key_columns_at, key_name_at
 use Rattle.table_words.specs.Kinds.{kind_word, width_at, signed_kind, length_of, length_within, length_at, kind_behind, kind_of, kind_at}
 use Rattle.table_words.specs.Listed.{with_others, listed}
 use Rattle.table_words.specs.Pieces.{behind_keyword, behind_sign, keyword_at, sign_at, number_at, name_at}
-use Rattle.schema_rules.specs.Results.{◌>>=◌}
+use Rattle.gho_values.specs.SchemaRules.Results.{◌>>=◌}
 use Rattle.table_words.specs.Reads.{Read}
 use Rattle.table_words.specs.Scope.{is_no_item}
 use Rattle.table_words.specs.Tokens.{is_keyword}
@@ -24,10 +24,10 @@ use Rattle.schema_text.specs.declared.written.Item.TheVariants as items
 use Rattle.schema_text.specs.declared.written.WrittenColumn.{WrittenColumn}
 use Rattle.schema_text.specs.declared.written.WrittenTable.{WrittenTable}
 use Rattle.schema_text.specs.Columns.{column_attributes_at, column_at}
-use Rattle.schema_rules.specs.Lawful.{is_kind}
+use Rattle.gho_values.specs.SchemaRules.Lawful.{is_kind}
 use Rattle.schema_text.specs.Options.{options_at}
 use Rattle.schema_text.specs.Written.{primary_item_at, key_item_at, behind_key_word, column_item_at, item_at, items_at, last_words, alone, table_at, unless_faulty, written}
-use Rattle.schema_rules.proofs.Steps.{bind_ok, done, ok_is, there, some_is, some_if}
+use Rattle.gho_values.proofs.SchemaRules.Steps.{bind_ok, done, ok_is, there, some_is, some_if}
 
 -- ---- lists
 

@@ -5,19 +5,19 @@ use Rattle.std.specs.List.{cons_option, filter_map, list_all, list_any, slice_ge
 use Rattle.std.specs.Char.{to_ascii_lowercase}
 use Rattle.std.proofs.lemmas.List.{length-map}
 use Rattle.std.proofs.lemmas.Slice.Eq.{bytes_eq-Decides}
-use Rattle.gho_schema.specs.declared.schema.Column.{Column}
-use Rattle.gho_schema.specs.declared.schema.Index.{Index}
-use Rattle.gho_schema.specs.Names.{same_name}
+use Rattle.gho_values.specs.declared.gho_schema.schema.Column.{Column}
+use Rattle.gho_values.specs.declared.gho_schema.schema.Index.{Index}
+use Rattle.gho_values.specs.GhoSchema.Names.{same_name}
 use Rattle.schema_text.specs.declared.written.WrittenColumn.{WrittenColumn}
-use Rattle.gho_schema.specs.Clustering.{is_not_null}
+use Rattle.gho_values.specs.GhoSchema.Clustering.{is_not_null}
 use Rattle.schema_text.specs.Declaring.{are_known, nullable_of}
-use Rattle.schema_rules.specs.Names.{is_among, place_of, places_of}
-use Rattle.schema_rules.specs.Lawful.{IsKey}
+use Rattle.gho_values.specs.SchemaRules.Names.{is_among, place_of, places_of}
+use Rattle.gho_values.specs.SchemaRules.Lawful.{IsKey}
 use Rattle.schema_laws.proofs.Columns.{Becomes, AllBecome, column-at}
 use Rattle.schema_laws.proofs.Grammar.{HasColumns}
-use Rattle.schema_rules.proofs.Lists.{All-filter_map, All-weaker, All-list_all, list_all-All, each-any, Found, position-some, position-found, slice_get-map-some, slice_get-within-some}
-use Rattle.schema_rules.proofs.Steps.{some_is, first_or}
-use Rattle.schema_rules.proofs.SameNames.{same_name-turned}
+use Rattle.gho_values.proofs.SchemaRules.Lists.{All-filter_map, All-weaker, All-list_all, list_all-All, each-any, Found, position-some, position-found, slice_get-map-some, slice_get-within-some}
+use Rattle.gho_values.proofs.SchemaRules.Steps.{some_is, first_or}
+use Rattle.gho_values.proofs.SchemaRules.SameNames.{same_name-turned}
 
 -- ---- places
 

@@ -4,25 +4,25 @@ use Rattle.std.specs.Prelude.{is_none, filter, position}
 use Rattle.std.specs.List.{list_all, list_any, slice_get, AllByRecursion}
 use Rattle.std.proofs.lemmas.List.{length-map}
 use Rattle.gho_values.specs.Laws.{StoresAgain}
-use Rattle.gho_schema.specs.declared.schema.Column.{Column}
-use Rattle.gho_schema.specs.declared.schema.Index.{Index}
-use Rattle.gho_schema.specs.declared.schema.Schema.{Schema}
+use Rattle.gho_values.specs.declared.gho_schema.schema.Column.{Column}
+use Rattle.gho_values.specs.declared.gho_schema.schema.Index.{Index}
+use Rattle.gho_values.specs.declared.gho_schema.schema.Schema.{Schema}
 use Rattle.table_words.specs.declared.code.SchemaCode.{SchemaCode}
 use Rattle.table_words.specs.declared.code.SchemaCode.TheVariants.{RepeatedName, UnknownKeyColumn, NoClusteredKey, BadDefault}
-use Rattle.schema_rules.specs.Results.{◌>>=◌}
+use Rattle.gho_values.specs.SchemaRules.Results.{◌>>=◌}
 use Rattle.table_words.specs.Tokens.{text_words}
 use Rattle.schema_text.specs.declared.keys.NamedKeys.{NamedKeys}
 use Rattle.schema_text.specs.declared.parts.Parts.{Parts}
 use Rattle.schema_text.specs.declared.written.WrittenColumn.{WrittenColumn}
 use Rattle.schema_text.specs.declared.written.WrittenKey.{WrittenKey}
 use Rattle.schema_text.specs.declared.written.WrittenTable.{WrittenTable}
-use Rattle.gho_schema.specs.Clustering.{is_not_null, may_cluster, clustered_among, clustered_place, unique_at, clustered_key}
-use Rattle.schema_rules.specs.Reasons.{Reasons, first_reason}
+use Rattle.gho_values.specs.GhoSchema.Clustering.{is_not_null, may_cluster, clustered_among, clustered_place, unique_at, clustered_key}
+use Rattle.gho_values.specs.SchemaRules.Reasons.{Reasons, first_reason}
 use Rattle.schema_text.specs.Declaring.{column_names, size_reasons, are_known, name_reasons, declared_columns, primary_index, key_index, schema_of, clustered, built, declared_parts, declared}
-use Rattle.schema_rules.specs.Defaults.{defaults_fit}
-use Rattle.schema_rules.specs.Names.{is_among, names_differ}
+use Rattle.gho_values.specs.SchemaRules.Defaults.{defaults_fit}
+use Rattle.gho_values.specs.SchemaRules.Names.{is_among, names_differ}
 use Rattle.schema_text.specs.Keys.{named_keys}
-use Rattle.schema_rules.specs.Lawful.{IsKey, IsNotNull, IsColumn, IsLawful}
+use Rattle.gho_values.specs.SchemaRules.Lawful.{IsKey, IsNotNull, IsColumn, IsLawful}
 use Rattle.schema_text.specs.Parts.{parts_of}
 use Rattle.schema_text.specs.Reading.{schema_at}
 use Rattle.schema_text.specs.Written.{written}
@@ -30,9 +30,9 @@ use Rattle.schema_text.proofs.Reasons.{few_columns}
 use Rattle.schema_laws.proofs.Columns.{AllBecome, declared_columns-become, names-become, columns-are}
 use Rattle.schema_laws.proofs.Grammar.{HasColumns, written-are}
 use Rattle.schema_laws.proofs.Keys.{places-are, names_of-known, primary-not_null}
-use Rattle.schema_rules.proofs.Lists.{All-map, All-filter, All-append, All-at, All-both, All-weaker, list_all-All, Found, position-found}
+use Rattle.gho_values.proofs.SchemaRules.Lists.{All-map, All-filter, All-append, All-at, All-both, All-weaker, list_all-All, Found, position-found}
 use Rattle.schema_laws.proofs.Parts.{IsWritten, AreParts, parts_of-are, KeyHas, IsNamed, named_keys-are}
-use Rattle.schema_rules.proofs.Steps.{bind_ok, unless_ok, none_first, done, ok_is}
+use Rattle.gho_values.proofs.SchemaRules.Steps.{bind_ok, unless_ok, none_first, done, ok_is}
 use Rattle.std.proofs.lemmas.Bool.{not-false, and_parts, or_parts}
 
 -- ---- the clustered key

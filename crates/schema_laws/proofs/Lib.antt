@@ -5,3 +5,4 @@ pub mod Lawful
 pub mod Parts
 pub mod PrintLaws
 pub mod RereadLaws
+pub mod AlterLaws

@@ -9,10 +9,10 @@ use Rattle.schema_text.specs.declared.written.Item.TheVariants.{Column, Primary,
 use Rattle.schema_text.specs.declared.written.WrittenColumn.{WrittenColumn}
 use Rattle.schema_text.specs.declared.written.WrittenKey.{WrittenKey}
 use Rattle.schema_text.specs.Keys.{no_keys, with_key, named_keys}
-use Rattle.schema_rules.specs.Lawful.{is_kind}
+use Rattle.gho_values.specs.SchemaRules.Lawful.{is_kind}
 use Rattle.schema_text.specs.Parts.{no_parts, own_primary, own_key, with_item, parts_of}
 use Rattle.schema_laws.proofs.Grammar.{HasColumns, IsItem}
-use Rattle.schema_rules.proofs.Lists.{All-append, fold-keeps}
+use Rattle.gho_values.proofs.SchemaRules.Lists.{All-append, fold-keeps}
 
 abbrev pub IsWritten : WrittenColumn → Type 0
 IsWritten column = is_kind column.kind ≡ true

@@ -1,6 +1,7 @@
 //! What holds of all schemas that are read: each function's contract is a law, and its body is empty.
 #![tactic(auto)]
 
+pub mod alter_laws;
 mod laws;
 pub mod print_laws;
 pub mod reread_laws;

@@ -3,7 +3,7 @@
 ghost use Rattle.std.specs.Prelude.{◌≡◌, ◌++◌, map, IfOk, OnOk, OnErr};
 ghost use Rattle.schema_print.specs.Printing.{quoted, integer_name, printed_kind, printed_default, column_line, column_name, key_names, key_columns, unique_line, index_line, lines_of, joined, printed_comment, printed_schema};
 
-use gho_schema::{Column, Index, Schema};
+use gho_values::gho_schema::{Column, Index, Schema};
 use gho_values::{Chars, Duplicate, Kind, Sequence, Text, Value, print_value};
 use std::alloc::{AllocError, Global};
 

@@ -7,7 +7,7 @@ use Rattle.table_words.specs.Attributes.{unwritten, with_attribute, attribute_at
 use Rattle.table_words.specs.Kinds.{kind_at}
 use Rattle.table_words.specs.Listed.{gathered}
 use Rattle.table_words.specs.Pieces.{behind_keyword, keyword_at, name_at}
-use Rattle.schema_rules.specs.Results.{◌>>=◌}
+use Rattle.gho_values.specs.SchemaRules.Results.{◌>>=◌}
 use Rattle.table_words.specs.Reads.{Read}
 use Rattle.table_words.specs.Tokens.{is_keyword}
 use Rattle.schema_text.specs.declared.written.ColumnAttribute.{ColumnAttribute}

@@ -3,23 +3,23 @@ use Rattle.std.specs.Prelude.{ℕ, ◌+◌, Bool, true, false, not, ◌&&◌, �
 use Rattle.std.specs.List.{list_all, list_any}
 use Rattle.gho_values.specs.declared.fault.Unfit.{Unfit}
 use Rattle.gho_values.specs.declared.value.Value.{Value}
-use Rattle.gho_schema.specs.declared.schema.Schema.{Schema}
-use Rattle.gho_schema.specs.declared.schema.Column.{Column}
-use Rattle.gho_schema.specs.declared.schema.Index.{Index}
+use Rattle.gho_values.specs.declared.gho_schema.schema.Schema.{Schema}
+use Rattle.gho_values.specs.declared.gho_schema.schema.Column.{Column}
+use Rattle.gho_values.specs.declared.gho_schema.schema.Index.{Index}
 use Rattle.table_words.specs.declared.code.SchemaCode.{SchemaCode}
 use Rattle.table_words.specs.declared.code.SchemaCode.TheVariants.{RepeatedName, UnknownKeyColumn, NoClusteredKey, TooManyColumns, TooManyKeys, NameTooLong, ReservedName, BadDefault}
-use Rattle.schema_rules.specs.Results.{◌>>=◌}
+use Rattle.gho_values.specs.SchemaRules.Results.{◌>>=◌}
 use Rattle.schema_text.specs.declared.keys.NamedKeys.{NamedKeys}
 use Rattle.schema_text.specs.declared.parts.Parts.{Parts}
 use Rattle.schema_text.specs.declared.written.WrittenColumn.{WrittenColumn}
 use Rattle.schema_text.specs.declared.written.WrittenKey.{WrittenKey}
 use Rattle.schema_text.specs.declared.written.WrittenTable.{WrittenTable}
-use Rattle.gho_schema.specs.Clustering.{clustered_place}
-use Rattle.schema_rules.specs.Defaults.{stored_default, defaults_fit, default_or}
-use Rattle.schema_rules.specs.Names.{is_among, names_differ, places_of}
+use Rattle.gho_values.specs.GhoSchema.Clustering.{clustered_place}
+use Rattle.gho_values.specs.SchemaRules.Defaults.{stored_default, defaults_fit, default_or}
+use Rattle.gho_values.specs.SchemaRules.Names.{is_among, names_differ, places_of}
 use Rattle.schema_text.specs.Keys.{named_keys}
-use Rattle.schema_rules.specs.Reasons.{Reasons, first_reason, unless}
-use Rattle.schema_rules.specs.Limits.{is_column_name, is_tool_name, is_table_name, is_reserved}
+use Rattle.gho_values.specs.SchemaRules.Reasons.{Reasons, first_reason, unless}
+use Rattle.gho_values.specs.SchemaRules.Limits.{is_column_name, is_tool_name, is_table_name, is_reserved}
 use Rattle.schema_text.specs.Parts.{parts_of}
 
 -- ---- names and limits

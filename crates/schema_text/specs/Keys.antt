@@ -1,6 +1,6 @@
 -- The names of a table's keys, in the order in which they are written.
 use Rattle.std.specs.Prelude.{ℕ, List, [], ◌∷◌, ◌++◌, fold, Option, Some, None}
-use Rattle.schema_rules.specs.Names.{free_name, first_column}
+use Rattle.gho_values.specs.SchemaRules.Names.{free_name, first_column}
 use Rattle.schema_text.specs.declared.keys.NamedKeys.{NamedKeys}
 use Rattle.schema_text.specs.declared.written.WrittenKey.{WrittenKey}
 

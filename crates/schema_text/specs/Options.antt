@@ -4,7 +4,7 @@ use Rattle.table_words.specs.declared.code.SchemaCode.{SchemaCode}
 use Rattle.table_words.specs.declared.token.Token.{Token}
 use Rattle.table_words.specs.Listed.{gathered}
 use Rattle.table_words.specs.Pieces.{behind_sign, keyword_at, any_word_at, text_at}
-use Rattle.schema_rules.specs.Results.{◌>>=◌}
+use Rattle.gho_values.specs.SchemaRules.Results.{◌>>=◌}
 use Rattle.table_words.specs.Reads.{Read}
 use Rattle.table_words.specs.Scope.{mismatch}
 use Rattle.table_words.specs.Tokens.{is_keyword}

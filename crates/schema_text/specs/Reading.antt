@@ -1,8 +1,8 @@
 -- *The schema of a text*: what a text of CREATE TABLE declares, or why it is refused.
 use Rattle.std.specs.Prelude.{ℕ, List, Result}
-use Rattle.gho_schema.specs.declared.schema.Schema.{Schema}
+use Rattle.gho_values.specs.declared.gho_schema.schema.Schema.{Schema}
 use Rattle.table_words.specs.declared.code.SchemaCode.{SchemaCode}
-use Rattle.schema_rules.specs.Results.{◌>>=◌}
+use Rattle.gho_values.specs.SchemaRules.Results.{◌>>=◌}
 use Rattle.table_words.specs.Tokens.{text_words}
 use Rattle.schema_text.specs.Declaring.{declared}
 use Rattle.schema_text.specs.Written.{written}

@@ -7,7 +7,7 @@ use Rattle.table_words.specs.declared.tokens.TextWords.{TextWords}
 use Rattle.table_words.specs.Keys.{key_columns_at, key_at}
 use Rattle.table_words.specs.Listed.{listed}
 use Rattle.table_words.specs.Pieces.{behind_keyword, behind_sign, keyword_at, sign_at, name_at}
-use Rattle.schema_rules.specs.Results.{◌>>=◌}
+use Rattle.gho_values.specs.SchemaRules.Results.{◌>>=◌}
 use Rattle.table_words.specs.Reads.{Read}
 use Rattle.table_words.specs.Scope.{is_no_item, mismatch}
 use Rattle.table_words.specs.Tokens.{is_keyword}

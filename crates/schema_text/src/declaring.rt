@@ -3,20 +3,20 @@
 ghost use Rattle.std.specs.Prelude.{◌≡◌, ◌+◌, ◌++◌, ◌<◌, ◌^◌, not, ◌&&◌, ◌||◌, nat_lt, length, map, filter, count_by, is_none, IfOk, OnOk};
 ghost use Rattle.std.specs.List.{list_all, list_any};
 ghost use Rattle.table_words.specs.Reads.{Reads};
-ghost use Rattle.schema_rules.specs.Reasons.{first_reason};
+ghost use Rattle.gho_values.specs.SchemaRules.Reasons.{first_reason};
 ghost use Rattle.schema_text.specs.Declaring.{column_names, size_reasons, are_known, name_reasons, nullable_of, declared_column, declared_columns, key_index, primary_index, schema_of, clustered, built, declared_parts, declared};
-ghost use Rattle.schema_rules.specs.Names.{is_among};
-ghost use Rattle.schema_rules.specs.Limits.{is_column_name};
+ghost use Rattle.gho_values.specs.SchemaRules.Names.{is_among};
+ghost use Rattle.gho_values.specs.SchemaRules.Limits.{is_column_name};
 
 use crate::keys::{NamedKeys, named_keys};
 use crate::parts::{Parts, parts_of};
 use crate::written::{WrittenColumn, WrittenKey, WrittenTable};
-use gho_schema::{Column, Columns, Index, Indexes, Schema, clustered_place};
-use gho_values::{Chars, Duplicate, Name, Names, Sequence, StoreFault};
-use schema_rules::{
+use gho_values::gho_schema::{Column, Columns, Index, Indexes, Schema, clustered_place};
+use gho_values::schema_rules::{
     defaults_fit, is_among, is_column_name, is_reserved, is_table_name, is_tool_name, names_differ,
     places_of, stored_default,
 };
+use gho_values::{Chars, Duplicate, Name, Names, Sequence, StoreFault};
 use std::alloc::{AllocError, Global};
 use table_words::{SchemaCode, SchemaFault};
 

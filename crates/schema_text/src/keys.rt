@@ -4,8 +4,8 @@ ghost use Rattle.std.specs.Prelude.{◌≡◌, IfOk};
 ghost use Rattle.schema_text.specs.Keys.{key_name, no_keys, with_key, named_keys};
 
 use crate::written::WrittenKey;
+use gho_values::schema_rules::{first_column, free_name};
 use gho_values::{Duplicate, Name, Names, Sequence};
-use schema_rules::{first_column, free_name};
 use std::alloc::{AllocError, Global};
 use table_words::KeyText;
 

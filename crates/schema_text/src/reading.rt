@@ -5,7 +5,7 @@ ghost use Rattle.schema_text.specs.Reading.{schema_at};
 
 use crate::declaring::declared;
 use crate::table::written;
-use gho_schema::Schema;
+use gho_values::gho_schema::Schema;
 use std::alloc::Global;
 use table_words::SchemaFault;
 

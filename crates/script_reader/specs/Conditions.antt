@@ -1,6 +1,6 @@
 -- The conditions of statements ("WHERE Clause Optimization" has many more; that there are these three forms is this project's rule).
 use Rattle.std.specs.Prelude.{codes, ℕ, if◌then◌else◌, List, [], ◌∷◌, ◌++◌, length, Option, Some, None, Result, Ok, Err}
-use Rattle.gho_schema.specs.Names.{same_name}
+use Rattle.gho_values.specs.GhoSchema.Names.{same_name}
 use Rattle.table_words.specs.declared.token.Token.{Token}
 use Rattle.table_words.specs.Listed.{gathered}
 use Rattle.table_words.specs.Pieces.{behind_keyword}

@@ -6,7 +6,7 @@ ghost use Rattle.script_reader.specs.Conditions.{equality_at, and_equality_at, m
 
 use crate::code::StatementFault;
 use crate::pieces::{MISTAKE, keyword_at, name_at, operand_at, sign_at};
-use gho_schema::same_name;
+use gho_values::gho_schema::same_name;
 use gho_values::{Duplicate, Sequence};
 use script_text::{Comparison, Comparisons, Condition, Set, Sets, Sign};
 use std::alloc::{AllocError, Global};

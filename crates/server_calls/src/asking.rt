@@ -1,16 +1,16 @@
 //! Requests of sessions, where they may come.
 
 ghost use Rattle.std.specs.Prelude.{◌≡◌, true, IfOk};
-ghost use Rattle.schema_rules.specs.Lawful.{IsLawful};
+ghost use Rattle.gho_values.specs.SchemaRules.Lawful.{IsLawful};
 ghost use Rattle.plain_server.specs.Conditions.{IsTableName};
 
 use case_lines::{CallFault, place_of};
-use final_server::FinalServer;
-use gho_schema::Schema;
+use gho_values::gho_schema::Schema;
+use gho_values::schema_rules::is_column_name;
 use gho_values::{Name, Names, Sequence};
 use plain_server::{Answer, Request};
+use plan_replays::final_server::FinalServer;
 use schema_laws::read_schemas_are_lawful;
-use schema_rules::is_column_name;
 use schema_text::read_schema;
 use script_reader::{StatementFault, read_statement};
 use script_text::{ScriptWord, Statement};
@@ -139,7 +139,7 @@ pub fn ask(
 }
 
 /// Whether a table may have this name.
-#[tactic(auto, unfolding(schema_rules::specs::Limits::is_name_length))]
+#[tactic(auto, unfolding(gho_values::specs::SchemaRules::Limits::is_name_length))]
 fn is_table_name(name: &Name) -> bool
     ensures { result ≡ true → IsTableName name.now }
 {

@@ -8,8 +8,8 @@ use crate::asking::{ask, create, names_of};
 use crate::opening::open;
 use crate::telling::{say_asked, say_number};
 use case_lines::{CallFault, place_of, say};
-use final_server::FinalServer;
 use gho_values::{Name, Text, print_row};
+use plan_replays::final_server::FinalServer;
 use serving::Serve;
 use std::alloc::{AllocError, Global};
 

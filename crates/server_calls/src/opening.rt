@@ -2,10 +2,10 @@
 
 ghost use Rattle.std.specs.Prelude.{◌≡◌, ◌≤◌, ◌+◌, OnOk};
 
-use final_server::{FinalServer, open_server};
 use gho_values::Names;
 use paged_tables::Tables;
 use plain_server::Limits;
+use plan_replays::final_server::{FinalServer, open_server};
 use serving::Serve;
 use std::alloc::{AllocError, Global};
 

@@ -8,11 +8,11 @@ ghost use Rattle.plain_server.specs.Jobs.{after_events, says, job_says, copy_job
 ghost use Rattle.plain_server.specs.Locking.{row_locks_of};
 ghost use Rattle.plain_server.specs.States.{pair_names};
 ghost use Rattle.plain_server.specs.Conditions.{IsWellFormed};
-ghost use Rattle.statement_laws.specs.Databases.{IsOrderly};
+ghost use Rattle.plain_server.specs.StatementLaws.Databases.{IsOrderly};
 ghost use Rattle.server_data.specs.Fitting.{EventsFit, NoneOf};
 
-use alter_image::ColumnMap;
-use gho_schema::Schema;
+use gho_values::alter_image::ColumnMap;
+use gho_values::gho_schema::Schema;
 use gho_values::{Key, Name};
 use paged_tables::Tables;
 use plain_server::{Request, StatementResult};

@@ -5,9 +5,9 @@ use Rattle.std.proofs.lemmas.Bool.{false≢true}
 use Rattle.event_codec.specs.declared.event.Change.{Change}
 use Rattle.event_codec.specs.declared.event.Change.TheVariants.{Write, Update, Delete}
 use Rattle.event_codec.specs.declared.event.RowEvent.{RowEvent}
-use Rattle.gho_schema.specs.declared.schema.Schema.{Schema}
-use Rattle.gho_schema.specs.Rows.{key_of, key_places}
-use Rattle.gho_schema.specs.Tables.{IsTable}
+use Rattle.gho_values.specs.declared.gho_schema.schema.Schema.{Schema}
+use Rattle.gho_values.specs.GhoSchema.Rows.{key_of, key_places}
+use Rattle.gho_values.specs.GhoSchema.Tables.{IsTable}
 use Rattle.row_store.specs.ClusteredKeys.{HasClusteredKey}
 use Rattle.row_store.specs.Databases.{TableRows, Database, find_table, with_change}
 use Rattle.row_store.specs.RowLists.{is_at, without_key}
@@ -16,16 +16,16 @@ use Rattle.row_store.proofs.TableLaws.{put_keeps, remove_keeps}
 use Rattle.plain_server.specs.declared.need.Need.{Need}
 use Rattle.plain_server.specs.Jobs.{after_events, change_table}
 use Rattle.plain_server.specs.Rows.{without_row}
-use Rattle.statement_laws.specs.Covering.{IsOrderlyTable}
-use Rattle.statement_laws.specs.Databases.{IsOrderly, WhereFound}
-use Rattle.statement_laws.proofs.OneRow.{same_removal}
-use Rattle.statement_laws.proofs.Orderly.{nulls}
-use Rattle.statement_laws.proofs.Stables.{after_events-append, others_agree}
-use Rattle.ghost_laws.specs.GhostRows.Moments.{Fits}
-use Rattle.ghost_laws.proofs.GhostRows.TimelineLaws.{none_clashing}
-use Rattle.ghost_laws.specs.Fitting as ghost
-use Rattle.ghost_laws.proofs.Changing.{found_stands}
-use Rattle.ghost_laws.proofs.Fitting.{fitting_end, orderly_event}
+use Rattle.plain_server.specs.StatementLaws.Covering.{IsOrderlyTable}
+use Rattle.plain_server.specs.StatementLaws.Databases.{IsOrderly, WhereFound}
+use Rattle.plain_server.proofs.StatementLaws.OneRow.{same_removal}
+use Rattle.plain_server.proofs.StatementLaws.Orderly.{nulls}
+use Rattle.plain_server.proofs.StatementLaws.Stables.{after_events-append, others_agree}
+use Rattle.history_laws.specs.GhostLaws.GhostRows.Moments.{Fits}
+use Rattle.history_laws.proofs.GhostLaws.GhostRows.TimelineLaws.{none_clashing}
+use Rattle.history_laws.specs.GhostLaws.Fitting as ghost
+use Rattle.history_laws.proofs.GhostLaws.Changing.{found_stands}
+use Rattle.history_laws.proofs.GhostLaws.Fitting.{fitting_end, orderly_event}
 use Rattle.history_laws.specs.Holdings.{Face}
 use Rattle.written_rows.specs.Fitting.{FitsRows, IsNewAmong}
 use Rattle.server_data.specs.Fitting.{EventsFit, FitsIn}

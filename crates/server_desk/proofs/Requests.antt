@@ -4,7 +4,7 @@ use Rattle.std.specs.Prelude.{◌==◌, is_some}
 use Rattle.std.proofs.lemmas.Bool.{and_parts}
 use Rattle.std.specs.List.{list_any}
 use Rattle.std.specs.Str.{bytes_eq}
-use Rattle.alter_image.specs.declared.map.MapColumn.{MapColumn}
+use Rattle.gho_values.specs.declared.alter_image.map.MapColumn.{MapColumn}
 use Rattle.event_codec.specs.declared.event.RowEvent.{RowEvent}
 use Rattle.gho_values.specs.declared.value.Value.{Value}
 use Rattle.row_locks.specs.declared.lock.Lock.{Lock}
@@ -24,8 +24,8 @@ use Rattle.plain_server.specs.Jobs.{after_events, copy_job, job_says, says}
 use Rattle.plain_server.specs.Locking.{blocker, need, need_within, row_locks_of}
 use Rattle.plain_server.specs.Serving.{calls, commits, counting, does, done, exclusive, forgets, is_over, polled_over, polls, serving, unlocking, without_waiting}
 use Rattle.plain_server.specs.States.{State, is_exclusive, is_in_transaction, locked_names, names_held, names_in, pair_names, session_of, tables_named, view, waiting_of, with_session}
-use Rattle.statement_laws.specs.Databases.{EventsCovered}
-use Rattle.statement_laws.proofs.Tests.{are_one}
+use Rattle.plain_server.specs.StatementLaws.Databases.{EventsCovered}
+use Rattle.plain_server.proofs.StatementLaws.Tests.{are_one}
 use Rattle.history_laws.specs.Holdings.{face_of}
 use Rattle.history_laws.proofs.Names.{Free, names_granted}
 use Rattle.history_laws.proofs.Faces.{writes_face, busy_face}

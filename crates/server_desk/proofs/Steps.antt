@@ -15,7 +15,7 @@ use Rattle.plain_server.specs.Showing.{waits_shown}
 use Rattle.plain_server.specs.declared.session.Limits.{Limits}
 use Rattle.plain_server.specs.declared.session.Waiting.{Waiting}
 use Rattle.plain_server.specs.States.{State, connected, is_live, opened, polls_of, session_of, unread, view, with_session, writes_of}
-use Rattle.statement_laws.specs.Databases.{IsOrderly}
+use Rattle.plain_server.specs.StatementLaws.Databases.{IsOrderly}
 use Rattle.history_laws.specs.Holdings.{face_of}
 use Rattle.history_laws.proofs.Serves.{granted}
 use Rattle.history_laws.proofs.Faces.{writes_face}

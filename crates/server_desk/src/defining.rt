@@ -11,7 +11,7 @@ ghost use Rattle.server_data.specs.Fitting.{NoneOf};
 ghost use Rattle.server_desk.specs.Parts.{state_of, HaveWritten};
 
 use desk_calls::Desk;
-use gho_schema::Schema;
+use gho_values::gho_schema::Schema;
 use gho_values::{Name, Names};
 use paged_answers::{all_stand, refuses};
 use plain_server::Answer;

@@ -2,7 +2,7 @@
 
 ghost use Rattle.std.specs.Prelude.{◌≡◌, ◌≤◌, ℕ, []};
 ghost use Rattle.plain_server.specs.States.{opened};
-ghost use Rattle.statement_laws.specs.Databases.{IsOrderly};
+ghost use Rattle.plain_server.specs.StatementLaws.Databases.{IsOrderly};
 
 use crate::calling::{call, poll};
 use crate::losing::lose_session;

@@ -11,8 +11,8 @@ ghost use Rattle.plain_server.specs.States.{is_in_transaction, is_live, session_
 ghost use Rattle.server_desk.specs.Parts.{needed, state_of, GoTogether, HaveWritten, MayDo};
 
 use crate::keeping::keep;
-use alter_image::ColumnMap;
 use desk_calls::Desk;
+use gho_values::alter_image::ColumnMap;
 use gho_values::{Key, Name, Sequence, Span};
 use paged_answers::{keys_of_span, refuses};
 use plain_server::{Answer, Request};

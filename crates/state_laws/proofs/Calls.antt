@@ -20,8 +20,8 @@ use Rattle.history_laws.specs.Holdings.{Face, OneHolder, face_in, face_of, no_fa
 use Rattle.history_laws.proofs.Faces.{faces_with, faces_without, joined}
 use Rattle.history_laws.proofs.Names.{held_joined, one_counts, one_less, one_rests}
 use Rattle.history_laws.proofs.Serves.{IsFree, done_one, granted}
-use Rattle.statement_laws.specs.Agreeing.{Among}
-use Rattle.statement_laws.proofs.Tests.{are_one}
+use Rattle.plain_server.specs.StatementLaws.Agreeing.{Among}
+use Rattle.plain_server.proofs.StatementLaws.Tests.{are_one}
 use Rattle.state_laws.specs.Keeping.{IsServing, WaitsWell}
 use Rattle.state_laws.specs.Laws.{OpenedServes, ConnectedServes, CallsServe, PollsServe, LossesServe}
 use Rattle.state_laws.proofs.Kept.{Keeps, own_rests, keeps_rests, keeps_holds}

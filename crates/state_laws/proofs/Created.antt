@@ -6,17 +6,17 @@ use Rattle.std.specs.List.{AllByRecursion, list_any}
 use Rattle.std.specs.Str.{bytes_eq}
 use Rattle.event_codec.specs.declared.event.Change.{Change}
 use Rattle.event_codec.specs.declared.event.RowEvent.{RowEvent}
-use Rattle.gho_schema.specs.declared.schema.Schema.{Schema}
+use Rattle.gho_values.specs.declared.gho_schema.schema.Schema.{Schema}
 use Rattle.row_locks.specs.declared.lock.Lock.{Lock}
 use Rattle.row_store.specs.Databases.{TableRows, Database, find_table, has_table, with_change, without_table}
 use Rattle.plain_server.specs.Jobs.{change_table}
-use Rattle.statement_laws.specs.Agreeing.{Agree, TablesAgree}
-use Rattle.statement_laws.specs.Covering.{IsOrderlyTable}
-use Rattle.statement_laws.specs.Databases.{ChangeCovered, WhereFound, EventsCovered}
-use Rattle.statement_laws.proofs.Finding.{change_if, found_after}
-use Rattle.statement_laws.proofs.Tests.{are_same}
-use Rattle.ghost_laws.specs.GhostRows.Moments.{Fits}
-use Rattle.ghost_laws.specs.Fitting.{EventsFit, IsFitting}
+use Rattle.plain_server.specs.StatementLaws.Agreeing.{Agree, TablesAgree}
+use Rattle.plain_server.specs.StatementLaws.Covering.{IsOrderlyTable}
+use Rattle.plain_server.specs.StatementLaws.Databases.{ChangeCovered, WhereFound, EventsCovered}
+use Rattle.plain_server.proofs.StatementLaws.Finding.{change_if, found_after}
+use Rattle.plain_server.proofs.StatementLaws.Tests.{are_same}
+use Rattle.history_laws.specs.GhostLaws.GhostRows.Moments.{Fits}
+use Rattle.history_laws.specs.GhostLaws.Fitting.{EventsFit, IsFitting}
 use Rattle.history_laws.proofs.Moves.{create_moves, drop_moves, gone_none, none_found}
 use Rattle.history_laws.specs.Holdings.{Face}
 use Rattle.state_laws.specs.Keeping.{AllStand, OwnFits}

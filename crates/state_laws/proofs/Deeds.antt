@@ -2,7 +2,7 @@
 use Rattle.std.proofs.Common.{◌≡◌, ℕ, Bool, true, false, List, [], ◌∷◌, ◌++◌, map, Option, Some, None, Result, Ok, Err, refl, sym, ap, ◌∙◌, subst}
 use Rattle.std.specs.Prelude.{◌==◌}
 use Rattle.event_codec.specs.declared.event.RowEvent.{RowEvent}
-use Rattle.gho_schema.specs.declared.schema.Schema.{Schema}
+use Rattle.gho_values.specs.declared.gho_schema.schema.Schema.{Schema}
 use Rattle.row_store.specs.Databases.{TableRows, Database, find_table, has_table, rename_tables, without_table}
 use Rattle.row_store.specs.declared.renaming.NotRenamed.{NotRenamed}
 use Rattle.row_store.specs.declared.renaming.Pair.{Pair}
@@ -17,9 +17,9 @@ use Rattle.plain_server.specs.Jobs.{after_events, copy_job, job_says, says}
 use Rattle.plain_server.specs.Locking.{need, need_within}
 use Rattle.plain_server.specs.Serving.{at_rest, does, exclusive, holding, locking, unlocking}
 use Rattle.plain_server.specs.States.{State, holds_tables, is_in_transaction, names_held, pair_names, session_of, view, with_session, writes_of}
-use Rattle.statement_laws.specs.Covering.{Apart}
-use Rattle.statement_laws.specs.Databases.{IsOrderly}
-use Rattle.statement_laws.proofs.Tests.{are_one, turned}
+use Rattle.plain_server.specs.StatementLaws.Covering.{Apart}
+use Rattle.plain_server.specs.StatementLaws.Databases.{IsOrderly}
+use Rattle.plain_server.proofs.StatementLaws.Tests.{are_one, turned}
 use Rattle.history_laws.specs.Scenes.{no_hold, Besides}
 use Rattle.history_laws.specs.Holdings.{Face, face_in, face_of}
 use Rattle.history_laws.proofs.Answering.{apart_both}
@@ -29,7 +29,7 @@ use Rattle.history_laws.proofs.Moves.{Moved, create_moves, drop_moves, rename_mo
 use Rattle.history_laws.proofs.Names.{Free, names_granted}
 use Rattle.history_laws.proofs.Serves.{IsFree}
 use Rattle.history_laws.proofs.LawfulTables.{lawful_table}
-use Rattle.ghost_laws.proofs.Fitting.{fitting_end, orderly_events}
+use Rattle.history_laws.proofs.GhostLaws.Fitting.{fitting_end, orderly_events}
 use Rattle.state_laws.specs.Keeping.{OwnFits}
 use Rattle.state_laws.specs.Granting.{grown, GrowsWell}
 use Rattle.state_laws.proofs.Created.{own_created}

@@ -6,7 +6,7 @@ use Rattle.std.proofs.lemmas.List.{append-nil}
 use Rattle.std.specs.List.{list_any}
 use Rattle.std.specs.Str.{bytes_eq}
 use Rattle.gho_values.specs.declared.value.Value.{Value}
-use Rattle.alter_image.specs.declared.map.MapColumn.{MapColumn}
+use Rattle.gho_values.specs.declared.alter_image.map.MapColumn.{MapColumn}
 use Rattle.event_codec.specs.declared.event.Change.{Change}
 use Rattle.event_codec.specs.declared.event.RowEvent.{RowEvent}
 use Rattle.row_locks.specs.declared.lock.Lock.{Lock}
@@ -15,16 +15,16 @@ use Rattle.script_text.specs.declared.statement.Statement.{Statement}
 use Rattle.plain_server.specs.declared.need.Need.{Need}
 use Rattle.plain_server.specs.Jobs.{Job, table_of, job_of, says, job_says, job_needs, row_needs, result_in, events_of, after_events, change_table, copy_job}
 use Rattle.plain_server.specs.Saying.{tells}
-use Rattle.statement_laws.specs.Agreeing.{Within}
-use Rattle.statement_laws.specs.Databases.{IsOrderly, TaskSound}
-use Rattle.statement_laws.proofs.Points.{within-left, within-right, within-itself}
-use Rattle.statement_laws.proofs.Finding.{agree_within, found_after, says_covered}
-use Rattle.statement_laws.proofs.Stables.{covered_both, covered_more, covered_before, statement_sound}
+use Rattle.plain_server.specs.StatementLaws.Agreeing.{Within}
+use Rattle.plain_server.specs.StatementLaws.Databases.{IsOrderly, TaskSound}
+use Rattle.plain_server.proofs.StatementLaws.Points.{within-left, within-right, within-itself}
+use Rattle.plain_server.proofs.StatementLaws.Finding.{agree_within, found_after, says_covered}
+use Rattle.plain_server.proofs.StatementLaws.Stables.{covered_both, covered_more, covered_before, statement_sound}
 use Rattle.history_laws.specs.Holdings.{Face}
 use Rattle.history_laws.proofs.Words.{names_left, names_last, quiet_covered}
 use Rattle.history_laws.proofs.Tooling.{copies_sound, names_two}
-use Rattle.ghost_laws.specs.Fitting.{EventsFit}
-use Rattle.ghost_laws.proofs.Fitting.{fitting_end, fitting_task, orderly_events}
+use Rattle.history_laws.specs.GhostLaws.Fitting.{EventsFit}
+use Rattle.history_laws.proofs.GhostLaws.Fitting.{fitting_end, fitting_task, orderly_events}
 use Rattle.history_laws.proofs.ServerLaws.Others.{some_changed}
 use Rattle.state_laws.specs.Keeping.{AllStand, OwnFits}
 use Rattle.state_laws.specs.Granting.{grown}

@@ -8,17 +8,17 @@ use Rattle.event_codec.specs.declared.event.RowEvent.{RowEvent}
 use Rattle.row_locks.specs.declared.lock.Lock.{Lock}
 use Rattle.row_store.specs.Databases.{TableRows, Database, find_table}
 use Rattle.plain_server.specs.Jobs.{after_events}
-use Rattle.statement_laws.specs.Agreeing.{Agree, TablesAgree}
-use Rattle.statement_laws.specs.Covering.{Apart}
-use Rattle.statement_laws.specs.Databases.{IsOrderly, EventsCovered}
-use Rattle.statement_laws.proofs.Finding.{tables_itself}
-use Rattle.statement_laws.proofs.Stables.{covered_others, others_agree}
-use Rattle.statement_laws.proofs.Tests.{turned}
+use Rattle.plain_server.specs.StatementLaws.Agreeing.{Agree, TablesAgree}
+use Rattle.plain_server.specs.StatementLaws.Covering.{Apart}
+use Rattle.plain_server.specs.StatementLaws.Databases.{IsOrderly, EventsCovered}
+use Rattle.plain_server.proofs.StatementLaws.Finding.{tables_itself}
+use Rattle.plain_server.proofs.StatementLaws.Stables.{covered_others, others_agree}
+use Rattle.plain_server.proofs.StatementLaws.Tests.{turned}
 use Rattle.history_laws.specs.Scenes.{SessionHold, no_hold, Besides}
 use Rattle.history_laws.specs.Holdings.{Face}
 use Rattle.history_laws.proofs.Kept.{by_number, two_holds, none_apart}
 use Rattle.history_laws.proofs.Turning.{holds_besides}
-use Rattle.ghost_laws.proofs.Fitting.{fitting_begin, fitting_others}
+use Rattle.history_laws.proofs.GhostLaws.Fitting.{fitting_begin, fitting_others}
 use Rattle.state_laws.specs.Keeping.{AllStand, OwnFits}
 
 -- what each session holds goes with the tables, and no two hold what conflicts

@@ -13,7 +13,7 @@ use Rattle.plain_server.specs.Deeds.{Deed, Rests, Grows, Writes, Forgets, Moves,
 use Rattle.plain_server.specs.Locking.{need, blocker}
 use Rattle.plain_server.specs.Serving.{at_rest, counting, does, holding, locking, unlocking}
 use Rattle.plain_server.specs.States.{State, holds_tables, is_in_transaction, names_in, new_session, session_of, with_session}
-use Rattle.statement_laws.proofs.Tests.{nor_left, nor_right}
+use Rattle.plain_server.proofs.StatementLaws.Tests.{nor_left, nor_right}
 use Rattle.history_laws.proofs.Faces.{changed_there, gone_there}
 use Rattle.state_laws.specs.Keeping.{WaitsWell}
 

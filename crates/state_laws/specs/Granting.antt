@@ -3,7 +3,7 @@ use Rattle.std.specs.Prelude.{◌≡◌, ℕ, ◌==◌, true, false, List, ◌++
 use Rattle.event_codec.specs.declared.event.RowEvent.{RowEvent}
 use Rattle.row_store.specs.Databases.{Database}
 use Rattle.plain_server.specs.declared.need.Need.{Need}
-use Rattle.statement_laws.specs.Covering.{Apart}
+use Rattle.plain_server.specs.StatementLaws.Covering.{Apart}
 use Rattle.history_laws.specs.Holdings.{Face}
 use Rattle.state_laws.specs.Keeping.{OwnFits}
 

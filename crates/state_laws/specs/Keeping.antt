@@ -8,11 +8,11 @@ use Rattle.plain_server.specs.declared.session.Session.{Session}
 use Rattle.plain_server.specs.declared.session.Waiting.{Waiting}
 use Rattle.plain_server.specs.Conditions.{ComesWell}
 use Rattle.plain_server.specs.States.{State, session_of, is_in_transaction, holds_tables, names_held, names_in}
-use Rattle.statement_laws.specs.Covering.{Apart}
-use Rattle.statement_laws.specs.Databases.{IsOrderly, EventsCovered}
+use Rattle.plain_server.specs.StatementLaws.Covering.{Apart}
+use Rattle.plain_server.specs.StatementLaws.Databases.{IsOrderly, EventsCovered}
 use Rattle.history_laws.specs.Scenes.{no_hold}
 use Rattle.history_laws.specs.Holdings.{Face, face_of, OneHolder}
-use Rattle.ghost_laws.specs.Fitting.{IsFitting}
+use Rattle.history_laws.specs.GhostLaws.Fitting.{IsFitting}
 
 -- the table of each event stands
 abbrev pub AllStand : Database → List RowEvent → Type 0

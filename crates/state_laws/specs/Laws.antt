@@ -8,7 +8,7 @@ use Rattle.plain_server.specs.Conditions.{MayCall, MayPoll, MayLose}
 use Rattle.plain_server.specs.Serving.{calls, polls, leaves}
 use Rattle.plain_server.specs.States.{State, opened, connected}
 use Rattle.row_store.specs.Databases.{Database}
-use Rattle.statement_laws.specs.Databases.{IsOrderly}
+use Rattle.plain_server.specs.StatementLaws.Databases.{IsOrderly}
 use Rattle.state_laws.specs.Keeping.{IsServing}
 
 -- *A server that opens serves*, and one to which a session connects

@@ -1,7 +1,7 @@
 -- The places of columns, one by one.
 use Rattle.std.proofs.Common.{◌≡◌, ℕ, ◌+◌, ◌<◌, List, [], ◌∷◌, ◌++◌, length, drop, sym, ap, ◌∙◌, append_assoc, arith}
 use Rattle.std.proofs.lemmas.List.{drop_more}
-use Rattle.gho_schema.specs.declared.schema.Column.{Column}
+use Rattle.gho_values.specs.declared.gho_schema.schema.Column.{Column}
 use Rattle.plain_server.specs.Checking.{places_from}
 
 pub placed_more : (places : List ℕ) (columns : List Column) (place : ℕ) → place < length columns → places ++ place ∷ [] ++ places_from (place + 1) (drop (place + 1) columns) ≡ places ++ places_from place (drop place columns)

@@ -2,7 +2,7 @@
 use Rattle.std.specs.Prelude.{ℕ, Option, Some, None, Result, Ok, Err}
 use Rattle.gho_values.specs.declared.value.Value.{Value}
 use Rattle.gho_values.specs.declared.fault.Unfit.{Unfit}
-use Rattle.alter_image.specs.declared.image_fault.UnfitAt.{UnfitAt}
+use Rattle.gho_values.specs.declared.alter_image.image_fault.UnfitAt.{UnfitAt}
 
 -- what the column at a place is set to, where it is, or that it refuses its value
 abbrev pub set_at : ℕ → Option (Result Value Unfit) → Result (Option Value) UnfitAt

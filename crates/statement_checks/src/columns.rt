@@ -2,11 +2,11 @@
 
 ghost use Rattle.std.specs.Prelude.{◌≡◌, ◌<◌, ◌==◌, ◌^◌, length, position, option_copied, IfOk};
 ghost use Rattle.std.specs.List.{list_any};
-ghost use Rattle.gho_schema.specs.Names.{same_name};
+ghost use Rattle.gho_values.specs.GhoSchema.Names.{same_name};
 ghost use Rattle.plain_server.specs.Checking.{place_of, places_named, are_distinct, beside, places_from, places_listed};
 
 use crate::refusing::{Checked, refuses};
-use gho_schema::{Column, Places, Schema, same_name};
+use gho_values::gho_schema::{Column, Places, Schema, same_name};
 use gho_values::{Name, Names, Sequence, Value};
 use std::alloc::{AllocError, Global};
 

@@ -7,8 +7,8 @@ ghost use Rattle.plain_server.specs.Checking.{are_distinct, beside, has_columns,
 
 use crate::columns::{are_distinct, beside, is_among};
 use crate::refusing::{Checked, refuses, refuses_value};
-use alter_image::UnfitAt;
-use gho_schema::{Index, Schema};
+use gho_values::alter_image::UnfitAt;
+use gho_values::gho_schema::{Index, Schema};
 use gho_values::{Bound, Duplicate, Key, Row, Sequence, Span, StoreFault, Value, seek};
 use std::alloc::{AllocError, Global};
 

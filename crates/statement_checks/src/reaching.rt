@@ -1,8 +1,8 @@
 //! What a condition reaches.
 
 ghost use Rattle.std.specs.Prelude.{◌≡◌, map, Ok, None, if◌then◌else◌, IfOk};
-ghost use Rattle.gho_schema.specs.Clustering.{clustered_place};
-ghost use Rattle.gho_schema.specs.Rows.{key_places};
+ghost use Rattle.gho_values.specs.GhoSchema.Clustering.{clustered_place};
+ghost use Rattle.gho_values.specs.GhoSchema.Rows.{key_places};
 ghost use Rattle.plain_server.specs.Checking.{is_only, reach_equal, reach_range, reach_of};
 
 use crate::columns::places_named;
@@ -10,8 +10,8 @@ use crate::keys::{is_only, key_from, key_of_columns, places_at, point, sought_ea
 use crate::parts::{compared_columns, compared_values, set_columns, set_values};
 use crate::ranges::{spans_together, whole};
 use crate::refusing::{Checked, refuses};
-use gho_schema::{Schema, clustered_place};
 use gho_values::Span;
+use gho_values::gho_schema::{Schema, clustered_place};
 use plain_server::Reach;
 use script_text::{Comparison, Condition, Set};
 use std::alloc::{AllocError, Global};

@@ -3,7 +3,7 @@
 ghost use Rattle.std.specs.Prelude.{◌≡◌};
 ghost use Rattle.plain_server.specs.Answers.{refuses, refuses_value};
 
-use alter_image::UnfitAt;
+use gho_values::alter_image::UnfitAt;
 use plain_server::Answer;
 
 /// What was checked, or the answer that refuses the statement.

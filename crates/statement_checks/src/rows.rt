@@ -6,8 +6,8 @@ ghost use Rattle.plain_server.specs.Checking.{value_at, given_or, row_from, new_
 
 use crate::columns::{beside, places_listed};
 use crate::refusing::{Checked, refuses, refuses_value};
-use alter_image::UnfitAt;
-use gho_schema::{Column, Schema};
+use gho_values::alter_image::UnfitAt;
+use gho_values::gho_schema::{Column, Schema};
 use gho_values::{Duplicate, Names, Row, Sequence, StoreFault, Value, store};
 use std::alloc::{AllocError, Global};
 

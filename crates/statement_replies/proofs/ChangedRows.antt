@@ -5,9 +5,9 @@ use Rattle.std.proofs.lemmas.Bool.Decides.{nat_tests}
 use Rattle.std.specs.List.{AllByRecursion, list_any}
 use Rattle.gho_values.specs.declared.value.Value.{Value}
 use Rattle.gho_values.specs.Comparing.{compare_keys}
-use Rattle.gho_schema.specs.declared.schema.Schema.{Schema}
-use Rattle.gho_schema.specs.Rows.{key_of, key_places, with_row}
-use Rattle.gho_schema.specs.Tables.{Ascends, IsRow, IsTable}
+use Rattle.gho_values.specs.declared.gho_schema.schema.Schema.{Schema}
+use Rattle.gho_values.specs.GhoSchema.Rows.{key_of, key_places, with_row}
+use Rattle.gho_values.specs.GhoSchema.Tables.{Ascends, IsRow, IsTable}
 use Rattle.event_codec.specs.declared.event.Change.TheVariants as changes
 use Rattle.row_store.specs.ClusteredKeys.{HasClusteredKey}
 use Rattle.row_store.proofs.Orders.{Row}
@@ -15,9 +15,9 @@ use Rattle.row_store.proofs.Ascending.{all-filter, ascends-filter}
 use Rattle.row_store.proofs.TableLaws.{some_rows}
 use Rattle.plain_server.specs.Rows.{same_row, stands, without_row, change_rows}
 use Rattle.plain_server.specs.Saying.{with_sets, clashes_besides}
-use Rattle.statement_laws.specs.Covering.{SetsFit}
-use Rattle.statement_laws.proofs.Standing.{one_row, same_itself, stands-put, stands-filter, other_row}
-use Rattle.statement_laws.proofs.Orderly.{orderly_put, with_sets_row, none_besides}
+use Rattle.plain_server.specs.StatementLaws.Covering.{SetsFit}
+use Rattle.plain_server.proofs.StatementLaws.Standing.{one_row, same_itself, stands-put, stands-filter, other_row}
+use Rattle.plain_server.proofs.StatementLaws.Orderly.{orderly_put, with_sets_row, none_besides}
 use Rattle.written_rows.specs.Fitting.{FitsRows}
 use Rattle.statement_replies.specs.Updating.{AreMet}
 use Rattle.statement_replies.proofs.NewKeys.{new_from}

@@ -2,10 +2,10 @@
 use Rattle.std.proofs.Common.{◌≡◌, ℕ, Bool, true, false, List, [], ◌∷◌, ◌++◌, map, cond, Option, Result, Ok, Err, refl, subst}
 use Rattle.std.specs.List.{list_any}
 use Rattle.gho_values.specs.declared.value.Value.{Value}
-use Rattle.gho_schema.specs.declared.schema.Schema.{Schema}
-use Rattle.gho_schema.specs.Rows.{key_places}
-use Rattle.gho_schema.specs.Tables.{clash, IsRow, IsTable}
-use Rattle.alter_image.specs.declared.image_fault.UnfitAt.{UnfitAt}
+use Rattle.gho_values.specs.declared.gho_schema.schema.Schema.{Schema}
+use Rattle.gho_values.specs.GhoSchema.Rows.{key_places}
+use Rattle.gho_values.specs.GhoSchema.Tables.{clash, IsRow, IsTable}
+use Rattle.gho_values.specs.declared.alter_image.image_fault.UnfitAt.{UnfitAt}
 use Rattle.event_codec.specs.declared.event.Change.{Change}
 use Rattle.event_codec.specs.declared.event.Change.TheVariants as changes
 use Rattle.row_store.specs.ClusteredKeys.{HasClusteredKey}
@@ -17,8 +17,8 @@ use Rattle.plain_server.specs.declared.work.Work.TheVariants.{Refuse, Insert, Co
 use Rattle.plain_server.specs.Answers.{refuses}
 use Rattle.plain_server.specs.Rows.{reaches, rows_met, same_row, without_row, change_rows, change_all}
 use Rattle.plain_server.specs.Saying.{only, displaced, with_sets, clashes_besides, change_first, updates, updated, result_or_refusal, tells}
-use Rattle.statement_laws.specs.Covering.{SetsFit, IsSound}
-use Rattle.statement_laws.proofs.Orderly.{orderly_put, tells_orderly, change_all-append}
+use Rattle.plain_server.specs.StatementLaws.Covering.{SetsFit, IsSound}
+use Rattle.plain_server.proofs.StatementLaws.Orderly.{orderly_put, tells_orderly, change_all-append}
 use Rattle.written_rows.specs.Fitting.{AllFit}
 use Rattle.statement_replies.specs.Updating.{AreMet}
 use Rattle.statement_replies.specs.Laws.{ToldChangesFit}

@@ -3,3 +3,4 @@ pub mod FittingChanges
 pub mod NewKeys
 pub mod Shown
 pub mod UpdatedRows
+pub mod StatementWork

@@ -2,7 +2,7 @@
 use Rattle.std.proofs.Common.{◌≡◌, ℕ, ◌++◌, List, [], ◌∷◌, refl, ap}
 use Rattle.std.specs.Prelude.{option_to_list, slice_get}
 use Rattle.std.specs.List.{flat_map}
-use Rattle.gho_schema.specs.Rows.{key_of}
+use Rattle.gho_values.specs.GhoSchema.Rows.{key_of}
 use Rattle.row_store.proofs.Orders.{Row}
 
 -- the values at places are those of a key there

@@ -1,9 +1,9 @@
 -- An UPDATE row by row: the changes so far, what they wrote, and the rows that are left.
 use Rattle.std.proofs.Common.{◌≡◌, ℕ, suc, ◌+◌, ◌<◌, length, drop, get_or, add-one, drop-cons, Bool, true, false, List, [], ◌∷◌, ◌++◌, cond, Option, Result, Ok, Err, refl, sym, ap, ◌∙◌, subst, append_assoc, append-nil}
 use Rattle.gho_values.specs.declared.value.Value.{Value}
-use Rattle.gho_schema.specs.declared.schema.Schema.{Schema}
-use Rattle.gho_schema.specs.Rows.{key_places}
-use Rattle.gho_schema.specs.Tables.{Ascends, IsTable}
+use Rattle.gho_values.specs.declared.gho_schema.schema.Schema.{Schema}
+use Rattle.gho_values.specs.GhoSchema.Rows.{key_places}
+use Rattle.gho_values.specs.GhoSchema.Tables.{Ascends, IsTable}
 use Rattle.event_codec.specs.declared.event.Change.{Change}
 use Rattle.event_codec.specs.declared.event.Change.TheVariants as changes
 use Rattle.row_store.specs.ClusteredKeys.{HasClusteredKey}
@@ -12,7 +12,7 @@ use Rattle.plain_server.specs.declared.answer.Answer.{Answer}
 use Rattle.plain_server.specs.Answers.{refuses}
 use Rattle.plain_server.specs.Rows.{same_row, change_rows}
 use Rattle.plain_server.specs.Saying.{with_sets, clashes_besides, change_first, updates}
-use Rattle.statement_laws.specs.Covering.{SetsFit}
+use Rattle.plain_server.specs.StatementLaws.Covering.{SetsFit}
 use Rattle.written_rows.specs.Written.{Written, nothing, seen, wrote}
 use Rattle.written_rows.specs.Fitting.{IsWritten}
 use Rattle.written_rows.proofs.SeenRows.{seen-nothing}

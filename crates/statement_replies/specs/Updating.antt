@@ -2,8 +2,8 @@
 use Rattle.std.specs.Prelude.{◌≡◌, ℕ, true, if◌then◌else◌, List, Option}
 use Rattle.std.specs.List.{AllByRecursion}
 use Rattle.gho_values.specs.declared.value.Value.{Value}
-use Rattle.gho_schema.specs.declared.schema.Schema.{Schema}
-use Rattle.gho_schema.specs.Tables.{Ascends}
+use Rattle.gho_values.specs.declared.gho_schema.schema.Schema.{Schema}
+use Rattle.gho_values.specs.GhoSchema.Tables.{Ascends}
 use Rattle.plain_server.specs.Rows.{same_row, stands}
 use Rattle.plain_server.specs.Saying.{with_sets, clashes_besides}
 use Rattle.statement_replies.specs.declared.updating.RowUpdate.{RowUpdate}

@@ -1,7 +1,7 @@
 //! What a statement says: its answer, and the changes that it makes.
 
 ghost use Rattle.std.specs.Prelude.{◌≡◌, [], map, IfOk};
-ghost use Rattle.gho_schema.specs.Rows.{key_places};
+ghost use Rattle.gho_values.specs.GhoSchema.Rows.{key_places};
 ghost use Rattle.event_codec.specs.declared.event.Change.TheVariants as changes;
 ghost use Rattle.plain_server.specs.Jobs.{events_of};
 ghost use Rattle.plain_server.specs.Saying.{only};
@@ -9,7 +9,7 @@ ghost use Rattle.statement_replies.specs.Told.{as_result};
 ghost use Rattle.written_rows.specs.Written.{nothing, wrote_all};
 
 use event_codec::{Change, Events, RowEvent};
-use gho_schema::Schema;
+use gho_values::gho_schema::Schema;
 use gho_values::{Duplicate, Name, Rows, Sequence};
 use plain_server::Answer;
 use std::alloc::{AllocError, Global};

@@ -4,7 +4,7 @@ ghost use Rattle.std.specs.Prelude.{◌≡◌, map, unwrap_or, option_to_list, s
 ghost use Rattle.std.specs.List.{flat_map};
 ghost use Rattle.plain_server.specs.Saying.{with_sets};
 
-use gho_schema::key_of;
+use gho_values::gho_schema::key_of;
 use gho_values::{Duplicate, Row, Rows, Sequence, Value};
 use std::alloc::{AllocError, Global};
 

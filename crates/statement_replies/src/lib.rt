@@ -5,6 +5,7 @@ mod changing;
 mod columns;
 pub mod laws;
 mod selecting;
+pub mod statement_work;
 mod telling;
 mod updating;
 

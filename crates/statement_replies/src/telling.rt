@@ -2,12 +2,12 @@
 
 ghost use Rattle.std.specs.Prelude.{◌≡◌, ◌∷◌, [], IfOk};
 ghost use Rattle.std.specs.List.{list_any};
-ghost use Rattle.gho_schema.specs.Tables.{clash};
+ghost use Rattle.gho_values.specs.GhoSchema.Tables.{clash};
 ghost use Rattle.event_codec.specs.declared.event.Change.TheVariants as changes;
 ghost use Rattle.plain_server.specs.declared.answer.Answer.TheVariants as answers;
 ghost use Rattle.plain_server.specs.declared.work.Work.TheVariants as works;
 ghost use Rattle.plain_server.specs.Saying.{tells};
-ghost use Rattle.statement_laws.specs.Covering.{IsOrderlyTable, IsSound};
+ghost use Rattle.plain_server.specs.StatementLaws.Covering.{IsOrderlyTable, IsSound};
 ghost use Rattle.statement_replies.specs.Told.{as_result};
 
 use crate::changing::{Told, deletes, only};

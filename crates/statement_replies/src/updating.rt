@@ -2,24 +2,24 @@
 
 ghost use Rattle.std.specs.Prelude.{◌≡◌, ◌++◌, ◌∷◌, [], not, IfOk, OnOk};
 ghost use Rattle.std.specs.List.{list_any};
-ghost use Rattle.gho_schema.specs.Rows.{key_places};
+ghost use Rattle.gho_values.specs.GhoSchema.Rows.{key_places};
 ghost use Rattle.event_codec.specs.declared.event.Change.TheVariants as changes;
 ghost use Rattle.plain_server.specs.declared.work.Work.TheVariants as works;
 ghost use Rattle.plain_server.specs.Rows.{rows_met, same_row};
 ghost use Rattle.plain_server.specs.Saying.{clashes_besides, updates, result_or_refusal, updated};
-ghost use Rattle.statement_laws.specs.Covering.{IsOrderlyTable, IsSound, SetsFit};
+ghost use Rattle.plain_server.specs.StatementLaws.Covering.{IsOrderlyTable, IsSound, SetsFit};
 ghost use Rattle.statement_replies.specs.Told.{as_result};
 ghost use Rattle.statement_replies.specs.Updating.{row_update, AreMet};
 ghost use Rattle.written_rows.specs.Written.{wrote};
 ghost use Rattle.written_rows.specs.Written as writes;
 
 use crate::changing::{Changes, Told, only};
-use alter_image::UnfitAt;
+use crate::statement_work::with_sets;
 use event_codec::Change;
+use gho_values::alter_image::UnfitAt;
 use gho_values::{Duplicate, Row, Sequence, Value};
 use plain_server::{Answer, ColumnSets, Reach};
 use statement_checks::{Checked, refuses, refuses_value};
-use statement_work::with_sets;
 use std::alloc::{AllocError, Global};
 use written_rows::{SeenTable, WrittenRows};
 

@@ -1,7 +1,7 @@
 //! Keys of rows, and rows in order of their keys.
 
 use case_lines::{CallFault, place_of, row_of, text_of};
-use gho_schema::{KeyedRows, Places, PutFault, key_of};
+use gho_values::gho_schema::{KeyedRows, Places, PutFault, key_of};
 use gho_values::{Sequence, Text, print_row};
 use std::alloc::Global;
 

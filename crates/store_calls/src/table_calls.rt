@@ -5,9 +5,9 @@
 use case_lines::{
     CallFault, are_same, place_of, row_of, say, say_difference, say_found, say_row, span_of,
 };
-use gho_schema::{Schema, key_of};
+use gho_values::gho_schema::{Schema, key_of};
 use gho_values::{Duplicate, Key, Row, Sequence, Text, Value, print_row};
-use row_pages::{SpanRows, Table};
+use paged_tables::row_pages::{SpanRows, Table};
 use row_store::{SpanRows as ListedRows, Table as ListedTable};
 use schema_text::{SchemaFault, read_schema};
 use std::alloc::{AllocError, Global};

@@ -1,2 +1,4 @@
 pub mod Outcomes
 pub mod SpanLocks
+pub mod OpenTxns
+pub mod KeptTxns

@@ -2,8 +2,8 @@
 use Rattle.std.specs.Prelude.{ℕ, List, Option, Some, None}
 use Rattle.row_store.specs.Databases.{StoredTable}
 use Rattle.txn_session.specs.Stored.{TableChanges}
-use Rattle.open_txns.specs.declared.txns.OpenTxn.{OpenTxn}
-use Rattle.kept_txns.specs.Kept.{IsReadyWrites}
+use Rattle.store_steps.specs.declared.open_txns.txns.OpenTxn.{OpenTxn}
+use Rattle.store_steps.specs.KeptTxns.Kept.{IsReadyWrites}
 
 -- *Made ready*: nothing, or changes of a table for which the session's open transaction and the table have room
 abbrev pub AreReady : List StoredTable → List OpenTxn → ℕ → Option TableChanges → Type 0

@@ -4,15 +4,15 @@ ghost use Rattle.std.specs.Prelude.{◌≡◌, ℕ, false, [], ◌∷◌, ◌++�
 ghost use Rattle.row_store.specs.Databases.{database, has_table, rename_tables, without_table, IsRenameFault};
 ghost use Rattle.plain_server.specs.States.{pair_names};
 ghost use Rattle.server_data.specs.Fitting.{NoneOf};
-ghost use Rattle.statement_laws.specs.Covering.{IsOrderlyTable};
-ghost use Rattle.open_txns.specs.declared.txns.OpenTxn.{OpenTxn};
-ghost use Rattle.open_txns.specs.Open.{written_of};
-ghost use Rattle.kept_txns.specs.Kept.{IsKept};
+ghost use Rattle.plain_server.specs.StatementLaws.Covering.{IsOrderlyTable};
+ghost use Rattle.store_steps.specs.declared.open_txns.txns.OpenTxn.{OpenTxn};
+ghost use Rattle.store_steps.specs.OpenTxns.Open.{written_of};
+ghost use Rattle.store_steps.specs.KeptTxns.Kept.{IsKept};
 
-use gho_schema::Schema;
+use gho_values::gho_schema::Schema;
 use gho_values::{Duplicate, Name};
 use paged_tables::Tables;
-use row_pages::Table;
+use paged_tables::row_pages::Table;
 use row_store::{AddFault, Pairs, RenameFault};
 use std::alloc::{AllocError, Global};
 

@@ -4,11 +4,11 @@ ghost use Rattle.std.specs.Prelude.{◌≡◌, ◌==◌, ℕ, false, [], List};
 ghost use Rattle.row_store.specs.Databases.{StoredTable, database};
 ghost use Rattle.plain_server.specs.Jobs.{after_events};
 ghost use Rattle.server_data.specs.Fitting.{EventsFit};
-ghost use Rattle.statement_laws.specs.Databases.{IsOrderly};
-ghost use Rattle.open_txns.specs.Open.{written_of};
-ghost use Rattle.kept_txns.specs.Kept.{IsKept, IsKeptWith};
+ghost use Rattle.plain_server.specs.StatementLaws.Databases.{IsOrderly};
+ghost use Rattle.store_steps.specs.OpenTxns.Open.{written_of};
+ghost use Rattle.store_steps.specs.KeptTxns.Kept.{IsKept, IsKeptWith};
 
-use open_txns::{OpenTxn, take_txn};
+use crate::open_txns::{OpenTxn, take_txn};
 use paged_tables::Tables;
 use txn_session::commit;
 

@@ -3,8 +3,10 @@
 
 mod defining;
 mod ending;
+pub mod kept_txns;
 mod looking;
 mod making_room;
+pub mod open_txns;
 
 pub use defining::{create_table, drop_table, rename_tables};
 pub use ending::{commit_txn, roll_back_txn};

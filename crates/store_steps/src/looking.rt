@@ -1,19 +1,19 @@
 //! What a session sees: the committed tables with what its open transaction wrote.
 
 ghost use Rattle.std.specs.Prelude.{◌≡◌, false, [], List, IfOk, IfSome};
-ghost use Rattle.gho_schema.specs.Clustering.{clustered_place};
+ghost use Rattle.gho_values.specs.GhoSchema.Clustering.{clustered_place};
 ghost use Rattle.event_codec.specs.declared.event.RowEvent.{RowEvent};
 ghost use Rattle.row_store.specs.Databases.{StoredTable, database, find_table};
 ghost use Rattle.plain_server.specs.Jobs.{after_events, row_needs, says};
 ghost use Rattle.plain_server.specs.Locking.{span_lock, span_needs};
 ghost use Rattle.plain_server.specs.Needing.{lock_on};
 ghost use Rattle.txn_session.specs.Premises.{HasSchema, IsOf, events_ready};
-ghost use Rattle.open_txns.specs.Open.{written_of};
-ghost use Rattle.kept_txns.specs.Kept.{IsKept};
+ghost use Rattle.store_steps.specs.OpenTxns.Open.{written_of};
+ghost use Rattle.store_steps.specs.KeptTxns.Kept.{IsKept};
 
-use gho_schema::{Schema, clustered_place};
+use crate::open_txns::{OpenTxn, txn_of};
+use gho_values::gho_schema::{Schema, clustered_place};
 use gho_values::{Duplicate, Name, Sequence, Span};
-use open_txns::{OpenTxn, txn_of};
 use paged_tables::Tables;
 use row_locks::{Lock, LockSet};
 use script_text::Statement;

@@ -4,11 +4,11 @@ ghost use Rattle.std.specs.Prelude.{◌≡◌, ◌==◌, ℕ, false, length, Lis
 ghost use Rattle.row_store.specs.Databases.{StoredTable, database};
 ghost use Rattle.txn_session.specs.Premises.{HasSchema, events_ready};
 ghost use Rattle.txn_session.specs.Stored.{HasRoom};
-ghost use Rattle.open_txns.specs.Open.{txn_of};
-ghost use Rattle.kept_txns.specs.Kept.{IsKept, IsKeptOn, IsReadyWrites};
+ghost use Rattle.store_steps.specs.OpenTxns.Open.{txn_of};
+ghost use Rattle.store_steps.specs.KeptTxns.Kept.{IsKept, IsKeptOn, IsReadyWrites};
 ghost use Rattle.store_steps.specs.Ready.{AreReady};
 
-use open_txns::{OpenTxn, events_open, is_open, open_txn, reserve_in};
+use crate::open_txns::{OpenTxn, events_open, is_open, open_txn, reserve_in};
 use paged_tables::Tables;
 use server_data::Told;
 use std::alloc::{AllocError, Global};

@@ -3,7 +3,7 @@
 ghost use Rattle.std.specs.Prelude.{◌≡◌, ◌++◌, OnOk};
 ghost use Rattle.table_lines.specs.Tables.{more_names, column_names, table_line, row_lines};
 
-use gho_schema::{Column, Schema};
+use gho_values::gho_schema::{Column, Schema};
 use gho_values::{Row, Text, print_row};
 use std::alloc::AllocError;
 

@@ -5,7 +5,7 @@ use Rattle.table_words.specs.declared.code.SchemaFault.{SchemaFault}
 use Rattle.table_words.specs.declared.code.SchemaFault.TheVariants as faults
 use Rattle.table_words.specs.declared.token.Token.{Token}
 use Rattle.table_words.specs.Listed.{with_more, gathered}
-use Rattle.schema_rules.specs.Results.{◌>>=◌}
+use Rattle.gho_values.specs.SchemaRules.Results.{◌>>=◌}
 use Rattle.table_words.specs.Reads.{Refuses}
 
 module _ {S X C : Type 0} (item : List Token → Result (Option (X × List Token)) C) (add : S → X → S) (so_far : S) (most i : ℕ) (words : List Token) (total : Result (S × List Token) C) where

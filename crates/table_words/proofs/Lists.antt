@@ -7,7 +7,7 @@ use Rattle.table_words.specs.declared.code.SchemaFault.TheVariants as faults
 use Rattle.table_words.specs.declared.token.Token.{Token}
 use Rattle.table_words.specs.Listed.{with_others, listed}
 use Rattle.table_words.specs.Pieces.{behind_sign}
-use Rattle.schema_rules.specs.Results.{◌>>=◌}
+use Rattle.gho_values.specs.SchemaRules.Results.{◌>>=◌}
 use Rattle.table_words.specs.Reads.{Refuses}
 
 -- the items that were read, and those that are still read

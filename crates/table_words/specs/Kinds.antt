@@ -8,7 +8,7 @@ use Rattle.table_words.specs.declared.kinds.KindWord.{KindWord}
 use Rattle.table_words.specs.declared.kinds.KindWord.TheVariants as words
 use Rattle.table_words.specs.declared.token.Token.{Token}
 use Rattle.table_words.specs.Pieces.{behind_keyword, behind_sign, sign_at, number_at}
-use Rattle.schema_rules.specs.Results.{◌>>=◌}
+use Rattle.gho_values.specs.SchemaRules.Results.{◌>>=◌}
 use Rattle.table_words.specs.Reads.{Read}
 use Rattle.table_words.specs.Scope.{mismatch}
 use Rattle.table_words.specs.Tokens.{is_keyword}

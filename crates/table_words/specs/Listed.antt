@@ -2,7 +2,7 @@
 use Rattle.std.specs.Prelude.{codes, ℕ, zero, suc, List, [], ◌∷◌, Option, Some, None, Result, Ok, Err}
 use Rattle.table_words.specs.declared.token.Token.{Token}
 use Rattle.table_words.specs.Pieces.{behind_sign}
-use Rattle.schema_rules.specs.Results.{◌>>=◌}
+use Rattle.gho_values.specs.SchemaRules.Results.{◌>>=◌}
 
 -- an item and those behind the comma that follows it, where one does
 abbrev pub with_others : {A C : Type 0} → (List Token → Result (List A × List Token) C) → A × List Token → Option (List Token) → Result (List A × List Token) C

@@ -4,7 +4,7 @@ use Rattle.std.specs.Option.{option_map}
 use Rattle.sql_words.specs.declared.word.WordClass.{WordClass}
 use Rattle.sql_words.specs.declared.word.WordClass.TheVariants as class
 use Rattle.sql_words.specs.Meaning.{number_value, written_text, written_bytes}
-use Rattle.gho_schema.specs.Names.{same_name}
+use Rattle.gho_values.specs.GhoSchema.Names.{same_name}
 use Rattle.table_words.specs.declared.literals.LiteralRef.{LiteralRef}
 use Rattle.table_words.specs.declared.literals.LiteralRef.TheVariants as refs
 

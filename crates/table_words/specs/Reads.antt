@@ -1,6 +1,6 @@
 -- Reading from the front on: what is read and the words behind it, or why the text is refused at the first word that doesn't fit.
 use Rattle.std.specs.Prelude.{◌≡◌, List, Result, Ok, Err}
-pub use Rattle.schema_rules.specs.Results.{◌>>=◌}
+pub use Rattle.gho_values.specs.SchemaRules.Results.{◌>>=◌}
 use Rattle.table_words.specs.declared.code.SchemaCode.{SchemaCode}
 use Rattle.table_words.specs.declared.code.SchemaFault.{SchemaFault}
 use Rattle.table_words.specs.declared.code.SchemaFault.TheVariants as faults

@@ -1,6 +1,6 @@
 -- Words of MySQL's CREATE TABLE that this program knows and doesn't take, and what a word that doesn't fit is refused with.
 use Rattle.std.specs.Prelude.{codes, ℕ, Bool, ◌&&◌, ◌||◌, if◌then◌else◌, List, [], ◌∷◌}
-use Rattle.gho_schema.specs.Names.{is_one_of}
+use Rattle.gho_values.specs.GhoSchema.Names.{is_one_of}
 use Rattle.table_words.specs.declared.code.SchemaCode.{SchemaCode}
 use Rattle.table_words.specs.declared.code.SchemaCode.TheVariants.{Syntax, Scope}
 use Rattle.table_words.specs.declared.token.Token.{Token}

@@ -6,7 +6,7 @@ use Rattle.sql_words.specs.declared.word.WordClass.TheVariants.{Name, Quoted, Nu
 use Rattle.sql_words.specs.declared.word.WordFault.{WordFault}
 use Rattle.sql_words.specs.declared.word.WordFault.TheVariants.{Unclosed, Odd, TooLong, Memory}
 use Rattle.sql_words.specs.Reading.{Reading, words_of}
-use Rattle.gho_schema.specs.Names.{same_name}
+use Rattle.gho_values.specs.GhoSchema.Names.{same_name}
 use Rattle.table_words.specs.declared.token.Token.{Token}
 use Rattle.table_words.specs.declared.tokens.TextWords.{TextWords}
 

@@ -3,7 +3,7 @@
 ghost use Rattle.std.specs.Prelude.{◌≡◌, option_map};
 ghost use Rattle.table_words.specs.Literals.{literal, null_literal, written_literal};
 
-use gho_schema::same_name;
+use gho_values::gho_schema::same_name;
 use sql_words::{Word, WordClass};
 
 /// A literal as it is written.

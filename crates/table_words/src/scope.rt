@@ -5,7 +5,7 @@ ghost use Rattle.table_words.specs.Scope.{is_constraint, is_extension, is_fracti
 
 use crate::code::SchemaCode;
 use crate::token::Token;
-use gho_schema::same_name;
+use gho_values::gho_schema::same_name;
 
 fn is_constraint(word: &[u8]) -> bool
     ensures { result ≡ is_constraint word.now }

@@ -2,8 +2,8 @@
 
 ghost use Rattle.std.specs.Prelude.{◌≡◌};
 
-use gho_schema::same_name;
 use gho_values::Chars;
+use gho_values::gho_schema::same_name;
 use sql_words::{Word, WordClass};
 
 /// A word that owns its text.

@@ -1,7 +1,7 @@
 //! What an altered table's columns store of a row.
 
-use alter_image::{ColumnMap, ImageFault, MapColumn, Origin, image};
 use case_lines::{CallFault, kind_of, place_of, row_of, value_of};
+use gho_values::alter_image::{ColumnMap, ImageFault, MapColumn, Origin, image};
 use gho_values::{Sequence, Text, print_row};
 use std::alloc::Global;
 

@@ -1,8 +1,8 @@
 //! Texts of CREATE TABLE.
 
 use case_lines::CallFault;
-use gho_schema::Schema;
 use gho_values::Text;
+use gho_values::gho_schema::Schema;
 use schema_print::print_schema;
 use schema_text::{SchemaFault, read_schema};
 use std::alloc::{AllocError, Global};

@@ -3,9 +3,9 @@ use Rattle.std.proofs.Common.{◌≡◌, refl, true}
 use Rattle.std.specs.Prelude.{is_some}
 use Rattle.plan_words.specs.PlanData.{PlanData}
 use Rattle.migration_program.specs.Setups.{setup_call}
-use Rattle.tool_setup.specs.declared.setup.Setup.{Setup}
-use Rattle.tool_setup.specs.declared.setup.Setup.TheVariants.{Listing, Clearing, MakingLog, MakingGhost, Marking, Reaching}
-use Rattle.tool_setup.specs.Meanings.{setup_of}
+use Rattle.migration_program.specs.declared.tool_setup.setup.Setup.{Setup}
+use Rattle.migration_program.specs.declared.tool_setup.setup.Setup.TheVariants.{Listing, Clearing, MakingLog, MakingGhost, Marking, Reaching}
+use Rattle.migration_program.specs.ToolSetup.Meanings.{setup_of}
 
 -- until it is over it has a call
 pub setup_calls : (plan : PlanData) (setup : Setup) → is_some (setup_call plan (setup_of setup)) ≡ true

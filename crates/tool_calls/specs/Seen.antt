@@ -2,7 +2,7 @@
 use Rattle.std.specs.Prelude.{◌≡◌, ℕ, List, [], ◌∷◌}
 use Rattle.plain_server.specs.States.{State, load}
 use Rattle.changelog_table.specs.ToolNames.{log_name}
-use Rattle.tool_state.specs.declared.tool.Tool.{Tool}
+use Rattle.tool_calls.specs.declared.tool_state.tool.Tool.{Tool}
 
 -- *Seen*: the names are those whose events the applier reads, and so many transactions of clients are open
 pub record IsSeen (state : State) (tool : Tool) (tables : List (List ℕ)) (seen : ℕ) : Type 0 where

@@ -1,24 +1,24 @@
 //! What the tool asks next.
 
 ghost use Rattle.std.specs.Prelude.{◌≡◌, slice_get, None, if◌then◌else◌, IfOk};
-ghost use Rattle.journal_words.specs.Keeping.{words_of};
-ghost use Rattle.journal_words.specs.Sessions.{live_session};
+ghost use Rattle.migration_program.specs.JournalWords.Keeping.{words_of};
+ghost use Rattle.migration_program.specs.JournalWords.Sessions.{live_session};
 ghost use Rattle.migration_program.specs.Programs.{rolls_back, copy_call, apply_call, lock_call, tool_call, calls, commands, tool_asks};
 ghost use Rattle.migration_program.specs.Setups.{setup_call};
 ghost use Rattle.migration_program.specs.Tools.{is_reverting};
-ghost use Rattle.tool_setup.specs.Meanings.{setup_of};
-ghost use Rattle.tool_state.specs.Meanings.{work_of, course_of, tool_of};
+ghost use Rattle.migration_program.specs.ToolSetup.Meanings.{setup_of};
+ghost use Rattle.tool_calls.specs.ToolState.Meanings.{work_of, course_of, tool_of};
 ghost use Rattle.tool_calls.specs.Seen.{IsSeen};
 
 use crate::sight::Sight;
-use cutover_core::Role;
+use crate::tool_state::Tool;
+use migration_program::cutover_core::Role;
+use migration_program::tool_setup::Setup;
 use plain_server::{Asked, Request};
 use plan_words::Plan;
 use script_text::Actor;
 use serving::Serve;
 use std::alloc::{AllocError, Global};
-use tool_setup::Setup;
-use tool_state::Tool;
 
 fn calls(request: Option<Request>) -> Option<Asked>
     ensures { result ≡ calls request }

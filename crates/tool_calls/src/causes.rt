@@ -1,21 +1,21 @@
 //! How the migration ended, and why.
 
 ghost use Rattle.std.specs.Prelude.{◌≡◌, if◌then◌else◌, IfOk};
-ghost use Rattle.gho_schema.specs.Rows.{key_places};
+ghost use Rattle.gho_values.specs.GhoSchema.Rows.{key_places};
 ghost use Rattle.plain_server.specs.declared.outcome.Verdict.TheVariants as verdicts;
 ghost use Rattle.plan_words.specs.PlanData.{old_schema};
 ghost use Rattle.migration_program.specs.Verdicts.{column_at, copy_key, apply_key, cause_of, reverted_by};
-ghost use Rattle.tool_state.specs.Meanings.{reason_of, course_of, tool_of};
+ghost use Rattle.tool_calls.specs.ToolState.Meanings.{reason_of, course_of, tool_of};
 
-use event_applier::name_at;
+use crate::tool_state::{Reason, Tool, Tries};
 use gho_values::{Key, Name, Sequence};
+use migration_program::event_applier::name_at;
 use plain_server::{Cause, Entry, Numbers, Verdict};
 use plan_words::Plan;
 use std::alloc::{AllocError, Global};
-use tool_state::{Reason, Tool, Tries};
 
 /// The name of the new column at this place.
-#[tactic(auto, using(tool_setup::proofs::Altered::schema_is))]
+#[tactic(auto, using(migration_program::proofs::ToolSetup::Altered::schema_is))]
 fn column_at(alloc: Global, plan: &Plan, place: u32) -> Result<Name, AllocError>
     ensures { IfOk result (λ name. name ≡ column_at plan.now place) }
 {

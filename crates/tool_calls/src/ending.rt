@@ -3,9 +3,9 @@
 ghost use Rattle.std.specs.Prelude.{◌≡◌};
 ghost use Rattle.plain_server.specs.States.{State, is_tool_busy};
 ghost use Rattle.migration_program.specs.Verdicts.{is_calm, is_finished, is_over};
-ghost use Rattle.tool_state.specs.Meanings.{course_of, tool_of};
+ghost use Rattle.tool_calls.specs.ToolState.Meanings.{course_of, tool_of};
 
-use tool_state::Tool;
+use crate::tool_state::Tool;
 
 /// Whether no attempt stands.
 fn is_calm(tool: &Tool) -> bool

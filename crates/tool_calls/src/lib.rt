@@ -6,6 +6,7 @@ mod causes;
 mod ending;
 mod ready;
 mod sight;
+pub mod tool_state;
 
 pub use calling::commands;
 pub use causes::verdict;

@@ -1,13 +1,13 @@
 //! Whether the tool asks something next. Nothing here takes memory.
 
 ghost use Rattle.std.specs.Prelude.{◌≡◌, is_some};
-ghost use Rattle.journal_words.specs.Sessions.{live_session};
+ghost use Rattle.migration_program.specs.JournalWords.Sessions.{live_session};
 ghost use Rattle.migration_program.specs.Programs.{copy_call, apply_call, lock_call, tool_call, tool_asks};
-ghost use Rattle.tool_state.specs.Meanings.{work_of, course_of, tool_of};
+ghost use Rattle.tool_calls.specs.ToolState.Meanings.{work_of, course_of, tool_of};
 ghost use Rattle.tool_calls.specs.Seen.{IsSeen};
 
 use crate::sight::Sight;
-use cutover_core::Role;
+use migration_program::cutover_core::Role;
 use script_text::Actor;
 use serving::Serve;
 

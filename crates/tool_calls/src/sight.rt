@@ -3,14 +3,14 @@
 ghost use Rattle.std.specs.Prelude.{◌≡◌};
 ghost use Rattle.migration_program.specs.Operators.{is_throttled};
 ghost use Rattle.migration_program.specs.Programs.{waits, in_transaction, unread_in, is_held, may_read, may_begin};
-ghost use Rattle.tool_state.specs.Meanings.{work_of, tool_of};
+ghost use Rattle.tool_calls.specs.ToolState.Meanings.{work_of, tool_of};
 ghost use Rattle.tool_calls.specs.Seen.{IsSeen};
 
+use crate::tool_state::Tool;
 use gho_values::Names;
 use plain_server::Entry;
 use plan_words::Plan;
 use serving::Serve;
-use tool_state::Tool;
 
 /// What the tool looks at before it asks: its plan, its turns so far, its own record, and the server.
 #[derive(Drop)]

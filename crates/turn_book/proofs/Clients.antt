@@ -11,7 +11,7 @@ use Rattle.script_text.specs.declared.script.ScriptLine.{ScriptLine}
 use Rattle.plain_server.specs.declared.entry.Entry.{Entry}
 use Rattle.plain_server.specs.Entries.{same_actor}
 use Rattle.plan_words.specs.PlanData.{PlanData}
-use Rattle.journal_words.specs.Clients.{Reached, Became, Nothing, Waits, Marked, Broken, new_client, script_of, client_at, client_asks, client_over, all_over, line_asks, client_after, became, after_turn}
+use Rattle.migration_program.specs.JournalWords.Clients.{Reached, Became, Nothing, Waits, Marked, Broken, new_client, script_of, client_at, client_asks, client_over, all_over, line_asks, client_after, became, after_turn}
 use Rattle.actor_seats.specs.declared.client_turns.seat.ClientSeat.{ClientSeat}
 use Rattle.actor_seats.specs.ClientTurns.Seats.{IsReached, asks_so}
 use Rattle.turn_book.specs.Books.{free_client, AreReached}

@@ -14,22 +14,22 @@ use Rattle.plain_server.specs.declared.entry.Entry.{Entry}
 use Rattle.plain_server.specs.Entries.{same_actor}
 use Rattle.plain_server.specs.States.{State, load}
 use Rattle.plan_words.specs.PlanData.{PlanData}
-use Rattle.journal_words.specs.Clients.{script_of}
-use Rattle.journal_words.specs.Journals.{after_entry}
-use Rattle.journal_words.specs.Sessions.{live_session, session_left}
-use Rattle.journal_words.specs.Histories.{history, entry_adds, is_alter}
+use Rattle.migration_program.specs.JournalWords.Clients.{script_of}
+use Rattle.migration_program.specs.JournalWords.Journals.{after_entry}
+use Rattle.migration_program.specs.JournalWords.Sessions.{live_session, session_left}
+use Rattle.migration_program.specs.JournalWords.Histories.{history, entry_adds, is_alter}
 use Rattle.migration_program.specs.Orders.{actors}
 use Rattle.changelog_table.specs.ToolNames.{log_name}
 use Rattle.migration_program.specs.Tools as program
 use Rattle.migration_program.specs.Tools.{Moment, new_tool, took, after_turn, moment}
-use Rattle.tool_state.specs.declared.tool.Tool.{Tool}
-use Rattle.tool_state.specs.Meanings.{tool_of}
-use Rattle.tool_state.specs.Sound.{IsSound}
+use Rattle.tool_calls.specs.declared.tool_state.tool.Tool.{Tool}
+use Rattle.tool_calls.specs.ToolState.Meanings.{tool_of}
+use Rattle.tool_calls.specs.ToolState.Sound.{IsSound}
 use Rattle.actor_seats.specs.Seats.{seat_at, seat_after}
 use Rattle.actor_seats.proofs.More.{live_more, seats_more}
 use Rattle.history_laws.proofs.Actors.{same_actor_is}
-use Rattle.run_laws.specs.Counting.{busy_count}
-use Rattle.run_laws.proofs.Taking.{moment_more, turns_are}
+use Rattle.history_laws.specs.RunLaws.Counting.{busy_count}
+use Rattle.history_laws.proofs.RunLaws.Taking.{moment_more, turns_are}
 use Rattle.turn_book.specs.declared.book.Book.{Book}
 use Rattle.turn_book.specs.Books.{is_planned, free_seat, free_client, AreReached, IsBook}
 use Rattle.turn_book.proofs.Clients.{clients_begin}

@@ -13,10 +13,10 @@ use Rattle.script_text.specs.declared.script.ScriptLine.{ScriptLine}
 use Rattle.plain_server.specs.declared.entry.Entry.{Entry}
 use Rattle.plain_server.specs.Entries.{same_actor, is_cut}
 use Rattle.plan_words.specs.PlanData.{PlanData}
-use Rattle.journal_words.specs.Clients.{script_of}
-use Rattle.journal_words.specs.Journals.{turns_of}
-use Rattle.journal_words.specs.Histories.{request_waiting, renames_away}
-use Rattle.journal_words.specs.Sessions.{live_session}
+use Rattle.migration_program.specs.JournalWords.Clients.{script_of}
+use Rattle.migration_program.specs.JournalWords.Journals.{turns_of}
+use Rattle.migration_program.specs.JournalWords.Histories.{request_waiting, renames_away}
+use Rattle.migration_program.specs.JournalWords.Sessions.{live_session}
 use Rattle.migration_program.specs.Orders.{actors, clients_from}
 use Rattle.actor_seats.specs.declared.seat.ActorSeat.{ActorSeat}
 use Rattle.actor_seats.specs.Seats.{seat_at}

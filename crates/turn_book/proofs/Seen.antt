@@ -7,13 +7,13 @@ use Rattle.plan_words.specs.PlanData.{PlanData}
 use Rattle.migration_program.specs.Tools as program
 use Rattle.migration_program.specs.Tools.{moment}
 use Rattle.migration_program.proofs.ProgramLaws.Machines.{CourseIsNamed, named}
-use Rattle.tool_setup.specs.declared.setup.Setup.{Setup}
-use Rattle.tool_state.specs.declared.tool.Work.{Work}
-use Rattle.tool_state.specs.declared.tool.Tool.{Tool}
-use Rattle.tool_state.specs.Meanings.{work_of, course_in, course_of, tool_of}
-use Rattle.tool_state.specs.Sound.{IsSound, IsFresh}
+use Rattle.migration_program.specs.declared.tool_setup.setup.Setup.{Setup}
+use Rattle.tool_calls.specs.declared.tool_state.tool.Work.{Work}
+use Rattle.tool_calls.specs.declared.tool_state.tool.Tool.{Tool}
+use Rattle.tool_calls.specs.ToolState.Meanings.{work_of, course_in, course_of, tool_of}
+use Rattle.tool_calls.specs.ToolState.Sound.{IsSound, IsFresh}
 use Rattle.tool_calls.specs.Seen.{IsSeen}
-use Rattle.run_laws.specs.Counting.{numbered, IsBehind}
+use Rattle.history_laws.specs.RunLaws.Counting.{numbered, IsBehind}
 use Rattle.turn_book.specs.declared.book.Book.{Book}
 use Rattle.turn_book.specs.Books.{IsBook}
 

@@ -9,18 +9,18 @@ use Rattle.plain_server.specs.Entries.{same_actor}
 use Rattle.plain_server.specs.States.{State, load}
 use Rattle.changelog_table.specs.ToolNames.{log_name}
 use Rattle.plan_words.specs.PlanData.{PlanData}
-use Rattle.journal_words.specs.Sessions.{live_session}
-use Rattle.journal_words.specs.Clients.{script_of, client_at}
-use Rattle.journal_words.specs.Histories.{history, is_alter}
+use Rattle.migration_program.specs.JournalWords.Sessions.{live_session}
+use Rattle.migration_program.specs.JournalWords.Clients.{script_of, client_at}
+use Rattle.migration_program.specs.JournalWords.Histories.{history, is_alter}
 use Rattle.migration_program.specs.Tools.{moment}
 use Rattle.migration_program.specs.Orders.{actors}
-use Rattle.tool_state.specs.Meanings.{tool_of}
-use Rattle.tool_state.specs.Sound.{HasRoom, IsSound}
+use Rattle.tool_calls.specs.ToolState.Meanings.{tool_of}
+use Rattle.tool_calls.specs.ToolState.Sound.{HasRoom, IsSound}
 use Rattle.actor_seats.specs.declared.seat.ActorSeat.{ActorSeat}
 use Rattle.actor_seats.specs.Seats.{seat_at}
 use Rattle.actor_seats.specs.declared.client_turns.seat.ClientSeat.{ClientSeat}
 use Rattle.actor_seats.specs.ClientTurns.Seats.{IsReached}
-use Rattle.run_laws.specs.Counting.{busy_count}
+use Rattle.history_laws.specs.RunLaws.Counting.{busy_count}
 use Rattle.turn_book.specs.declared.book.Book.{Book}
 
 -- the actor's place in the fixed order

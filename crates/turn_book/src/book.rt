@@ -5,7 +5,7 @@ use actor_seats::client_turns::ClientSeat;
 use gho_values::Names;
 use plain_server::Entry;
 use plan_words::Plan;
-use tool_state::Tool;
+use tool_calls::tool_state::Tool;
 
 /// The journal of a run of a plan, with what is kept of it.
 #[derive(Drop)]

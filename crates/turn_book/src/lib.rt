@@ -2,6 +2,7 @@
 #![tactic(auto)]
 
 mod book;
+pub mod book_turns;
 mod losses;
 mod opening;
 mod program;

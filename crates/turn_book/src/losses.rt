@@ -1,7 +1,7 @@
 //! Which losses of sessions are due. Nothing here takes memory.
 
 ghost use Rattle.std.specs.Prelude.{◌≡◌, true};
-ghost use Rattle.journal_words.specs.Keeping.{cut_by, cut_among, cut_due, side_due};
+ghost use Rattle.migration_program.specs.JournalWords.Keeping.{cut_by, cut_among, cut_due, side_due};
 ghost use Rattle.turn_book.specs.Books.{is_planned, IsBook};
 
 use crate::book::Book;
@@ -30,7 +30,7 @@ impl Book<'_> {
     }
 
     /// The actor whose session is lost between calls in the next turn.
-    #[tactic(auto, unfolding(journal_words::specs::Keeping::cut_among))]
+    #[tactic(auto, unfolding(migration_program::specs::JournalWords::Keeping::cut_among))]
     pub fn cut_due(&self) -> Option<Actor>
         requires { IsBook self.now.plan.now self.now.journal.items self.now }
         ensures { result ≡ cut_due self.now.plan.now self.now.journal.items }

@@ -14,7 +14,7 @@ use gho_values::{Duplicate, Name, Names, Sequence};
 use plan_words::Plan;
 use script_text::Actor;
 use std::alloc::{AllocError, Global};
-use tool_state::Tool;
+use tool_calls::tool_state::Tool;
 
 /// The seat of an actor before the first turn.
 fn free_seat(actor: Actor) -> ActorSeat

@@ -2,12 +2,12 @@
 
 ghost use Rattle.std.specs.Prelude.{◌≡◌, is_some, IfOk};
 ghost use Rattle.plan_words.specs.PlanData.{PlanData};
-ghost use Rattle.journal_words.specs.Clients.{clients_over};
+ghost use Rattle.migration_program.specs.JournalWords.Clients.{clients_over};
 ghost use Rattle.migration_program.specs.Tools.{moment};
 ghost use Rattle.migration_program.specs.Programs.{tool_asks, given};
 ghost use Rattle.migration_program.specs.Orders.{is_ready};
 ghost use Rattle.migration_program.specs.Verdicts.{is_over, has_ended, verdict_of};
-ghost use Rattle.run_laws.specs.Counting.{IsBehind};
+ghost use Rattle.history_laws.specs.RunLaws.Counting.{IsBehind};
 ghost use Rattle.turn_book.specs.Books.{IsBook};
 
 use crate::book::Book;
@@ -97,7 +97,7 @@ impl Book<'_> {
     }
 
     /// Whether every client has gone through its script or lost its session. It takes no memory.
-    #[tactic(auto, using(crate::proofs::Clients::same_count, crate::proofs::Clients::reached_here), unfolding(journal_words::specs::Clients::all_over))]
+    #[tactic(auto, using(crate::proofs::Clients::same_count, crate::proofs::Clients::reached_here), unfolding(migration_program::specs::JournalWords::Clients::all_over))]
     fn clients_over(&self) -> bool
         requires { IsBook self.now.plan.now self.now.journal.items self.now }
         ensures { result ≡ clients_over self.now.plan.now self.now.journal.items }
@@ -112,7 +112,7 @@ impl Book<'_> {
     }
 
     /// Whether the run has ended: the tool is over, and every client. It takes no memory.
-    #[tactic(auto, using(run_laws::proofs::Tallies::busy_counted), unfolding(migration_program::specs::Verdicts::has_ended))]
+    #[tactic(auto, using(history_laws::proofs::RunLaws::Tallies::busy_counted), unfolding(migration_program::specs::Verdicts::has_ended))]
     pub fn has_ended(&self) -> bool
         requires { IsBook self.now.plan.now self.now.journal.items self.now }
         ensures { result ≡ has_ended self.now.plan.now self.now.journal.items }

@@ -1,8 +1,8 @@
 //! What the book says of the actors.
 
 ghost use Rattle.std.specs.Prelude.{◌≡◌, option_map, is_some, IfOk};
-ghost use Rattle.journal_words.specs.Clients.{script_of, client_asks};
-ghost use Rattle.journal_words.specs.Sessions.{live_session};
+ghost use Rattle.migration_program.specs.JournalWords.Clients.{script_of, client_asks};
+ghost use Rattle.migration_program.specs.JournalWords.Sessions.{live_session};
 ghost use Rattle.turn_book.specs.Books.{place_of, seat_in, session_of, turns_in, IsBook};
 
 use crate::book::Book;

@@ -1,7 +1,7 @@
 -- Reading words one after the other, as a loop does.
 use Rattle.std.proofs.Common.{◌≡◌, ℕ, ◌+◌, ◌<◌, ◌≤◌, List, [], ◌∷◌, ◌++◌, length, drop, map, get_or, Result, Ok, Err, Bor, refl, sym, ap, ◌∙◌, append_assoc}
 use Rattle.std.proofs.lemmas.List.{append-nil, drop_all, drop_more}
-use Rattle.schema_rules.specs.Results.{◌>>=◌}
+use Rattle.gho_values.specs.SchemaRules.Results.{◌>>=◌}
 use Rattle.plan_words.specs.declared.runs.ActorRun.{ActorRun}
 use Rattle.turn_reader.specs.declared.fault.TurnFault.{TurnFault}
 use Rattle.turn_reader.specs.declared.fault.TurnFault.TheVariants as faults

@@ -1,7 +1,7 @@
 -- *Turns*: the order of turns that a text asks for. This project's rule.
 use Rattle.std.specs.Prelude.{ℕ, ◌+◌, ◌-◌, ◌^◌, min, if◌then◌else◌, List, [], ◌∷◌, Option, Some, None, Result, Ok}
 use Rattle.std.specs.List.{sum_by}
-use Rattle.schema_rules.specs.Results.{◌>>=◌}
+use Rattle.gho_values.specs.SchemaRules.Results.{◌>>=◌}
 use Rattle.script_text.specs.declared.actor.Actor.{Actor}
 use Rattle.plan_words.specs.declared.runs.ActorRun.{ActorRun}
 use Rattle.turn_reader.specs.declared.fault.TurnRefusal.{TurnRefusal}

@@ -6,7 +6,7 @@ use Rattle.std.proofs.lemmas.List.Sums.{sum_by-cons}
 use Rattle.std.proofs.lemmas.Str.{IsCharBoundary-start}
 use Rattle.std.specs.Prelude.{IsTrue, ◌↔◌}
 use Rattle.std.specs.Str.{IsUtf8}
-use Rattle.schema_rules.specs.Limits.{is_column_name, is_name_length}
+use Rattle.gho_values.specs.SchemaRules.Limits.{is_column_name, is_name_length}
 use Rattle.gho_values.specs.declared.value.Value.{Value}
 use Rattle.gho_values.specs.declared.value.Value.TheVariants.{Null, Num, Text, Blob}
 use Rattle.gho_values.specs.Storing.{character_count}

@@ -6,8 +6,8 @@ ghost use Rattle.event_codec.specs.Encoding.{body_of, columns_of, value_bytes, v
 ghost use Rattle.txn_costs.specs.Fitting.{are_alike, has_columns, is_column_value, is_encodable, is_event_name};
 
 use event_codec::{Change, RowEvent};
+use gho_values::schema_rules::is_column_name;
 use gho_values::{Name, Value};
-use schema_rules::is_column_name;
 
 /// Whether an event's table may have this name.
 fn is_event_name(name: &Name) -> bool

@@ -1,7 +1,7 @@
 -- A change of a table is done to the tables of a database.
 use Rattle.std.proofs.Common.{◌≡◌, ℕ, Bool, true, false, List, [], ◌∷◌, cond, Some, refl, sym, ap, ◌∙◌}
-use Rattle.gho_schema.specs.Rows.{key_of, key_places}
-use Rattle.gho_schema.specs.Tables.{Ascends}
+use Rattle.gho_values.specs.GhoSchema.Rows.{key_of, key_places}
+use Rattle.gho_values.specs.GhoSchema.Tables.{Ascends}
 use Rattle.event_codec.specs.declared.event.Change.TheVariants.{Write, Update, Delete}
 use Rattle.row_store.specs.Databases.{TableRows, Database, find_table, is_named, with_change, put_in_table, put_row, remove_from_table, remove_row, NamesDiffer, IsNewIn}
 use Rattle.row_store.proofs.Orders.{Row}
@@ -9,7 +9,7 @@ use Rattle.row_store.proofs.ChangedTables.{new_put}
 use Rattle.row_store.proofs.NamedTables.{no_change, none_behind}
 use Rattle.plain_server.specs.Rows.{stands, change_rows}
 use Rattle.plain_server.specs.Jobs.{change_table}
-use Rattle.statement_laws.proofs.OneRow.{same_removal}
+use Rattle.plain_server.proofs.StatementLaws.OneRow.{same_removal}
 
 -- two changes that do the same to the one table of the name
 same_first : (name : List ℕ) (f g : TableRows → TableRows) (table found : TableRows) (tables : Database) (b : Bool) → is_named name table ≡ b → NamesDiffer (table ∷ tables) → cond b (Some table) (find_table name tables) ≡ Some found → f found ≡ g found

@@ -4,13 +4,13 @@ use Rattle.std.specs.Prelude.{IfSome}
 use Rattle.std.specs.Option.{option_map}
 use Rattle.std.specs.List.{AllByRecursion}
 use Rattle.std.specs.Str.{bytes_eq}
-use Rattle.gho_schema.specs.declared.schema.Schema.{Schema}
-use Rattle.gho_schema.specs.Rows.{key_places}
+use Rattle.gho_values.specs.declared.gho_schema.schema.Schema.{Schema}
+use Rattle.gho_values.specs.GhoSchema.Rows.{key_places}
 use Rattle.event_codec.specs.declared.event.Change.{Change}
 use Rattle.row_store.specs.Databases.{TableRows, Database, find_table, with_change}
 use Rattle.plain_server.specs.Jobs.{change_table}
-use Rattle.statement_laws.proofs.Tests.{are_same}
-use Rattle.statement_laws.proofs.Finding.{change_if, found_after}
+use Rattle.plain_server.proofs.StatementLaws.Tests.{are_same}
+use Rattle.plain_server.proofs.StatementLaws.Finding.{change_if, found_after}
 use Rattle.written_rows.specs.Stored.{StoredWrites}
 use Rattle.txn_session.specs.declared.keyed.KeyedEvent.{KeyedEvent}
 use Rattle.txn_session.specs.Events.{keyed}

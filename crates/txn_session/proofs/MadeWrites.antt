@@ -1,7 +1,7 @@
 -- What is made ready of changes.
 use Rattle.std.proofs.Common.{◌≡◌, ℕ, List, [], ◌∷◌, map, refl, sym, ap, ◌∙◌, subst}
-use Rattle.gho_schema.specs.declared.schema.Schema.{Schema}
-use Rattle.gho_schema.specs.Rows.{key_places}
+use Rattle.gho_values.specs.declared.gho_schema.schema.Schema.{Schema}
+use Rattle.gho_values.specs.GhoSchema.Rows.{key_places}
 use Rattle.event_codec.specs.declared.event.Change.{Change}
 use Rattle.row_store.proofs.Orders.{Row}
 use Rattle.plain_server.specs.Jobs.{events_of}

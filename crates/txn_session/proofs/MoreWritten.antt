@@ -4,12 +4,12 @@ use Rattle.std.proofs.lemmas.List.{map-append}
 use Rattle.std.proofs.lemmas.List.Elements.{filter-append}
 use Rattle.std.specs.List.{AllByRecursion}
 use Rattle.std.specs.Str.{bytes_eq}
-use Rattle.gho_schema.specs.declared.schema.Schema.{Schema}
-use Rattle.gho_schema.specs.Rows.{key_places}
+use Rattle.gho_values.specs.declared.gho_schema.schema.Schema.{Schema}
+use Rattle.gho_values.specs.GhoSchema.Rows.{key_places}
 use Rattle.event_codec.specs.declared.event.Change.{Change}
 use Rattle.event_codec.specs.declared.event.RowEvent.{RowEvent}
 use Rattle.plain_server.specs.Jobs.{events_of}
-use Rattle.statement_laws.proofs.Tests.{are_same}
+use Rattle.plain_server.proofs.StatementLaws.Tests.{are_same}
 use Rattle.written_rows.specs.Stored.{StoredWrites}
 use Rattle.txn_session.specs.declared.keyed.KeyedEvent.{KeyedEvent}
 use Rattle.txn_session.specs.Events.{changes_in, keyed}

@@ -1,13 +1,13 @@
 -- What was written represents changes: none at first, those of one statement, and those of a later one behind earlier ones.
 use Rattle.std.proofs.Common.{ℕ, List, [], ◌∷◌, ◌++◌, sym, ap, ◌∙◌}
-use Rattle.gho_schema.specs.Tables.{Ascends}
+use Rattle.gho_values.specs.GhoSchema.Tables.{Ascends}
 use Rattle.event_codec.specs.declared.event.Change.{Change}
 use Rattle.row_store.proofs.Orders.{Row}
 use Rattle.plain_server.specs.Rows.{change_rows, change_all}
 use Rattle.written_rows.specs.Written.{Written, nothing, seen, wrote_all, written_over}
 use Rattle.written_rows.specs.Fitting.{AllFit}
 use Rattle.written_rows.proofs.SeenChanges.{is_nothing, is_wrote_all, is_over, changes_seen, later_over}
-use Rattle.statement_laws.proofs.Orderly.{change_all-append}
+use Rattle.plain_server.proofs.StatementLaws.Orderly.{change_all-append}
 use Rattle.txn_session.specs.Shown.{Represents}
 
 pub represents_all : (places : List ℕ) (changes : List Change) → Represents places changes (wrote_all places changes nothing)

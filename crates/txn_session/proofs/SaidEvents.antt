@@ -1,15 +1,15 @@
 -- What is said fits the tables on which it is said.
 use Rattle.std.proofs.Common.{◌≡◌, ℕ, List, [], ◌∷◌, Option, Some, None, refl, sym, ap, ◌∙◌, subst}
 use Rattle.std.specs.Option.{option_map}
-use Rattle.gho_schema.specs.Rows.{key_places}
+use Rattle.gho_values.specs.GhoSchema.Rows.{key_places}
 use Rattle.event_codec.specs.declared.event.Change.{Change}
 use Rattle.row_store.specs.Databases.{TableRows, Database, find_table, with_change}
 use Rattle.row_store.proofs.ChangedTables.{change_found}
 use Rattle.plain_server.specs.Jobs.{Job, events_of, result_in, job_says, job_of, change_table}
 use Rattle.plain_server.specs.Saying.{tells}
-use Rattle.statement_laws.specs.Covering.{IsOrderlyTable, IsSound}
-use Rattle.statement_laws.specs.Databases.{WhereFound}
-use Rattle.statement_laws.proofs.Stables.{statement_sound}
+use Rattle.plain_server.specs.StatementLaws.Covering.{IsOrderlyTable, IsSound}
+use Rattle.plain_server.specs.StatementLaws.Databases.{WhereFound}
+use Rattle.plain_server.proofs.StatementLaws.Stables.{statement_sound}
 use Rattle.written_rows.specs.Fitting.{AllFit}
 use Rattle.server_data.specs.Fitting.{FitsIn, EventsFit}
 use Rattle.statement_replies.proofs.FittingChanges.{told_fit}

@@ -2,9 +2,9 @@
 use Rattle.std.proofs.Common.{◌≡◌, ℕ, List, [], Option, Some, None, refl, sym, ap, ◌∙◌, subst}
 use Rattle.std.specs.Prelude.{IfSome}
 use Rattle.std.specs.Option.{option_map}
-use Rattle.gho_schema.specs.declared.schema.Schema.{Schema}
-use Rattle.gho_schema.specs.Rows.{key_places}
-use Rattle.gho_schema.specs.Tables.{Ascends}
+use Rattle.gho_values.specs.declared.gho_schema.schema.Schema.{Schema}
+use Rattle.gho_values.specs.GhoSchema.Rows.{key_places}
+use Rattle.gho_values.specs.GhoSchema.Tables.{Ascends}
 use Rattle.event_codec.specs.declared.event.Change.{Change}
 use Rattle.event_codec.specs.declared.event.RowEvent.{RowEvent}
 use Rattle.row_store.specs.Databases.{TableRows, Database, find_table}
@@ -15,7 +15,7 @@ use Rattle.plain_server.specs.Checking.{work_of}
 use Rattle.plain_server.specs.Needing.{needs}
 use Rattle.plain_server.specs.Saying.{tells}
 use Rattle.plain_server.specs.Jobs.{table_of, job_of, result_of, result_in, needs_in, job_says, job_needs, says, row_needs, after_events}
-use Rattle.statement_laws.specs.Covering.{IsOrderlyTable}
+use Rattle.plain_server.specs.StatementLaws.Covering.{IsOrderlyTable}
 use Rattle.written_rows.specs.Written.{Written, nothing, wrote_all}
 use Rattle.written_rows.specs.Stored.{StoredWrites}
 use Rattle.txn_session.specs.Events.{changes_in}

@@ -1,15 +1,15 @@
 -- A table as its session sees it is the table through what the session wrote to it.
 use Rattle.std.proofs.Common.{◌≡◌, ℕ, Bool, true, false, List, [], ◌∷◌, cond, Option, Some, refl, sym, ap, ◌∙◌, subst}
 use Rattle.std.specs.Option.{option_map}
-use Rattle.gho_schema.specs.Rows.{key_places}
-use Rattle.gho_schema.specs.Tables.{Ascends}
+use Rattle.gho_values.specs.GhoSchema.Rows.{key_places}
+use Rattle.gho_values.specs.GhoSchema.Tables.{Ascends}
 use Rattle.event_codec.specs.declared.event.RowEvent.{RowEvent}
 use Rattle.row_store.specs.Databases.{TableRows, Database, find_table, is_named}
 use Rattle.row_store.proofs.Orders.{Row}
 use Rattle.plain_server.specs.Jobs.{after_events}
-use Rattle.statement_laws.specs.Covering.{IsOrderlyTable}
-use Rattle.statement_laws.specs.Databases.{IsOrderly, WhereFound}
-use Rattle.statement_laws.proofs.Tests.{are_same}
+use Rattle.plain_server.specs.StatementLaws.Covering.{IsOrderlyTable}
+use Rattle.plain_server.specs.StatementLaws.Databases.{IsOrderly, WhereFound}
+use Rattle.plain_server.proofs.StatementLaws.Tests.{are_same}
 use Rattle.written_rows.specs.Written.{Written, seen}
 use Rattle.server_data.specs.Fitting.{EventsFit}
 use Rattle.txn_session.specs.Events.{changes_in}

@@ -5,7 +5,7 @@ use Rattle.std.specs.Str.{bytes_eq}
 use Rattle.event_codec.specs.declared.event.RowEvent.{RowEvent}
 use Rattle.row_store.specs.Databases.{Database, StoredTable, database, find_table, find_stored, others, spare_in, is_named, with_change}
 use Rattle.plain_server.specs.Jobs.{change_table, after_events}
-use Rattle.statement_laws.proofs.Tests.{are_same, same_bytes}
+use Rattle.plain_server.proofs.StatementLaws.Tests.{are_same, same_bytes}
 use Rattle.server_data.specs.Fitting.{FitsIn, EventsFit}
 use Rattle.txn_session.specs.declared.keyed.KeyedEvent.{KeyedEvent}
 use Rattle.txn_session.specs.Premises.{IsKeyedIn}

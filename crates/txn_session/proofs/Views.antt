@@ -2,14 +2,14 @@
 use Rattle.std.proofs.Common.{◌≡◌, ℕ, Bool, true, false, List, [], ◌∷◌, map, filter, cond, Option, Some, None, refl, ap, ◌∙◌, subst}
 use Rattle.std.specs.Option.{option_map}
 use Rattle.std.specs.Str.{bytes_eq}
-use Rattle.gho_schema.specs.Rows.{key_places}
+use Rattle.gho_values.specs.GhoSchema.Rows.{key_places}
 use Rattle.event_codec.specs.declared.event.Change.{Change}
 use Rattle.event_codec.specs.declared.event.RowEvent.{RowEvent}
 use Rattle.row_store.specs.Databases.{TableRows, Database, find_table, with_change}
 use Rattle.plain_server.specs.Rows.{change_all}
 use Rattle.plain_server.specs.Jobs.{change_table, after_events}
-use Rattle.statement_laws.proofs.Tests.{are_same}
-use Rattle.statement_laws.proofs.Finding.{change_if, found_after}
+use Rattle.plain_server.proofs.StatementLaws.Tests.{are_same}
+use Rattle.plain_server.proofs.StatementLaws.Finding.{change_if, found_after}
 use Rattle.written_rows.specs.Fitting.{AllFit}
 use Rattle.server_data.specs.Fitting.{FitsIn, EventsFit}
 use Rattle.txn_session.specs.Events.{changes_in}

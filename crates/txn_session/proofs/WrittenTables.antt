@@ -9,9 +9,9 @@ use Rattle.std.proofs.Math.Seq.{map-set_same}
 use Rattle.std.proofs.lemmas.List.{map-append}
 use Rattle.std.proofs.lemmas.Option.{slice_get_read, slice_get_past}
 use Rattle.std.proofs.lemmas.List.Folds.{find_at, find-set, find_past, find-append}
-use Rattle.gho_schema.specs.declared.schema.Schema.{Schema}
-use Rattle.gho_schema.specs.Rows.{key_places}
-use Rattle.statement_laws.proofs.Tests.{are_same, same_bytes}
+use Rattle.gho_values.specs.declared.gho_schema.schema.Schema.{Schema}
+use Rattle.gho_values.specs.GhoSchema.Rows.{key_places}
+use Rattle.plain_server.proofs.StatementLaws.Tests.{are_same, same_bytes}
 use Rattle.written_rows.specs.Written.{Written, written_over}
 use Rattle.written_rows.specs.Stored.{StoredWrites}
 use Rattle.txn_session.specs.Shown.{find_writes}

@@ -3,7 +3,7 @@ use Rattle.std.specs.Prelude.{ℕ, List, map, filter, Option, Some, None}
 use Rattle.std.specs.Option.{option_map}
 use Rattle.std.specs.Str.{bytes_eq}
 use Rattle.gho_values.specs.declared.value.Value.{Value}
-use Rattle.gho_schema.specs.Rows.{key_of}
+use Rattle.gho_values.specs.GhoSchema.Rows.{key_of}
 use Rattle.event_codec.specs.declared.event.RowEvent.{RowEvent}
 use Rattle.event_codec.specs.declared.event.Change.{Change}
 use Rattle.event_codec.specs.declared.event.Change.TheVariants.{Write, Update, Delete}

@@ -3,7 +3,7 @@ use Rattle.row_store.specs.Databases.{Database}
 use Rattle.script_text.specs.declared.statement.Statement.{Statement}
 use Rattle.plain_server.specs.Jobs.{Job, says, job_says}
 use Rattle.server_data.specs.Fitting.{EventsFit}
-use Rattle.statement_laws.specs.Databases.{IsOrderly, TaskSound}
+use Rattle.plain_server.specs.StatementLaws.Databases.{IsOrderly, TaskSound}
 
 -- *What is said fits*: the events of a statement, and of any job that makes rows of its table, fit the tables on which it is
 -- said.

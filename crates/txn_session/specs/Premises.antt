@@ -2,13 +2,13 @@
 use Rattle.std.specs.Prelude.{◌≡◌, List, [], IfSome, Option, Some, None}
 use Rattle.std.specs.Option.{option_map}
 use Rattle.std.specs.List.{AllByRecursion}
-use Rattle.gho_schema.specs.declared.schema.Schema.{Schema}
-use Rattle.gho_schema.specs.Rows.{key_places}
+use Rattle.gho_values.specs.declared.gho_schema.schema.Schema.{Schema}
+use Rattle.gho_values.specs.GhoSchema.Rows.{key_places}
 use Rattle.event_codec.specs.declared.event.RowEvent.{RowEvent}
 use Rattle.row_store.specs.Databases.{Database, find_table}
 use Rattle.plain_server.specs.Jobs.{after_events}
 use Rattle.server_data.specs.Fitting.{EventsFit}
-use Rattle.statement_laws.specs.Databases.{IsOrderly}
+use Rattle.plain_server.specs.StatementLaws.Databases.{IsOrderly}
 use Rattle.txn_session.specs.Events.{keyed}
 use Rattle.txn_session.specs.Stored.{StoredTxn, events_in, schemas, TableChanges}
 use Rattle.txn_session.specs.declared.keyed.KeyedEvent.{KeyedEvent}

@@ -1,13 +1,13 @@
 //! An event is done to its table.
 
 ghost use Rattle.std.specs.Prelude.{◌≡◌, ◌≤◌, ◌+◌, Some, IfSome};
-ghost use Rattle.gho_schema.specs.Rows.{key_of, key_places};
-ghost use Rattle.gho_schema.specs.Tables.{Ascends};
+ghost use Rattle.gho_values.specs.GhoSchema.Rows.{key_of, key_places};
+ghost use Rattle.gho_values.specs.GhoSchema.Tables.{Ascends};
 ghost use Rattle.event_codec.specs.declared.event.Change.TheVariants as changes;
 ghost use Rattle.row_store.specs.Databases.{database, find_table, with_change, spare_in, others, NamesDiffer};
 ghost use Rattle.plain_server.specs.Jobs.{change_table};
 ghost use Rattle.server_data.specs.Fitting.{FitsIn};
-ghost use Rattle.statement_laws.specs.Databases.{WhereFound};
+ghost use Rattle.plain_server.specs.StatementLaws.Databases.{WhereFound};
 ghost use Rattle.txn_session.specs.Events.{keyed};
 ghost use Rattle.txn_session.specs.Rooms.{puts_of};
 

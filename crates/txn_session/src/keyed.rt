@@ -2,12 +2,12 @@
 
 ghost use Rattle.std.specs.Prelude.{◌≡◌, ◌≤◌, ◌-◌, ◌++◌, length, map, vec_len, vec_capacity, IfOk, OnOk};
 ghost use Rattle.std.specs.Option.{option_map};
-ghost use Rattle.gho_schema.specs.Rows.{key_of};
+ghost use Rattle.gho_values.specs.GhoSchema.Rows.{key_of};
 ghost use Rattle.plain_server.specs.Jobs.{events_of};
 ghost use Rattle.txn_session.specs.Events.{gone_row, keyed};
 
 use event_codec::{Change, RowEvent};
-use gho_schema::key_of;
+use gho_values::gho_schema::key_of;
 use gho_values::{Duplicate, Key, Name};
 use std::alloc::{AllocError, Global};
 

@@ -1,31 +1,31 @@
 //! What a session's statement says of the tables as the session sees them.
 
 ghost use Rattle.std.specs.Prelude.{◌≡◌, [], Some, None, IfOk, IfSome};
-ghost use Rattle.gho_schema.specs.Rows.{key_places};
+ghost use Rattle.gho_values.specs.GhoSchema.Rows.{key_places};
 ghost use Rattle.row_store.specs.Databases.{database};
 ghost use Rattle.plain_server.specs.Answers.{refuses};
 ghost use Rattle.plain_server.specs.Checking.{work_of};
 ghost use Rattle.plain_server.specs.Needing.{needs};
 ghost use Rattle.plain_server.specs.Jobs.{table_of, events_of, result_of, says, row_needs, after_events};
 ghost use Rattle.plain_server.specs.Saying.{tells};
-ghost use Rattle.statement_laws.specs.Covering.{IsOrderlyTable, IsSound};
+ghost use Rattle.plain_server.specs.StatementLaws.Covering.{IsOrderlyTable, IsSound};
 ghost use Rattle.txn_session.specs.Premises.{HasSchema, IsOf, events_ready};
 ghost use Rattle.written_rows.specs.Written.{seen};
 
 use crate::txn::Txn;
 use crate::writes::Writes;
 use event_codec::Change;
-use gho_schema::Schema;
+use gho_values::gho_schema::Schema;
 use gho_values::{Name, Sequence};
 use paged_tables::Tables;
+use paged_tables::row_pages::Table;
 use plain_server::{StatementResult, Work};
 use row_locks::LockSet;
-use row_pages::Table;
 use script_text::Statement;
 use server_data::Told;
 use statement_checks::{refuses, work_of};
+use statement_replies::statement_work::needs;
 use statement_replies::{events_of, tells};
-use statement_work::needs;
 use std::alloc::{AllocError, Global};
 use written_rows::{SeenTable, WrittenRows};
 

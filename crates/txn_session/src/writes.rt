@@ -5,7 +5,7 @@ ghost use Rattle.txn_session.specs.Stored.{written_by};
 
 use crate::keyed::{KeyedEvent, keyed_events};
 use event_codec::Change;
-use gho_schema::Schema;
+use gho_values::gho_schema::Schema;
 use gho_values::{Keys, Name};
 use statement_replies::written_by;
 use std::alloc::{AllocError, Global};

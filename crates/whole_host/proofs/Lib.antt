@@ -6,3 +6,4 @@ mod Taken
 mod Untaken
 mod Words
 mod Worked
+mod PlanWorks

@@ -8,14 +8,14 @@ use Rattle.plain_server.specs.declared.outcome.Cause.{Cause}
 use Rattle.plain_server.specs.declared.outcome.Verdict.{Verdict}
 use Rattle.plain_server.specs.declared.outcome.Verdict.TheVariants as verdicts
 use Rattle.plan_words.specs.PlanData.{PlanData}
-use Rattle.journal_words.specs.Histories.{history, is_alter}
-use Rattle.journal_words.specs.Journals.{IsFaithful}
+use Rattle.migration_program.specs.JournalWords.Histories.{history, is_alter}
+use Rattle.migration_program.specs.JournalWords.Journals.{IsFaithful}
 use Rattle.migration_program.specs.Programs.{Follows}
 use Rattle.migration_program.specs.Tools.{moment}
 use Rattle.migration_program.specs.Verdicts.{has_ended, ended_so, verdict_of}
-use Rattle.run_laws.specs.Kept.{IsKept}
-use Rattle.machine_laws.specs.Laws.{TellsAlter}
-use Rattle.accepted_laws.specs.Laws.{WasRead}
+use Rattle.history_laws.specs.RunLaws.Kept.{IsKept}
+use Rattle.history_laws.specs.MachineLaws.Laws.{TellsAlter}
+use Rattle.accepted_runs.specs.AcceptedLaws.Laws.{WasRead}
 use Rattle.whole_run.specs.Runs.{is_over}
 use Rattle.plan_replays.specs.SoundRuns.{IsSoundRun}
 use Rattle.call_endings.specs.declared.command.PlanCommand.{PlanCommand}

@@ -4,11 +4,11 @@ use Rattle.std.proofs.lemmas.List.{append_assoc, drop_more, length-map, map-appe
 use Rattle.plain_server.specs.declared.entry.Entry.{Entry}
 use Rattle.plan_words.specs.PlanData.{PlanData}
 use Rattle.migration_program.specs.Orders.{WorkerTurn}
-use Rattle.accepted_laws.specs.Laws.{WasRead}
+use Rattle.accepted_runs.specs.AcceptedLaws.Laws.{WasRead}
 use Rattle.call_endings.specs.declared.command.PlanCommand.TheVariants.{Run}
 use Rattle.call_endings.specs.declared.printed.Printed.{Printed}
 use Rattle.call_endings.specs.declared.turn.Turn.{Turn}
-use Rattle.plan_works.specs.Works.{IsWholeRun}
+use Rattle.whole_host.specs.PlanWorks.Works.{IsWholeRun}
 use Rattle.whole_host.specs.Outcomes.{worker_turns, IsReport, IsTaken}
 
 -- it has no more turns than the plan allows

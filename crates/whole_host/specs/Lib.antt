@@ -2,3 +2,5 @@ pub mod Comings
 pub mod Outcomes
 pub mod Promises
 pub mod Standing
+pub mod WorkerLaws
+pub mod PlanWorks

@@ -6,10 +6,10 @@ use Rattle.plain_server.specs.declared.outcome.Verdict.{Verdict}
 use Rattle.plain_server.specs.declared.outcome.Verdict.TheVariants as verdicts
 use Rattle.plan_words.specs.PlanData.{PlanData}
 use Rattle.plan_document.specs.declared.fault.PlanRefusal.{PlanRefusal}
-use Rattle.journal_words.specs.Journals.{state_at}
+use Rattle.migration_program.specs.JournalWords.Journals.{state_at}
 use Rattle.migration_program.specs.Orders.{WorkerTurn}
 use Rattle.migration_program.specs.Verdicts.{verdict_of}
-use Rattle.accepted_laws.specs.Laws.{WasRead}
+use Rattle.accepted_runs.specs.AcceptedLaws.Laws.{WasRead}
 use Rattle.report_print.specs.Reports.{report}
 use Rattle.whole_run.specs.Runs.{is_over}
 use Rattle.call_endings.specs.declared.command.PlanCommand.{PlanCommand}
@@ -21,7 +21,7 @@ use Rattle.call_endings.specs.declared.turn.Turn.{Turn}
 use Rattle.call_endings.specs.Checks.{IsSchema}
 use Rattle.call_endings.specs.Texts.{IsRefusal}
 use Rattle.plan_replays.specs.Replays.{IsWholeReplay}
-use Rattle.plan_works.specs.Works.{IsWholeRun}
+use Rattle.whole_host.specs.PlanWorks.Works.{IsWholeRun}
 
 -- the status of a report
 abbrev pub status_of : Verdict → Status

@@ -11,10 +11,10 @@ use Rattle.plan_words.specs.PlanData.{PlanData}
 use Rattle.plan_document.specs.declared.limits.TheConstants.{PLAN_LIMIT}
 use Rattle.plan_document.specs.declared.fault.PlanRefusal.{PlanRefusal}
 use Rattle.plan_document.specs.Plans.{read}
-use Rattle.journal_words.specs.Journals.{state_at}
+use Rattle.migration_program.specs.JournalWords.Journals.{state_at}
 use Rattle.migration_program.specs.Failures.{Stands}
 use Rattle.migration_program.specs.Verdicts.{has_ended, verdict_of}
-use Rattle.machine_laws.specs.Laws.{TellsAlter}
+use Rattle.history_laws.specs.MachineLaws.Laws.{TellsAlter}
 use Rattle.accepted_runs.specs.CompleteLaws.Quiet.{IsQuiet, RowsHaveImages, IsWithinLimits}
 use Rattle.report_print.specs.Reports.{report}
 use Rattle.command_words.specs.Commands.{command}

@@ -2,9 +2,11 @@
 #![tactic(auto)]
 
 mod outcome;
+pub mod plan_works;
 mod status;
 mod top;
 mod turns;
+pub mod worker_laws;
 
 pub use call_endings::{PlanCommand, Status, Turn, Turns};
 pub use command_words::{Command, Line};

@@ -7,7 +7,7 @@ ghost use Rattle.whole_host.specs.Outcomes.{turns_of, worker_turns};
 use call_endings::{Turn, Turns};
 use gho_values::Sequence;
 use plain_server::Entry;
-use worker_run::WorkerTurn;
+use worker_host::worker_run::WorkerTurn;
 
 /// Whose turns a replay's journal has, in the room that was made for them. It takes no memory.
 pub(crate) fn turns_in(room: Vec<Turn>, journal: &[Entry]) -> Turns

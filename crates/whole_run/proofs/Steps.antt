@@ -6,13 +6,13 @@ use Rattle.script_text.specs.declared.actor.Actor.{Actor}
 use Rattle.plain_server.specs.declared.entry.Entry.{Entry}
 use Rattle.plain_server.specs.States.{State}
 use Rattle.plan_words.specs.PlanData.{PlanData}
-use Rattle.journal_words.specs.Journals.{state_at, after_entry}
+use Rattle.migration_program.specs.JournalWords.Journals.{state_at, after_entry}
 use Rattle.migration_program.specs.Programs.{waits}
 use Rattle.migration_program.specs.Tools.{moment}
 use Rattle.migration_program.specs.Verdicts.{has_ended}
-use Rattle.run_laws.specs.Counting.{IsBehind}
-use Rattle.run_laws.proofs.Taking.{server_is}
-use Rattle.migration_run.specs.declared.turn.Turn.{Turn}
+use Rattle.history_laws.specs.RunLaws.Counting.{IsBehind}
+use Rattle.history_laws.proofs.RunLaws.Taking.{server_is}
+use Rattle.due_turns.specs.declared.migration_run.turn.Turn.{Turn}
 use Rattle.due_turns.specs.Due.{due, next_entry}
 use Rattle.turn_book.proofs.Givens.{waits_same}
 use Rattle.whole_run.specs.Runs.{RunView, is_over, TakesTurn, IsUnmoved}

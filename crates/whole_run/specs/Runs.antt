@@ -5,10 +5,10 @@ use Rattle.plain_server.specs.Along.{Along}
 use Rattle.plain_server.specs.declared.entry.Entry.{Entry}
 use Rattle.plain_server.specs.States.{State}
 use Rattle.plan_words.specs.PlanData.{PlanData}
-use Rattle.journal_words.specs.Journals.{after_entry}
+use Rattle.migration_program.specs.JournalWords.Journals.{after_entry}
 use Rattle.migration_program.specs.Verdicts.{has_ended}
-use Rattle.run_laws.specs.Counting.{IsBehind}
-use Rattle.migration_run.specs.declared.turn.Turn.{Turn}
+use Rattle.history_laws.specs.RunLaws.Counting.{IsBehind}
+use Rattle.due_turns.specs.declared.migration_run.turn.Turn.{Turn}
 use Rattle.due_turns.specs.Due.{due, next_entry}
 use Rattle.whole_run.specs.declared.run.Stepped.{Stepped}
 use Rattle.whole_run.specs.declared.run.Stepped.TheVariants.{Took, Idle, Over, NoMemory}

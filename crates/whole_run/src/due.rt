@@ -2,11 +2,11 @@
 
 ghost use Rattle.std.specs.Prelude.{◌≡◌, is_some, IfOk};
 ghost use Rattle.migration_program.specs.Tools.{moment};
-ghost use Rattle.run_laws.specs.Counting.{IsBehind};
+ghost use Rattle.history_laws.specs.RunLaws.Counting.{IsBehind};
 ghost use Rattle.turn_book.specs.Books.{IsBook};
 ghost use Rattle.due_turns.specs.Due.{due};
 
-use migration_run::Turn;
+use due_turns::migration_run::Turn;
 use plain_server::Asked;
 use script_text::Actor;
 use serving::Serve;
@@ -14,7 +14,7 @@ use std::alloc::{AllocError, Global};
 use turn_book::Book;
 
 /// The turn that is due where the actor is to take one; none where nothing is given to it.
-#[tactic(auto, using(run_turns::proofs::Planned::given_planned), unfolding(due_turns::specs::Due::due))]
+#[tactic(auto, using(crate::proofs::RunTurns::Planned::given_planned), unfolding(due_turns::specs::Due::due))]
 pub fn due<V: Serve>(
     alloc: Global,
     book: &Book<'_>,
@@ -43,7 +43,7 @@ pub fn due<V: Serve>(
 }
 
 /// Whether a turn is due where the actor is to take one. It takes no memory.
-#[tactic(auto, using(run_turns::proofs::Planned::is_due_by), unfolding(due_turns::specs::Due::due))]
+#[tactic(auto, using(crate::proofs::RunTurns::Planned::is_due_by), unfolding(due_turns::specs::Due::due))]
 pub fn is_due<V: Serve>(book: &Book<'_>, server: &V, actor: Actor) -> bool
     requires book { IsBook book.now.plan.now book.now.journal.items book.now }
     requires state { IsBehind (moment book.now.plan.now book.now.journal.items).server (V.state server.now) }

@@ -3,6 +3,6 @@
 
 mod due;
 mod run;
-pub mod whole_replay;
+pub mod run_turns;
 
 pub use run::{Run, Stepped};

@@ -1,21 +1,21 @@
 //! A run.
 
 ghost use Rattle.std.specs.Prelude.{◌≡◌, ◌≤◌, ◌+◌, ◌<◌, ◌^◌, [], length, is_some, true, false, IfOk, OnOk, OnErr};
-ghost use Rattle.journal_words.specs.Journals.{opening, state_at, IsFaithful};
-ghost use Rattle.journal_words.specs.Keeping.{cut_due, KeepsPlan};
-ghost use Rattle.journal_words.specs.Sessions.{live_session, KeepsSessions};
+ghost use Rattle.migration_program.specs.JournalWords.Journals.{opening, state_at, IsFaithful};
+ghost use Rattle.migration_program.specs.JournalWords.Keeping.{cut_due, KeepsPlan};
+ghost use Rattle.migration_program.specs.JournalWords.Sessions.{live_session, KeepsSessions};
 ghost use Rattle.migration_program.specs.Orders.{is_ready};
 ghost use Rattle.migration_program.specs.Programs.{waits, Follows};
 ghost use Rattle.migration_program.specs.Verdicts.{has_ended, verdict_of};
-ghost use Rattle.machine_laws.specs.Runnable.{IsRunnable};
-ghost use Rattle.run_laws.specs.Counting.{IsBehind};
+ghost use Rattle.history_laws.specs.MachineLaws.Runnable.{IsRunnable};
+ghost use Rattle.history_laws.specs.RunLaws.Counting.{IsBehind};
 ghost use Rattle.due_turns.specs.Due.{due};
 ghost use Rattle.whole_run.specs.Runs.{is_over, TakesTurn, IsUnmoved, Steps};
 
 use crate::due::{due, is_due};
+use crate::run_turns::take;
 use plain_server::{Entry, Journal, Verdict};
 use plan_words::Plan;
-use run_turns::take;
 use script_text::Actor;
 use serving::Serve;
 use std::alloc::{AllocError, Global};
@@ -45,7 +45,7 @@ pub struct Run<'a, V: Serve> {
 }
 
 impl<'a, V: Serve> Model for Run<'a, V> {
-    ghost use Rattle.run_turns.specs.Running.{IsRun};
+    ghost use Rattle.whole_run.specs.RunTurns.Running.{IsRun};
     ghost use Rattle.whole_run.specs.Runs.{RunView};
 
     ghost Value = { RunView };

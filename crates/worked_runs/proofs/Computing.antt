@@ -20,13 +20,13 @@ use Rattle.plain_server.specs.States.{State, opened}
 use Rattle.plain_server.specs.Serving.{serves, given_at}
 use Rattle.plain_server.specs.Alone.{alone}
 use Rattle.plan_words.specs.PlanData.{PlanData}
-use Rattle.journal_words.specs.Journals.{opening, opens, after_entry, heard, missed, may_lose, state_at}
-use Rattle.journal_words.specs.Sessions.{live_session, sessions_named}
-use Rattle.journal_words.specs.Clients.{client_asks}
-use Rattle.journal_words.specs.Keeping.{side_due, cut_due, words_of}
-use Rattle.journal_words.specs.Histories.{HistoryItem, Txn, Alter, NumberedReply, history, replies_of}
-use Rattle.journal_words.specs.Serials.{tables_left, altered_database}
-use Rattle.journal_words.specs.Bounds.{bound}
+use Rattle.migration_program.specs.JournalWords.Journals.{opening, opens, after_entry, heard, missed, may_lose, state_at}
+use Rattle.migration_program.specs.JournalWords.Sessions.{live_session, sessions_named}
+use Rattle.migration_program.specs.JournalWords.Clients.{client_asks}
+use Rattle.migration_program.specs.JournalWords.Keeping.{side_due, cut_due, words_of}
+use Rattle.migration_program.specs.JournalWords.Histories.{HistoryItem, Txn, Alter, NumberedReply, history, replies_of}
+use Rattle.migration_program.specs.JournalWords.Serials.{tables_left, altered_database}
+use Rattle.migration_program.specs.JournalWords.Bounds.{bound}
 use Rattle.migration_program.specs.Tools.{Moment, new_tool, after_turn}
 use Rattle.migration_program.specs.Programs.{tool_asks, commands}
 use Rattle.migration_program.specs.Verdicts.{verdict_of, is_over}
@@ -35,10 +35,10 @@ use Rattle.migration_program.specs.Orders.{Queue, chosen, queue_after, actor_of,
 use Rattle.gho_values.specs.Comparing as x0
 use Rattle.gho_values.specs.Spans as x1
 use Rattle.gho_values.specs.Storing as x2
-use Rattle.gho_schema.specs.Clustering as x3
-use Rattle.gho_schema.specs.Names as x4
-use Rattle.gho_schema.specs.Rows as x5
-use Rattle.alter_image.specs.Images as x6
+use Rattle.gho_values.specs.GhoSchema.Clustering as x3
+use Rattle.gho_values.specs.GhoSchema.Names as x4
+use Rattle.gho_values.specs.GhoSchema.Rows as x5
+use Rattle.gho_values.specs.AlterImage.Images as x6
 use Rattle.alter_schema.specs.Altering as x7
 use Rattle.alter_schema.specs.Changing as x8
 use Rattle.alter_schema.specs.Columns as x9
@@ -49,10 +49,10 @@ use Rattle.row_locks.specs.Granting as x13
 use Rattle.metadata_locks.specs.Granting as x14
 use Rattle.row_store.specs.Databases as x15
 use Rattle.schema_text.specs.Declaring as x16
-use Rattle.schema_rules.specs.Defaults as x17
+use Rattle.gho_values.specs.SchemaRules.Defaults as x17
 use Rattle.schema_text.specs.Keys as x18
-use Rattle.schema_rules.specs.Names as xn
-use Rattle.schema_rules.specs.Limits as x19
+use Rattle.gho_values.specs.SchemaRules.Names as xn
+use Rattle.gho_values.specs.SchemaRules.Limits as x19
 use Rattle.schema_text.specs.Written as x20
 use Rattle.plain_server.specs.Alone as x21
 use Rattle.plain_server.specs.Checking as x22
@@ -68,19 +68,19 @@ use Rattle.plain_server.specs.States as x31
 use Rattle.changelog_table.specs.Hints as x32
 use Rattle.changelog_table.specs.ToolNames as x33
 use Rattle.changelog_table.specs.ToolTables as x34
-use Rattle.chunk_copier.specs.Copiers as x35
-use Rattle.event_applier.specs.Appliers as x36
-use Rattle.cutover_core.specs.Attempts as x37
-use Rattle.cutover_core.specs.CutOvers as x38
-use Rattle.journal_words.specs.Altering as x39
-use Rattle.journal_words.specs.Bounds as x40
-use Rattle.journal_words.specs.Clients as x41
-use Rattle.journal_words.specs.Histories as x42
-use Rattle.journal_words.specs.Journals as x43
-use Rattle.journal_words.specs.Keeping as x44
+use Rattle.migration_program.specs.ChunkCopier.Copiers as x35
+use Rattle.migration_program.specs.EventApplier.Appliers as x36
+use Rattle.migration_program.specs.CutoverCore.Attempts as x37
+use Rattle.migration_program.specs.CutoverCore.CutOvers as x38
+use Rattle.migration_program.specs.JournalWords.Altering as x39
+use Rattle.migration_program.specs.JournalWords.Bounds as x40
+use Rattle.migration_program.specs.JournalWords.Clients as x41
+use Rattle.migration_program.specs.JournalWords.Histories as x42
+use Rattle.migration_program.specs.JournalWords.Journals as x43
+use Rattle.migration_program.specs.JournalWords.Keeping as x44
 use Rattle.plan_words.specs.PlanData as x45
-use Rattle.journal_words.specs.Serials as x46
-use Rattle.journal_words.specs.Sessions as x47
+use Rattle.migration_program.specs.JournalWords.Serials as x46
+use Rattle.migration_program.specs.JournalWords.Sessions as x47
 use Rattle.migration_program.specs.Failures as x48
 use Rattle.migration_program.specs.Online as x49
 use Rattle.migration_program.specs.Orders as x50

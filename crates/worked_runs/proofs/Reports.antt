@@ -9,7 +9,7 @@ use Rattle.plain_server.specs.declared.outcome.Task.TheVariants as tasks
 use Rattle.plain_server.specs.declared.outcome.Cause.TheVariants as causes
 use Rattle.plain_server.specs.declared.outcome.Verdict.TheVariants as verdicts
 use Rattle.plan_words.specs.PlanData.{PlanData}
-use Rattle.journal_words.specs.Journals.{state_at}
+use Rattle.migration_program.specs.JournalWords.Journals.{state_at}
 use Rattle.migration_program.specs.Verdicts.{verdict_of}
 use Rattle.client_lines.specs.Pasts as y3
 use Rattle.client_lines.specs.Replies as y4

@@ -5,7 +5,7 @@ use Rattle.std.specs.Prelude.{codes}
 use Rattle.gho_values.specs.declared.value.Value.TheVariants.{Null, Num}
 use Rattle.gho_values.specs.declared.kind.Kind.TheVariants.{Int}
 use Rattle.gho_values.specs.declared.span.Bound.TheVariants.{Closed}
-use Rattle.alter_image.specs.declared.map.Origin.TheVariants as from
+use Rattle.gho_values.specs.declared.alter_image.map.Origin.TheVariants as from
 use Rattle.script_text.specs.declared.actor.Actor.TheVariants.{Insp, Copy, Apply, Lock, Ren, Client}
 use Rattle.script_text.specs.declared.statement.Statement.TheVariants as statements
 use Rattle.script_text.specs.declared.statement.Condition.TheVariants as conditions

@@ -4,7 +4,7 @@ use Rattle.std.specs.Prelude.{codes}
 use Rattle.gho_values.specs.declared.value.Value.TheVariants.{Null, Num, Text, Blob}
 use Rattle.gho_values.specs.declared.kind.Kind.TheVariants.{Int, VarChar, VarBinary}
 use Rattle.gho_values.specs.declared.span.Bound.TheVariants.{Free, Open, Closed}
-use Rattle.alter_image.specs.declared.map.Origin.TheVariants as from
+use Rattle.gho_values.specs.declared.alter_image.map.Origin.TheVariants as from
 use Rattle.script_text.specs.declared.actor.Actor.TheVariants.{Insp, Client}
 use Rattle.script_text.specs.declared.actor.Side.TheVariants as sides_at
 use Rattle.script_text.specs.declared.statement.Statement.TheVariants as statements

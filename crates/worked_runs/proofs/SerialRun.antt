@@ -6,7 +6,7 @@ use Rattle.std.specs.Prelude.{count_by, codes}
 use Rattle.std.specs.List.{AllByRecursion}
 use Rattle.std.proofs.lemmas.Bool.{false≢true}
 use Rattle.script_text.specs.declared.operator.OperatorWord.TheVariants as commanded
-use Rattle.gho_schema.specs.declared.schema.Schema.{Schema}
+use Rattle.gho_values.specs.declared.gho_schema.schema.Schema.{Schema}
 use Rattle.row_store.specs.ClusteredKeys.{HasClusteredKey}
 use Rattle.plain_server.specs.Along.{Along}
 use Rattle.plain_server.specs.Answers.{ok}
@@ -14,14 +14,14 @@ use Rattle.plain_server.specs.Entries.{is_cut}
 use Rattle.plain_server.specs.declared.answer.Answer.TheVariants as answers
 use Rattle.plain_server.specs.declared.entry.Asked.{Asked}
 use Rattle.plain_server.specs.declared.entry.Asked.TheVariants.{Cut}
-use Rattle.journal_words.specs.Journals.{IsFaithful}
-use Rattle.journal_words.specs.Keeping.{KeepsPlan}
-use Rattle.journal_words.specs.Sessions.{KeepsSessions, NumbersSessions}
+use Rattle.migration_program.specs.JournalWords.Journals.{IsFaithful}
+use Rattle.migration_program.specs.JournalWords.Keeping.{KeepsPlan}
+use Rattle.migration_program.specs.JournalWords.Sessions.{KeepsSessions, NumbersSessions}
 use Rattle.migration_program.specs.Programs.{Follows}
 use Rattle.migration_program.specs.Orders.{ReplayOrder, IsReplay}
-use Rattle.journal_words.specs.Histories.{history, is_alter}
-use Rattle.journal_words.specs.Serials.{IsSerial}
-use Rattle.statement_laws.specs.Covering.{StoresDefault, IsOrderlyTable}
+use Rattle.migration_program.specs.JournalWords.Histories.{history, is_alter}
+use Rattle.migration_program.specs.JournalWords.Serials.{IsSerial}
+use Rattle.plain_server.specs.StatementLaws.Covering.{StoresDefault, IsOrderlyTable}
 use Rattle.history_laws.specs.Plans as plans
 use Rattle.history_laws.specs.Plans.{scene_of, KeepsAway, IsSerialPlan, IsPlanRun}
 use Rattle.history_laws.proofs.PlanJournals.{journals_are_serial}

@@ -4,10 +4,10 @@ use Rattle.std.specs.Prelude.{codes, replicate}
 use Rattle.gho_values.specs.declared.value.Value.TheVariants.{Null, Num, Text}
 use Rattle.gho_values.specs.declared.kind.Kind.TheVariants.{Int, VarChar}
 use Rattle.gho_values.specs.declared.span.Bound.TheVariants.{Closed}
-use Rattle.alter_image.specs.declared.clause.Clause.TheVariants as clauses
-use Rattle.alter_image.specs.declared.clause.Spot.TheVariants.{Unsaid}
-use Rattle.alter_image.specs.declared.map.MapColumn.{MapColumn}
-use Rattle.alter_image.specs.declared.map.Origin.TheVariants as from
+use Rattle.gho_values.specs.declared.alter_image.clause.Clause.TheVariants as clauses
+use Rattle.gho_values.specs.declared.alter_image.clause.Spot.TheVariants.{Unsaid}
+use Rattle.gho_values.specs.declared.alter_image.map.MapColumn.{MapColumn}
+use Rattle.gho_values.specs.declared.alter_image.map.Origin.TheVariants as from
 use Rattle.event_codec.specs.declared.event.Change.TheVariants as changes
 use Rattle.script_text.specs.declared.actor.Actor.TheVariants.{Insp, Copy, Apply, Lock, Ren, Client}
 use Rattle.script_text.specs.declared.actor.Side.TheVariants as sides_at

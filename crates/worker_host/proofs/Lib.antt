@@ -1,2 +1,3 @@
 mod Ordering
 mod Passing
+pub mod WorkerRun

@@ -3,11 +3,11 @@ use Rattle.std.proofs.Common.{◌≡◌, ◌<◌, ℕ, true, List, sym, subst}
 use Rattle.std.specs.List.{All}
 use Rattle.plain_server.specs.declared.entry.Entry.{Entry}
 use Rattle.plan_words.specs.PlanData.{PlanData}
-use Rattle.journal_words.specs.Journals.{state_at}
+use Rattle.migration_program.specs.JournalWords.Journals.{state_at}
 use Rattle.migration_program.specs.Orders.{WorkerTurn, RunOrder}
 use Rattle.whole_run.specs.Runs.{RunView, is_over, Stops}
-use Rattle.worker_run.specs.WorkedRuns.{turns_of, journal_of, IsWorkersRun, WasOver, WorkedView}
-use Rattle.worker_run.proofs.Listing.{run_ordered, stopped, was_over}
+use Rattle.worker_host.specs.WorkerRun.WorkedRuns.{turns_of, journal_of, IsWorkersRun, WasOver, WorkedView}
+use Rattle.worker_host.proofs.WorkerRun.Listing.{run_ordered, stopped, was_over}
 
 -- what a closed desk's run leaves is in run order
 pub ran_ordered : (done : WorkedView) (plan : PlanData) (workers : ℕ) (journal : List Entry) (turns : List WorkerTurn) → IsWorkersRun done.plan done.workers done.list → done.plan ≡ plan → done.workers ≡ workers → All (λ taken. taken.worker < workers) done.list

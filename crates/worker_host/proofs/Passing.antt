@@ -5,8 +5,8 @@ use Rattle.plain_server.specs.declared.entry.Entry.{Entry}
 use Rattle.migration_program.specs.Orders.{WorkerTurn}
 use Rattle.turn_desk.specs.declared.book.Entry.{Entry as Taken}
 use Rattle.turn_desk.specs.Turns.{PassView, DeskList}
-use Rattle.worker_run.specs.declared.worked.Opening.{Opening}
-use Rattle.worker_run.specs.WorkedRuns.{listed}
+use Rattle.worker_host.specs.declared.worker_run.worked.Opening.{Opening}
+use Rattle.worker_host.specs.WorkerRun.WorkedRuns.{listed}
 use Rattle.worker_host.specs.Passes.{IsByPasses}
 
 -- so it is of the passes with which the desk was closed

@@ -3,8 +3,8 @@ use Rattle.std.specs.Prelude.{◌≡◌, ◌<◌, ℕ, List, length, All}
 use Rattle.plain_server.specs.declared.entry.Entry.{Entry}
 use Rattle.migration_program.specs.Orders.{WorkerTurn}
 use Rattle.turn_desk.specs.Turns.{PassView, DeskList}
-use Rattle.worker_run.specs.declared.worked.Opening.{Opening}
-use Rattle.worker_run.specs.WorkedRuns.{listed}
+use Rattle.worker_host.specs.declared.worker_run.worked.Opening.{Opening}
+use Rattle.worker_host.specs.WorkerRun.WorkedRuns.{listed}
 
 -- *By passes*. Each of so many workers had one pass at the desk, since there are so many, their numbers are below that, and no
 -- two are of one worker. Each worker's turns, as its pass has them, stand in the list once and in their order, and there are no

@@ -2,6 +2,7 @@
 #![tactic(auto)]
 
 mod running;
+pub mod worker_run;
 
 pub use desk_workers::Ending;
 pub use running::{Ran, run_by_workers};

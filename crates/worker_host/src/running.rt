@@ -2,14 +2,15 @@
 
 ghost use Rattle.std.specs.Prelude.{◌≡◌, ◌≤◌, [], true, IfOk};
 ghost use Rattle.desk_workers.specs.declared.ending.Ending.TheVariants.{Over};
-ghost use Rattle.journal_words.specs.Journals.{opening, state_at};
-ghost use Rattle.journal_words.specs.Sessions.{NumbersSessions};
+ghost use Rattle.migration_program.specs.JournalWords.Journals.{opening, state_at};
+ghost use Rattle.migration_program.specs.JournalWords.Sessions.{NumbersSessions};
 ghost use Rattle.migration_program.specs.Orders.{RunOrder};
-ghost use Rattle.run_laws.specs.Kept.{IsKept};
+ghost use Rattle.history_laws.specs.RunLaws.Kept.{IsKept};
 ghost use Rattle.whole_run.specs.Runs.{is_over, Stops};
-ghost use Rattle.worker_run.specs.Workers.{IsGoing};
+ghost use Rattle.worker_host.specs.WorkerRun.Workers.{IsGoing};
 ghost use Rattle.worker_host.specs.Passes.{IsByPasses};
 
+use crate::worker_run::{Turns, Worked};
 use desk_workers::{Ending, take_turns};
 use gho_edges::Gate;
 use serving::Serve;
@@ -17,7 +18,6 @@ use std::alloc::{AllocError, Global};
 use std::sync::Wait;
 use std::thread::Threads;
 use whole_run::Run;
-use worker_run::{Turns, Worked};
 
 /// What workers leave of a run.
 #[derive(Drop)]

@@ -1,8 +1,8 @@
 -- A workload's CREATE TABLE and ALTER, which are the same for each number: what they are read as is computed.
 use Rattle.std.proofs.Common.{◌≡◌, false, Ok, refl, arith}
 use Rattle.gho_values.specs.Storing as s1
-use Rattle.gho_schema.specs.Clustering as s2
-use Rattle.gho_schema.specs.Names as s3
+use Rattle.gho_values.specs.GhoSchema.Clustering as s2
+use Rattle.gho_values.specs.GhoSchema.Names as s3
 use Rattle.sql_words.specs.Front as w1
 use Rattle.sql_words.specs.Quoted as w2
 use Rattle.sql_words.specs.Reading as w3
@@ -13,10 +13,10 @@ use Rattle.table_words.specs.Listed as t4
 use Rattle.table_words.specs.Pieces as t5
 use Rattle.table_words.specs.Scope as t6
 use Rattle.table_words.specs.Tokens as t7
-use Rattle.schema_rules.specs.Defaults as r1
-use Rattle.schema_rules.specs.Limits as r2
-use Rattle.schema_rules.specs.Names as r3
-use Rattle.schema_rules.specs.Lawful.{IsLawful}
+use Rattle.gho_values.specs.SchemaRules.Defaults as r1
+use Rattle.gho_values.specs.SchemaRules.Limits as r2
+use Rattle.gho_values.specs.SchemaRules.Names as r3
+use Rattle.gho_values.specs.SchemaRules.Lawful.{IsLawful}
 use Rattle.schema_text.specs.Columns as c1
 use Rattle.schema_text.specs.Declaring as c2
 use Rattle.schema_text.specs.Keys as c3

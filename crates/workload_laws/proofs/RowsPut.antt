@@ -10,9 +10,9 @@ use Rattle.gho_values.specs.declared.value.Value.{Value}
 use Rattle.gho_values.specs.declared.value.Value.TheVariants.{Num, Text}
 use Rattle.gho_values.specs.Comparing.{compare_values, compare_keys}
 use Rattle.gho_values.proofs.Orders.{tied_keys}
-use Rattle.gho_schema.specs.Clustering.{clustered_among}
-use Rattle.gho_schema.specs.Rows.{key_of, key_places, with_row}
-use Rattle.gho_schema.specs.Tables.{clash}
+use Rattle.gho_values.specs.GhoSchema.Clustering.{clustered_among}
+use Rattle.gho_values.specs.GhoSchema.Rows.{key_of, key_places, with_row}
+use Rattle.gho_values.specs.GhoSchema.Tables.{clash}
 use Rattle.row_store.specs.Databases.{TableRows}
 use Rattle.row_store.proofs.Orders.{is_Equal}
 use Rattle.plan_tables.specs.Rows.{put_text, next_number, put_texts}

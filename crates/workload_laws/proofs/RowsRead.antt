@@ -8,7 +8,7 @@ use Rattle.gho_values.specs.declared.kind.Kind.TheVariants.{Int, VarChar}
 use Rattle.gho_values.specs.declared.value.Value.{Value}
 use Rattle.gho_values.specs.declared.value.Value.TheVariants.{Null, Num, Text}
 use Rattle.gho_values.specs.Storing.{half, character_count, in_range, text_within, stores}
-use Rattle.gho_schema.specs.declared.schema.Column.{Column}
+use Rattle.gho_values.specs.declared.gho_schema.schema.Column.{Column}
 use Rattle.table_words.specs.declared.token.Token.{Token}
 use Rattle.table_words.specs.Pieces.{behind_sign, literal_of}
 use Rattle.table_words.specs.Tokens.{same_sign}

@@ -3,7 +3,7 @@ use Rattle.std.proofs.Common.{◌≡◌, ◌∙◌, ℕ, ◌+◌, ◌<◌, ◌^�
 use Rattle.std.specs.Prelude.{pos}
 use Rattle.std.specs.Fmt.{decimal}
 use Rattle.gho_values.specs.declared.value.Value.TheVariants.{Num, Text}
-use Rattle.gho_schema.specs.Names.{same_name}
+use Rattle.gho_values.specs.GhoSchema.Names.{same_name}
 use Rattle.table_words.specs.declared.token.Token.{Token}
 use Rattle.table_words.specs.Keys as keys
 use Rattle.table_words.specs.Listed.{listed, gathered}

@@ -1,6 +1,6 @@
 -- The table of a workload is a table.
 use Rattle.std.proofs.Common.{ℕ, [], ◌∷◌}
-use Rattle.gho_schema.specs.Tables.{IsTable}
+use Rattle.gho_values.specs.GhoSchema.Tables.{IsTable}
 use Rattle.schema_text.specs.Laws.{ReadSchemasAreLawful}
 use Rattle.plan_tables.proofs.Sound.{Laws, tables_are}
 use Rattle.workload_laws.specs.WorkloadDocument.Plans.{table_texts}

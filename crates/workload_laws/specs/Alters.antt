@@ -2,12 +2,12 @@
 use Rattle.std.specs.Prelude.{codes, true, false, List, [], ◌∷◌, Some, None}
 use Rattle.gho_values.specs.declared.kind.Kind.TheVariants.{Int, VarChar}
 use Rattle.gho_values.specs.declared.value.Value.TheVariants.{Null, Text}
-use Rattle.gho_schema.specs.declared.schema.Schema.{Schema}
-use Rattle.alter_image.specs.declared.clause.Clause.{Clause}
-use Rattle.alter_image.specs.declared.clause.Clause.TheVariants.{Add, Change}
-use Rattle.alter_image.specs.declared.clause.Spot.TheVariants.{Unsaid}
-use Rattle.alter_image.specs.declared.map.MapColumn.{MapColumn}
-use Rattle.alter_image.specs.declared.map.Origin.TheVariants as from
+use Rattle.gho_values.specs.declared.gho_schema.schema.Schema.{Schema}
+use Rattle.gho_values.specs.declared.alter_image.clause.Clause.{Clause}
+use Rattle.gho_values.specs.declared.alter_image.clause.Clause.TheVariants.{Add, Change}
+use Rattle.gho_values.specs.declared.alter_image.clause.Spot.TheVariants.{Unsaid}
+use Rattle.gho_values.specs.declared.alter_image.map.MapColumn.{MapColumn}
+use Rattle.gho_values.specs.declared.alter_image.map.Origin.TheVariants as from
 use Rattle.workload_laws.specs.WorkloadDocument.Texts.{table_name}
 
 -- ADD COLUMN and MODIFY

@@ -2,8 +2,8 @@
 use Rattle.std.specs.Prelude.{◌≡◌, ℕ, false, List, [], ◌∷◌, Ok}
 use Rattle.std.specs.List.{list_any}
 use Rattle.std.specs.Str.{bytes_eq}
-use Rattle.gho_schema.specs.Tables.{IsTable}
-use Rattle.schema_rules.specs.Lawful.{IsLawful}
+use Rattle.gho_values.specs.GhoSchema.Tables.{IsTable}
+use Rattle.gho_values.specs.SchemaRules.Lawful.{IsLawful}
 use Rattle.schema_text.specs.Reading.{schema_at}
 use Rattle.alter_schema.specs.Altering.{altered}
 use Rattle.alter_text.specs.Reading.{alter_at}

@@ -5,7 +5,7 @@ use Rattle.std.specs.List.{range_with_len}
 use Rattle.gho_values.specs.declared.kind.Kind.TheVariants.{Int, VarChar}
 use Rattle.gho_values.specs.declared.value.Value.{Value}
 use Rattle.gho_values.specs.declared.value.Value.TheVariants.{Null, Num, Text}
-use Rattle.gho_schema.specs.declared.schema.Schema.{Schema}
+use Rattle.gho_values.specs.declared.gho_schema.schema.Schema.{Schema}
 use Rattle.row_store.specs.Databases.{TableRows}
 use Rattle.workload_gen.specs.Workloads.{row_count}
 use Rattle.workload_laws.specs.WorkloadDocument.Texts.{table_name, row_key, row_value}

@@ -7,14 +7,14 @@ use Rattle.std.specs.List.{AllByRecursion, slice_get}
 use Rattle.gho_values.specs.declared.value.Value.{Value}
 use Rattle.gho_values.specs.Comparing.{compare_keys}
 use Rattle.gho_values.proofs.Orders.{keys_total}
-use Rattle.gho_schema.specs.declared.schema.Schema.{Schema}
-use Rattle.gho_schema.specs.Rows.{key_of, key_places, with_row}
-use Rattle.gho_schema.specs.Tables.{Ascends}
+use Rattle.gho_values.specs.declared.gho_schema.schema.Schema.{Schema}
+use Rattle.gho_values.specs.GhoSchema.Rows.{key_of, key_places, with_row}
+use Rattle.gho_values.specs.GhoSchema.Tables.{Ascends}
 use Rattle.row_store.specs.RowLists.{is_at}
 use Rattle.row_store.specs.Databases.{TableRows, row_at_key}
 use Rattle.row_store.proofs.Orders.{Row}
 use Rattle.row_store.proofs.Ascending.{none_parts}
-use Rattle.gho_schema.proofs.Orders.{all-with_row}
+use Rattle.gho_values.proofs.GhoSchema.Orders.{all-with_row}
 use Rattle.plain_server.specs.Rows.{same_row, stands}
 use Rattle.written_rows.specs.Written.{with_key}
 use Rattle.written_rows.specs.Fitting.{KeysAscend}

@@ -4,17 +4,17 @@ use Rattle.std.proofs.lemmas.Bool.{true≢false, and_parts}
 use Rattle.std.specs.List.{slice_get}
 use Rattle.gho_values.specs.declared.span.Span.{Span}
 use Rattle.gho_values.specs.Spans.{has}
-use Rattle.gho_schema.specs.declared.schema.Schema.{Schema}
-use Rattle.gho_schema.specs.declared.schema.Index.{Index}
-use Rattle.gho_schema.specs.Clustering.{clustered_place, unique_at}
-use Rattle.gho_schema.specs.Rows.{key_of, key_places, places_of}
-use Rattle.gho_schema.specs.Tables.{no_null, clash}
+use Rattle.gho_values.specs.declared.gho_schema.schema.Schema.{Schema}
+use Rattle.gho_values.specs.declared.gho_schema.schema.Index.{Index}
+use Rattle.gho_values.specs.GhoSchema.Clustering.{clustered_place, unique_at}
+use Rattle.gho_values.specs.GhoSchema.Rows.{key_of, key_places, places_of}
+use Rattle.gho_values.specs.GhoSchema.Tables.{no_null, clash}
 use Rattle.row_store.specs.Databases.{TableRows, rows_in, clashing}
 use Rattle.row_store.proofs.Orders.{Row}
 use Rattle.plain_server.specs.declared.work.Reach.{Reach}
 use Rattle.plain_server.specs.Rows.{lies_under, rows_met, same_row, stands}
 use Rattle.plain_server.specs.Saying.{displaced}
-use Rattle.statement_laws.proofs.Standing.{same_itself}
+use Rattle.plain_server.proofs.StatementLaws.Standing.{same_itself}
 
 -- rows that pass a test are among those that pass a wider one
 pub filter_within : (test wide : Row → Bool) (rows : List Row) → ((row : Row) → test row ≡ true → wide row ≡ true) → filter test (filter wide rows) ≡ filter test rows

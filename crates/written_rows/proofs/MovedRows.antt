@@ -3,15 +3,15 @@ use Rattle.std.proofs.Common.{◌≡◌, ℕ, ◌+◌, ◌≤◌, Bool, true, fa
 use Rattle.std.specs.Prelude.{option_to_list}
 use Rattle.std.proofs.lemmas.Bool.{true≢false, false≢true}
 use Rattle.std.specs.List.{AllByRecursion}
-use Rattle.gho_schema.specs.Rows.{key_of}
-use Rattle.gho_schema.specs.Tables.{Ascends}
+use Rattle.gho_values.specs.GhoSchema.Rows.{key_of}
+use Rattle.gho_values.specs.GhoSchema.Tables.{Ascends}
 use Rattle.row_store.specs.RowLists.{is_at, without_key}
 use Rattle.row_store.proofs.Orders.{Row}
 use Rattle.row_store.proofs.Ascending.{ascends-with_row, ascends-filter}
 use Rattle.row_store.proofs.RowLaws.{key_is, gone}
 use Rattle.plain_server.specs.Rows.{same_row, stands}
-use Rattle.statement_laws.proofs.Standing.{stands-filter, one_list}
-use Rattle.statement_laws.proofs.Points2.{one_met}
+use Rattle.plain_server.proofs.StatementLaws.Standing.{stands-filter, one_list}
+use Rattle.plain_server.proofs.StatementLaws.Points2.{one_met}
 use Rattle.written_rows.specs.Written.{is_touched, put_all, seen}
 use Rattle.written_rows.specs.Fitting.{KeysAscend, IsWritten}
 use Rattle.written_rows.proofs.KeyTables.{none_stands}

@@ -6,24 +6,24 @@ use Rattle.std.specs.List.{AllByRecursion}
 use Rattle.std.proofs.lemmas.Cmp.{tied_itself}
 use Rattle.std.proofs.Math.Bool.{or_assoc}
 use Rattle.gho_values.proofs.Orders.{keys_total}
-use Rattle.gho_schema.specs.Rows.{key_of, with_row}
-use Rattle.gho_schema.specs.Tables.{Ascends}
+use Rattle.gho_values.specs.GhoSchema.Rows.{key_of, with_row}
+use Rattle.gho_values.specs.GhoSchema.Tables.{Ascends}
 use Rattle.event_codec.specs.declared.event.Change.{Change}
 use Rattle.event_codec.specs.declared.event.Change.TheVariants.{Write, Update, Delete}
 use Rattle.row_store.specs.RowLists.{is_at, without_key}
 use Rattle.row_store.proofs.Orders.{Row}
-use Rattle.gho_schema.proofs.Orders.{all-with_row}
+use Rattle.gho_values.proofs.GhoSchema.Orders.{all-with_row}
 use Rattle.row_store.proofs.Ascending.{all-filter, ascends-with_row, ascends-filter}
 use Rattle.row_store.proofs.FoundRows.{none_to_remove}
 use Rattle.row_store.proofs.RowLaws.{gone}
 use Rattle.plain_server.specs.Rows.{same_row, stands, without_row, change_rows, change_all}
-use Rattle.statement_laws.proofs.Standing.{stands-put, stands-filter, one_list}
+use Rattle.plain_server.proofs.StatementLaws.Standing.{stands-put, stands-filter, one_list}
 use Rattle.written_rows.specs.Written.{Written, nothing, with_key, with_keys, is_touched, untouched, seen, removed, stored, wrote, wrote_all, written_over}
 use Rattle.written_rows.specs.Fitting.{IsNewAmong, FitsRows, AllFit, IsWritten}
 use Rattle.written_rows.specs.Laws.{SeenRowsChange, ChangesAreSeen, LaterOverEarlier}
 use Rattle.written_rows.proofs.TouchedKeys.{stands-with_keys, touched-with_key, ascend-with_key, ascend-with_keys}
 use Rattle.written_rows.proofs.SeenRows.{stands-seen, all-put_all, ascends-seen, seen-nothing}
-use Rattle.statement_laws.proofs.OneRow.{own_key, same_removal}
+use Rattle.plain_server.proofs.StatementLaws.OneRow.{own_key, same_removal}
 
 -- what was touched stays so
 pub more_touched : (places : List ℕ) (key : Row) (keys rows : List Row) → AllByRecursion (λ row. is_touched places keys row ≡ true) rows → AllByRecursion (λ row. is_touched places (with_key key keys) row ≡ true) rows

@@ -5,18 +5,18 @@ use Rattle.std.specs.Ordering.{is_eq}
 use Rattle.std.specs.List.{AllByRecursion}
 use Rattle.std.proofs.Math.Bool.{or_assoc}
 use Rattle.gho_values.specs.Comparing.{compare_keys}
-use Rattle.gho_schema.specs.declared.schema.Schema.{Schema}
-use Rattle.gho_schema.specs.Rows.{key_of, key_places}
-use Rattle.gho_schema.specs.Tables.{Ascends}
+use Rattle.gho_values.specs.declared.gho_schema.schema.Schema.{Schema}
+use Rattle.gho_values.specs.GhoSchema.Rows.{key_of, key_places}
+use Rattle.gho_values.specs.GhoSchema.Tables.{Ascends}
 use Rattle.row_store.specs.RowLists.{is_at}
 use Rattle.row_store.specs.Databases.{TableRows}
 use Rattle.row_store.proofs.Orders.{Row}
-use Rattle.gho_schema.proofs.Orders.{all-with_row}
+use Rattle.gho_values.proofs.GhoSchema.Orders.{all-with_row}
 use Rattle.row_store.proofs.Ascending.{all-filter, ascends-with_row, ascends-filter}
 use Rattle.row_store.proofs.FoundRows.{none_found}
 use Rattle.row_store.proofs.RowLaws.{key_is, put_other}
 use Rattle.plain_server.specs.Rows.{same_row, stands}
-use Rattle.statement_laws.proofs.Standing.{stands-put, stands-filter, one_list}
+use Rattle.plain_server.proofs.StatementLaws.Standing.{stands-put, stands-filter, one_list}
 use Rattle.written_rows.specs.Written.{Written, nothing, is_touched, untouched, put_all, seen}
 use Rattle.written_rows.specs.Fitting.{IsNewAmong, IsWritten}
 use Rattle.written_rows.specs.Stored.{StoredWrites}

@@ -1,7 +1,7 @@
 -- What was written stays in order through each call.
 use Rattle.std.proofs.Common.{◌≡◌, ℕ, List, find, length, None, sym, ap, ◌∙◌, subst}
-use Rattle.gho_schema.specs.declared.schema.Schema.{Schema}
-use Rattle.gho_schema.specs.Rows.{key_of, key_places, with_row}
+use Rattle.gho_values.specs.declared.gho_schema.schema.Schema.{Schema}
+use Rattle.gho_values.specs.GhoSchema.Rows.{key_of, key_places, with_row}
 use Rattle.row_store.specs.RowLists.{is_at, without_key}
 use Rattle.row_store.proofs.Orders.{Row}
 use Rattle.row_store.proofs.RowLaws.{gone}

@@ -4,14 +4,14 @@ use Rattle.std.specs.Ordering.{is_eq, match_ordering, ordering_reverse}
 use Rattle.std.specs.List.{AllByRecursion}
 use Rattle.gho_values.specs.Comparing.{compare_keys}
 use Rattle.gho_values.proofs.Orders.{keys_total, tied_keys}
-use Rattle.gho_schema.specs.Rows.{key_of}
+use Rattle.gho_values.specs.GhoSchema.Rows.{key_of}
 use Rattle.row_store.specs.RowLists.{is_at}
 use Rattle.row_store.proofs.Orders.{Row, turned}
 use Rattle.plain_server.specs.Rows.{same_row, stands}
 use Rattle.written_rows.specs.Written.{with_key, with_keys, is_touched}
 use Rattle.written_rows.specs.Fitting.{KeysAscend}
-use Rattle.statement_laws.proofs.Tests.{or_swapped}
-use Rattle.row_pages.proofs.RowPlaces.{eq_turned}
+use Rattle.plain_server.proofs.StatementLaws.Tests.{or_swapped}
+use Rattle.paged_tables.proofs.RowPages.RowPlaces.{eq_turned}
 
 pub same_both : (a b : Row) → same_row a b ≡ same_row b a
 same_both a b = ap is_eq (turned a b) ∙ eq_turned (compare_keys b a)

@@ -4,8 +4,8 @@ use Rattle.std.specs.declared.cmp.Ordering.TheVariants.{Less}
 use Rattle.std.specs.List.{AllByRecursion}
 use Rattle.gho_values.specs.declared.value.Value.{Value}
 use Rattle.gho_values.specs.Comparing.{compare_keys}
-use Rattle.gho_schema.specs.Rows.{key_of}
-use Rattle.gho_schema.specs.Tables.{Ascends}
+use Rattle.gho_values.specs.GhoSchema.Rows.{key_of}
+use Rattle.gho_values.specs.GhoSchema.Tables.{Ascends}
 use Rattle.event_codec.specs.declared.event.Change.{Change}
 use Rattle.event_codec.specs.declared.event.Change.TheVariants.{Write, Update, Delete}
 use Rattle.row_store.specs.RowLists.{is_at}

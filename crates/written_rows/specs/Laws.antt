@@ -1,7 +1,7 @@
 -- What holds of all that is written to a table.
 use Rattle.std.specs.Prelude.{◌≡◌, ℕ, Bool, List, filter}
 use Rattle.gho_values.specs.declared.value.Value.{Value}
-use Rattle.gho_schema.specs.Tables.{Ascends}
+use Rattle.gho_values.specs.GhoSchema.Tables.{Ascends}
 use Rattle.event_codec.specs.declared.event.Change.{Change}
 use Rattle.plain_server.specs.Rows.{change_rows, change_all}
 use Rattle.written_rows.specs.Written.{Written, nothing, untouched, put_all, seen, wrote, wrote_all, written_over}

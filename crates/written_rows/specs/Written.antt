@@ -5,7 +5,7 @@ use Rattle.std.specs.Prelude.{ℕ, Bool, not, List, [], ◌∷◌, filter}
 use Rattle.std.specs.Ordering.{match_ordering}
 use Rattle.gho_values.specs.declared.value.Value.{Value}
 use Rattle.gho_values.specs.Comparing.{compare_keys}
-use Rattle.gho_schema.specs.Rows.{key_of, with_row}
+use Rattle.gho_values.specs.GhoSchema.Rows.{key_of, with_row}
 use Rattle.event_codec.specs.declared.event.Change.{Change}
 use Rattle.event_codec.specs.declared.event.Change.TheVariants.{Write, Update, Delete}
 use Rattle.row_store.specs.RowLists.{without_key}

@@ -2,15 +2,15 @@
 
 ghost use Rattle.std.specs.Prelude.{◌≡◌, ◌≤◌, ◌<◌, ◌+◌, ◌^◌, [], length, IfOk, OnOk};
 ghost use Rattle.std.specs.List.{AllByRecursion};
-ghost use Rattle.gho_schema.specs.Rows.{key_places};
+ghost use Rattle.gho_values.specs.GhoSchema.Rows.{key_places};
 ghost use Rattle.plain_server.specs.Rows.{stands};
 ghost use Rattle.written_rows.specs.Stored.{counted};
 ghost use Rattle.written_rows.specs.Written.{with_key};
 ghost use Rattle.written_rows.specs.Fitting.{KeysAscend};
 
-use gho_schema::{Index, Places, Schema};
+use gho_values::gho_schema::{Index, Places, Schema};
 use gho_values::{Chars, Duplicate, Key, Keys, Name, Sequence};
-use row_pages::{SpanRows, Table};
+use paged_tables::row_pages::{SpanRows, Table};
 use std::alloc::{AllocError, Global};
 use std::marker::Model;
 
@@ -23,7 +23,7 @@ pub struct KeySet {
 
 impl Model for KeySet {
     ghost use Rattle.std.specs.Prelude.{length};
-    ghost use Rattle.gho_schema.specs.Rows.{key_places};
+    ghost use Rattle.gho_values.specs.GhoSchema.Rows.{key_places};
     ghost use Rattle.written_rows.specs.Stored.{StoredKeys, IsKeyTable};
 
     ghost Value = { StoredKeys };
@@ -46,7 +46,7 @@ fn first_places(alloc: Global, width: usize) -> Result<Places, AllocError>
 }
 
 /// A schema whose clustered key is at these places.
-#[tactic(auto, unfolding(gho_schema::specs::Clustering::clustered_among))]
+#[tactic(auto, unfolding(gho_values::specs::GhoSchema::Clustering::clustered_among))]
 fn schema_of_keys(alloc: Global, places: Places) -> Result<Schema, AllocError>
     ensures { IfOk result (λ schema. key_places schema ≡ places) }
 {

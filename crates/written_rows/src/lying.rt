@@ -4,9 +4,9 @@ ghost use Rattle.std.specs.Prelude.{◌≡◌, Some, filter, IfOk};
 ghost use Rattle.gho_values.specs.Spans.{above, below};
 ghost use Rattle.plain_server.specs.Rows.{lies_under};
 
-use gho_schema::{Index, key_of};
+use gho_values::gho_schema::{Index, key_of};
 use gho_values::{Bound, Duplicate, Key, Rows, Sequence, Span, Value};
-use row_pages::SpanRows;
+use paged_tables::row_pages::SpanRows;
 use row_store::has_no_null;
 use std::alloc::{AllocError, Global};
 

@@ -1,16 +1,16 @@
 //! The rows of one table that a condition reaches, and those that clash with a new row.
 
 ghost use Rattle.std.specs.Prelude.{◌≡◌, true, Some, slice_get, option_copied, IfOk};
-ghost use Rattle.gho_schema.specs.Clustering.{clustered_place};
+ghost use Rattle.gho_values.specs.GhoSchema.Clustering.{clustered_place};
 ghost use Rattle.plain_server.specs.Rows.{rows_met};
 ghost use Rattle.plain_server.specs.Saying.{displaced};
 
 use crate::gathering::{clashing_rows, rows_under};
 use crate::lying::copies_under;
-use gho_schema::{Index, Schema, clustered_place};
+use gho_values::gho_schema::{Index, Schema, clustered_place};
 use gho_values::{Row, Rows, Sequence};
+use paged_tables::row_pages::Table;
 use plain_server::Reach;
-use row_pages::Table;
 use std::alloc::{AllocError, Global};
 
 /// The unique key at this place.

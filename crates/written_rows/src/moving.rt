@@ -2,8 +2,8 @@
 
 ghost use Rattle.std.specs.Prelude.{◌≡◌, ◌≤◌, ◌+◌, ◌∷◌, length, option_to_list};
 ghost use Rattle.std.specs.List.{AllByRecursion};
-ghost use Rattle.gho_schema.specs.Rows.{key_places};
-ghost use Rattle.gho_schema.specs.Tables.{Ascends};
+ghost use Rattle.gho_values.specs.GhoSchema.Rows.{key_places};
+ghost use Rattle.gho_values.specs.GhoSchema.Tables.{Ascends};
 ghost use Rattle.row_store.specs.RowLists.{without_key};
 ghost use Rattle.row_store.specs.Databases.{row_at_key};
 ghost use Rattle.written_rows.specs.Written.{put_all, seen, with_keys};
@@ -11,7 +11,7 @@ ghost use Rattle.written_rows.specs.Fitting.{IsWritten};
 
 use crate::keys::KeySet;
 use gho_values::{Key, Keys};
-use row_pages::Table;
+use paged_tables::row_pages::Table;
 
 /// Moves the row of a key into a table, in place of that which has the key there. It takes no memory.
 fn move_row(key: &Key, from: &mut Table, into: &mut Table)

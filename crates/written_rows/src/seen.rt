@@ -1,17 +1,17 @@
 //! A table as a transaction sees it.
 
 ghost use Rattle.std.specs.Prelude.{◌≡◌, IfOk};
-ghost use Rattle.gho_schema.specs.Rows.{key_places};
-ghost use Rattle.gho_schema.specs.Tables.{Ascends};
+ghost use Rattle.gho_values.specs.GhoSchema.Rows.{key_places};
+ghost use Rattle.gho_values.specs.GhoSchema.Tables.{Ascends};
 ghost use Rattle.plain_server.specs.Rows.{rows_met};
 ghost use Rattle.plain_server.specs.Saying.{displaced};
 
 use crate::meeting::{rows_clashing, rows_met};
 use crate::written::WrittenRows;
-use gho_schema::Schema;
+use gho_values::gho_schema::Schema;
 use gho_values::{Row, Rows};
+use paged_tables::row_pages::Table;
 use plain_server::Reach;
-use row_pages::Table;
 use std::alloc::{AllocError, Global};
 use std::marker::Model;
 
@@ -24,7 +24,7 @@ pub struct SeenTable<'a> {
 
 impl<'a> Model for SeenTable<'a> {
     ghost use Rattle.std.specs.Prelude.{◌≡◌};
-    ghost use Rattle.gho_schema.specs.Rows.{key_places};
+    ghost use Rattle.gho_values.specs.GhoSchema.Rows.{key_places};
     ghost use Rattle.row_store.specs.Databases.{TableRows};
     ghost use Rattle.written_rows.specs.Written.{seen};
 

@@ -1,8 +1,8 @@
 //! What was written to a table.
 
 ghost use Rattle.std.specs.Prelude.{◌≡◌, ◌≤◌, ◌<◌, ◌+◌, length, IfOk, OnOk, OnErr};
-ghost use Rattle.gho_schema.specs.Rows.{key_of, key_places};
-ghost use Rattle.gho_schema.specs.Tables.{Ascends};
+ghost use Rattle.gho_values.specs.GhoSchema.Rows.{key_of, key_places};
+ghost use Rattle.gho_values.specs.GhoSchema.Tables.{Ascends};
 ghost use Rattle.plain_server.specs.Rows.{rows_met};
 ghost use Rattle.plain_server.specs.Saying.{displaced};
 ghost use Rattle.written_rows.specs.Written.{nothing, untouched, put_all, removed, stored, wrote, written_over};
@@ -13,10 +13,10 @@ use crate::meeting::{rows_clashing, rows_met};
 use crate::merging::merged;
 use crate::moving::lay_over;
 use event_codec::Change;
-use gho_schema::{Schema, key_of};
+use gho_values::gho_schema::{Schema, key_of};
 use gho_values::{Duplicate, Key, Keys, Row, Rows, Sequence};
+use paged_tables::row_pages::Table;
 use plain_server::Reach;
-use row_pages::Table;
 use std::alloc::{AllocError, Global};
 use std::marker::Model;
 

@@ -3,7 +3,7 @@ use Rattle.std.proofs.Common.{◌≡◌, Bool, true, false, refl, sym, ◌∙◌
 use Rattle.std.proofs.lemmas.Bool.{true≢false}
 use Rattle.migration_program.specs.Verdicts.{has_ended}
 use Rattle.revert_laws.specs.GoingLaws.Laws.{SomeoneGoes}
-use Rattle.accepted_laws.specs.Laws.{ReadPlansAreRunnable, ReadPlansAreSerial, ReadScriptsEnd}
+use Rattle.accepted_runs.specs.AcceptedLaws.Laws.{ReadPlansAreRunnable, ReadPlansAreSerial, ReadScriptsEnd}
 use Rattle.accepted_runs.specs.CompleteLaws.Quiet.{AcceptedQuietRunsAreDone, QuietRunsAreDone}
 
 -- *Accepted quiet runs are done*

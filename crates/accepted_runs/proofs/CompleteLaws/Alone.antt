@@ -17,18 +17,18 @@ use Rattle.plain_server.specs.declared.request.Request.{Request}
 use Rattle.plain_server.specs.declared.request.Request.TheVariants as requests
 use Rattle.plain_server.specs.Entries.{same_actor, is_client}
 use Rattle.plan_words.specs.PlanData.{PlanData}
-use Rattle.journal_words.specs.Clients.{Reached, client_after, became, after_turn, client_at, new_client, script_of, client_asks, line_asks}
-use Rattle.journal_words.specs.Journals.{turns_of}
-use Rattle.journal_words.specs.Keeping.{IsPlanned, IsStruck, KeepsPlan, TakesNext, commands_taken, cut_among, cut_due, side_due, struck_among, words_of}
-use Rattle.cutover_core.specs.CutOvers.{is_bad}
+use Rattle.migration_program.specs.JournalWords.Clients.{Reached, client_after, became, after_turn, client_at, new_client, script_of, client_asks, line_asks}
+use Rattle.migration_program.specs.JournalWords.Journals.{turns_of}
+use Rattle.migration_program.specs.JournalWords.Keeping.{IsPlanned, IsStruck, KeepsPlan, TakesNext, commands_taken, cut_among, cut_due, side_due, struck_among, words_of}
+use Rattle.migration_program.specs.CutoverCore.CutOvers.{is_bad}
 use Rattle.migration_program.specs.Programs.{given}
-use Rattle.run_laws.specs.Kept.{IsKept}
-use Rattle.machine_laws.specs.Standings.{standing_of, serves_to, gives, IsAbout, is_called, is_polled}
-use Rattle.machine_laws.proofs.Journals.{IsRun, IsTogether, Asking, asking, calls_so, polls_so}
-use Rattle.machine_laws.proofs.Seated.{IsServed, own_heard}
-use Rattle.course_laws.proofs.CourseTurns.{gives_asked}
-use Rattle.ghost_laws.proofs.Turns.{along_next}
-use Rattle.follow_laws.proofs.FollowTurns.Follows.{kept_run}
+use Rattle.history_laws.specs.RunLaws.Kept.{IsKept}
+use Rattle.history_laws.specs.MachineLaws.Standings.{standing_of, serves_to, gives, IsAbout, is_called, is_polled}
+use Rattle.history_laws.proofs.MachineLaws.Journals.{IsRun, IsTogether, Asking, asking, calls_so, polls_so}
+use Rattle.history_laws.proofs.MachineLaws.Seated.{IsServed, own_heard}
+use Rattle.revert_laws.proofs.CourseLaws.CourseTurns.{gives_asked}
+use Rattle.history_laws.proofs.GhostLaws.Turns.{along_next}
+use Rattle.revert_laws.proofs.FollowLaws.FollowTurns.Follows.{kept_run}
 use Rattle.accepted_runs.specs.CompleteLaws.Quiet.{IsQuiet, is_timed_out}
 
 -- no turn is a client's

@@ -4,9 +4,9 @@ use Rattle.std.specs.List.{AllByRecursion}
 use Rattle.std.proofs.lemmas.Bool.{true≢false, false≢true}
 use Rattle.gho_values.specs.Laws.{StoresAgain}
 use Rattle.gho_values.specs.declared.value.Value.{Value}
-use Rattle.gho_schema.specs.Rows.{key_places}
-use Rattle.alter_image.specs.declared.image_fault.UnfitAt.{UnfitAt}
-use Rattle.alter_image.specs.declared.map.MapColumn.{MapColumn}
+use Rattle.gho_values.specs.GhoSchema.Rows.{key_places}
+use Rattle.gho_values.specs.declared.alter_image.image_fault.UnfitAt.{UnfitAt}
+use Rattle.gho_values.specs.declared.alter_image.map.MapColumn.{MapColumn}
 use Rattle.row_store.specs.Databases.{Database, find_table}
 use Rattle.row_store.specs.RowLists.{is_at}
 use Rattle.script_text.specs.declared.actor.Actor.{Actor}
@@ -21,28 +21,28 @@ use Rattle.plain_server.specs.Jobs.{after_events}
 use Rattle.plain_server.specs.States.{State, session_of, view, writes_of}
 use Rattle.plan_words.specs.PlanData.{PlanData, new_map}
 use Rattle.changelog_table.specs.ToolNames.{ghost_name}
-use Rattle.journal_words.specs.Journals.{opens, state_at}
-use Rattle.chunk_copier.specs.declared.copier.CopyStep.{CopyStep}
-use Rattle.chunk_copier.specs.declared.copier.CopyStep.TheVariants.{Copying}
-use Rattle.event_applier.specs.declared.applier.ApplyStep.{ApplyStep}
-use Rattle.event_applier.specs.declared.applier.ApplyStep.TheVariants as applying
-use Rattle.event_applier.specs.Appliers as appliers
+use Rattle.migration_program.specs.JournalWords.Journals.{opens, state_at}
+use Rattle.migration_program.specs.declared.chunk_copier.copier.CopyStep.{CopyStep}
+use Rattle.migration_program.specs.declared.chunk_copier.copier.CopyStep.TheVariants.{Copying}
+use Rattle.migration_program.specs.declared.event_applier.applier.ApplyStep.{ApplyStep}
+use Rattle.migration_program.specs.declared.event_applier.applier.ApplyStep.TheVariants as applying
+use Rattle.migration_program.specs.EventApplier.Appliers as appliers
 use Rattle.migration_program.specs.Programs.{tool_call}
 use Rattle.migration_program.specs.Tools.{Course, SettingUp, Migrating, Work, is_reverting, moment}
 use Rattle.history_laws.specs.Holdings.{Face, face_of}
 use Rattle.history_laws.proofs.Faces.{faces_opened, writes_face}
-use Rattle.migration_laws.proofs.CopyLaws.Rows.{found_all}
-use Rattle.machine_laws.specs.Keying.{IsKeyed}
-use Rattle.machine_laws.specs.Laws.{has_keys}
-use Rattle.machine_laws.specs.Machines.{CourseStands, WorkStands, copier_asks}
-use Rattle.machine_laws.specs.Runnable.{IsRunnable}
-use Rattle.machine_laws.specs.Standings.{IsAbout, Standing, is_called, is_polled, standing_of}
-use Rattle.machine_laws.specs.Tabling.{CourseTables}
-use Rattle.machine_laws.proofs.Journals.{Asking, IsRun, IsTogether, calls_so, copy_about, copier_had, polls_so}
-use Rattle.machine_laws.proofs.Keyed.{IsKeyedAll, copy_called, copy_uncopied}
-use Rattle.machine_laws.proofs.Seated.{IsServed}
-use Rattle.course_laws.proofs.CopyAnswers.{CopyFits, UnfitRow, own_copy}
-use Rattle.course_laws.proofs.Hearing.{opened_tables}
+use Rattle.revert_laws.proofs.MigrationLaws.CopyLaws.Rows.{found_all}
+use Rattle.history_laws.specs.MachineLaws.Keying.{IsKeyed}
+use Rattle.history_laws.specs.MachineLaws.Laws.{has_keys}
+use Rattle.history_laws.specs.MachineLaws.Machines.{CourseStands, WorkStands, copier_asks}
+use Rattle.history_laws.specs.MachineLaws.Runnable.{IsRunnable}
+use Rattle.history_laws.specs.MachineLaws.Standings.{IsAbout, Standing, is_called, is_polled, standing_of}
+use Rattle.history_laws.specs.MachineLaws.Tabling.{CourseTables}
+use Rattle.history_laws.proofs.MachineLaws.Journals.{Asking, IsRun, IsTogether, calls_so, copy_about, copier_had, polls_so}
+use Rattle.history_laws.proofs.MachineLaws.Keyed.{IsKeyedAll, copy_called, copy_uncopied}
+use Rattle.history_laws.proofs.MachineLaws.Seated.{IsServed}
+use Rattle.revert_laws.proofs.CourseLaws.CopyAnswers.{CopyFits, UnfitRow, own_copy}
+use Rattle.revert_laws.proofs.CourseLaws.Hearing.{opened_tables}
 use Rattle.accepted_runs.specs.CompleteLaws.Laws.{has_row, is_applying, is_copying, is_unfit}
 use Rattle.accepted_runs.specs.CompleteLaws.Quiet.{AllHaveImages, HasImage, RowsHaveImages}
 use Rattle.accepted_runs.proofs.CompleteLaws.ReadingOn.{ReadsOn}

@@ -5,7 +5,7 @@ use Rattle.std.specs.List.{AllByRecursion, list_any}
 use Rattle.std.specs.Option.{option_map}
 use Rattle.std.specs.Str.{bytes_eq}
 use Rattle.std.proofs.lemmas.Bool.{true≢false}
-use Rattle.schema_rules.proofs.Lists.{All-append, All-weaker}
+use Rattle.gho_values.proofs.SchemaRules.Lists.{All-append, All-weaker}
 use Rattle.script_text.specs.declared.actor.Actor.{Actor}
 use Rattle.plain_server.specs.declared.answer.Answer.{Answer}
 use Rattle.plain_server.specs.declared.answer.Answer.TheVariants as answers
@@ -21,9 +21,9 @@ use Rattle.plain_server.specs.Locking.{need}
 use Rattle.plain_server.specs.Serving.{calls, called_unless, done, serves}
 use Rattle.plain_server.specs.States.{State, session_of, new_session, connected, is_live, is_waiting, waiting_of, locked_names, shared_names}
 use Rattle.plan_words.specs.PlanData.{PlanData}
-use Rattle.journal_words.specs.Journals.{opens, opens_if, state_at}
-use Rattle.journal_words.specs.Sessions.{live_session}
-use Rattle.cutover_core.specs.CutOvers.{is_wait}
+use Rattle.migration_program.specs.JournalWords.Journals.{opens, opens_if, state_at}
+use Rattle.migration_program.specs.JournalWords.Sessions.{live_session}
+use Rattle.migration_program.specs.CutoverCore.CutOvers.{is_wait}
 use Rattle.history_laws.specs.Holdings.{Face, face_in, face_of, names_of}
 use Rattle.history_laws.specs.Plans.{limits_of, scene_of}
 use Rattle.history_laws.specs.Scenes.{SessionHold}
@@ -31,13 +31,13 @@ use Rattle.history_laws.specs.Turns.{request_of}
 use Rattle.history_laws.proofs.Actors.{same_actor_is, Placed, Commands, GoesOn, Begins, placed}
 use Rattle.history_laws.proofs.Journals.{JournalHolds, opened_waits}
 use Rattle.history_laws.proofs.Waiting.{IsDone, done_answers}
-use Rattle.run_laws.specs.Laws.{Living, NoneWaits}
-use Rattle.statement_laws.proofs.Tests.{same_number}
-use Rattle.course_laws.specs.Laws.{IsOwned}
-use Rattle.course_laws.proofs.Owners.{AllOwned}
-use Rattle.machine_laws.specs.Standings.{Standing, standing_in, standing_of}
-use Rattle.machine_laws.proofs.Journals.{IsRun}
-use Rattle.machine_laws.proofs.Seated.{IsKnown, IsServed, own_given}
+use Rattle.history_laws.specs.RunLaws.Laws.{Living, NoneWaits}
+use Rattle.plain_server.proofs.StatementLaws.Tests.{same_number}
+use Rattle.revert_laws.specs.CourseLaws.Laws.{IsOwned}
+use Rattle.revert_laws.proofs.CourseLaws.Owners.{AllOwned}
+use Rattle.history_laws.specs.MachineLaws.Standings.{Standing, standing_in, standing_of}
+use Rattle.history_laws.proofs.MachineLaws.Journals.{IsRun}
+use Rattle.history_laws.proofs.MachineLaws.Seated.{IsKnown, IsServed, own_given}
 use Rattle.accepted_runs.proofs.CompleteLaws.Unblocked.{Clears, each_session, names_off, unblocked}
 
 -- the actor has no transaction, and locked no table of these names

@@ -1,7 +1,7 @@
 -- A run of a quiet plan, each of whose rows has an image, and that is within limits, is smooth.
 use Rattle.std.proofs.Common.{◌≡◌, Bool, true, false, List, [], ◌∷◌, ◌++◌, refl, sym, ap, ◌∙◌}
 use Rattle.std.proofs.lemmas.Bool.{true≢false}
-use Rattle.schema_rules.proofs.Lists.{All-append}
+use Rattle.gho_values.proofs.SchemaRules.Lists.{All-append}
 use Rattle.gho_values.specs.Laws.{StoresAgain}
 use Rattle.script_text.specs.declared.actor.Actor.TheVariants.{Apply}
 use Rattle.script_text.specs.declared.operator.OperatorWord.TheVariants.{Panic}
@@ -11,14 +11,14 @@ use Rattle.plan_words.specs.PlanData.{PlanData}
 use Rattle.migration_program.specs.Tools.{is_renamed, is_reverting, moment}
 use Rattle.history_laws.specs.Plans.{limits_of, scene_of, IsSerialPlan}
 use Rattle.history_laws.specs.Turns.{history}
-use Rattle.run_laws.specs.Kept.{IsKept}
-use Rattle.machine_laws.specs.Runnable.{IsRunnable}
-use Rattle.machine_laws.proofs.Journals.{IsRun, IsTogether}
-use Rattle.machine_laws.proofs.Keyed.{all_keyed}
-use Rattle.machine_laws.proofs.Staying.{tables_stay}
-use Rattle.course_laws.specs.UnalteredLaws.Laws.{IsUnaltered}
-use Rattle.course_laws.proofs.UnalteredLaws.Away.{all_asked}
-use Rattle.follow_laws.proofs.FollowTurns.Follows.{kept_front, kept_run}
+use Rattle.history_laws.specs.RunLaws.Kept.{IsKept}
+use Rattle.history_laws.specs.MachineLaws.Runnable.{IsRunnable}
+use Rattle.history_laws.proofs.MachineLaws.Journals.{IsRun, IsTogether}
+use Rattle.history_laws.proofs.MachineLaws.Keyed.{all_keyed}
+use Rattle.history_laws.proofs.MachineLaws.Staying.{tables_stay}
+use Rattle.revert_laws.specs.CourseLaws.UnalteredLaws.Laws.{IsUnaltered}
+use Rattle.revert_laws.proofs.CourseLaws.UnalteredLaws.Away.{all_asked}
+use Rattle.revert_laws.proofs.FollowLaws.FollowTurns.Follows.{kept_front, kept_run}
 use Rattle.accepted_runs.specs.CompleteLaws.Laws.{IsSmooth, gives_up, may_yet}
 use Rattle.accepted_runs.specs.CompleteLaws.Quiet.{IsQuiet, RowsHaveImages, is_timed_out}
 use Rattle.accepted_runs.proofs.CompleteLaws.Alone.{Nobody, asks_so, heard_well, is_of_tool, never_cut, no_command, tool_kind, unlost}

@@ -3,7 +3,7 @@ use Rattle.std.proofs.Common.{◌≡◌, ◌≢◌, ◌⊎◌, ℕ, zero, suc, �
 use Rattle.std.specs.List.{flat_map}
 use Rattle.std.specs.Str.{bytes_eq}
 use Rattle.std.proofs.lemmas.Bool.{true≢false, false≢true}
-use Rattle.schema_rules.proofs.Lists.{All-filter}
+use Rattle.gho_values.proofs.SchemaRules.Lists.{All-filter}
 use Rattle.script_text.specs.declared.actor.Actor.{Actor}
 use Rattle.script_text.specs.declared.actor.Actor.TheVariants.{Op, Insp, Copy, Apply, Lock, Ren, Client}
 use Rattle.event_codec.specs.declared.event.RowEvent.{RowEvent}
@@ -15,12 +15,12 @@ use Rattle.plain_server.specs.declared.request.Request.{Request}
 use Rattle.plain_server.specs.declared.request.Request.TheVariants as requests
 use Rattle.plan_words.specs.PlanData.{PlanData}
 use Rattle.changelog_table.specs.ToolNames.{log_name}
-use Rattle.journal_words.specs.Journals.{opens, state_at}
-use Rattle.journal_words.specs.Sessions.{live_session}
-use Rattle.event_applier.specs.Appliers as appliers
-use Rattle.event_applier.specs.declared.applier.Applier.{Applier}
-use Rattle.event_applier.specs.declared.applier.ApplyStep.{ApplyStep}
-use Rattle.event_applier.specs.declared.applier.ApplyStep.TheVariants as applying
+use Rattle.migration_program.specs.JournalWords.Journals.{opens, state_at}
+use Rattle.migration_program.specs.JournalWords.Sessions.{live_session}
+use Rattle.migration_program.specs.EventApplier.Appliers as appliers
+use Rattle.migration_program.specs.declared.event_applier.applier.Applier.{Applier}
+use Rattle.migration_program.specs.declared.event_applier.applier.ApplyStep.{ApplyStep}
+use Rattle.migration_program.specs.declared.event_applier.applier.ApplyStep.TheVariants as applying
 use Rattle.migration_program.specs.Programs.{apply_call, rolls_back, tool_call}
 use Rattle.migration_program.specs.Setups.{Setup, Listing, Clearing, MakingLog, MakingGhost, Marking, Reaching, Ready, setup_after}
 use Rattle.migration_program.specs.Tools.{Work, Course, SettingUp, Migrating, Tool, Moment, stopped, is_reverting, course_of, moment}
@@ -28,18 +28,18 @@ use Rattle.migration_program.proofs.ProgramLaws.Machines.{CourseIsNamed, named}
 use Rattle.history_laws.specs.Plans.{limits_of, scene_of, IsSerialPlan}
 use Rattle.history_laws.specs.Turns.{about}
 use Rattle.history_laws.proofs.Joined.{told_answer, told_missed}
-use Rattle.run_laws.specs.Kept.{IsKept}
-use Rattle.machine_laws.specs.Machines.{applier_asks, ApplierStands, CourseStands}
-use Rattle.machine_laws.specs.Runnable.{IsRunnable}
-use Rattle.machine_laws.specs.Standings.{Standing, standing_of, needs_names}
-use Rattle.machine_laws.proofs.Asking.{waits_asks}
-use Rattle.machine_laws.proofs.Journals.{IsRun, IsTogether, Asking, apply_called, calls_so, polls_so}
-use Rattle.course_laws.proofs.CourseTurns.{Kept, AnswerKeeps, ResizeKeeps, UnfitKeeps, turn_kept}
-use Rattle.sentry_laws.proofs.Draining.{IsRead, on_both}
-use Rattle.course_laws.specs.UnalteredLaws.Laws.{IsUnaltered}
-use Rattle.follow_laws.proofs.HintLaws.Known.{hints_go, hints_known}
-use Rattle.follow_laws.proofs.HintLaws.States.{BatchIs, batch_is}
-use Rattle.follow_laws.proofs.HintLaws.Telling.{both_tables, reading_said}
+use Rattle.history_laws.specs.RunLaws.Kept.{IsKept}
+use Rattle.history_laws.specs.MachineLaws.Machines.{applier_asks, ApplierStands, CourseStands}
+use Rattle.history_laws.specs.MachineLaws.Runnable.{IsRunnable}
+use Rattle.history_laws.specs.MachineLaws.Standings.{Standing, standing_of, needs_names}
+use Rattle.history_laws.proofs.MachineLaws.Asking.{waits_asks}
+use Rattle.history_laws.proofs.MachineLaws.Journals.{IsRun, IsTogether, Asking, apply_called, calls_so, polls_so}
+use Rattle.revert_laws.proofs.CourseLaws.CourseTurns.{Kept, AnswerKeeps, ResizeKeeps, UnfitKeeps, turn_kept}
+use Rattle.history_laws.proofs.SentryLaws.Draining.{IsRead, on_both}
+use Rattle.revert_laws.specs.CourseLaws.UnalteredLaws.Laws.{IsUnaltered}
+use Rattle.revert_laws.proofs.FollowLaws.HintLaws.Known.{hints_go, hints_known}
+use Rattle.revert_laws.proofs.FollowLaws.HintLaws.States.{BatchIs, batch_is}
+use Rattle.revert_laws.proofs.FollowLaws.HintLaws.Telling.{both_tables, reading_said}
 use Rattle.accepted_runs.proofs.CompleteLaws.Untouched.{IsUntouched, NoneOf}
 
 -- the applier is to read

@@ -18,53 +18,53 @@ use Rattle.plain_server.specs.declared.outcome.Progress.TheVariants.{Going, Task
 use Rattle.plain_server.specs.declared.outcome.Task.{Task}
 use Rattle.plain_server.specs.declared.outcome.Task.TheVariants as tasks
 use Rattle.plain_server.specs.declared.outcome.Verdict.TheVariants as verdicts
-use Rattle.gho_schema.specs.declared.schema.Schema.{Schema}
+use Rattle.gho_values.specs.declared.gho_schema.schema.Schema.{Schema}
 use Rattle.plain_server.specs.declared.request.Request.{Request}
 use Rattle.plain_server.specs.declared.request.Request.TheVariants as requests
 use Rattle.plain_server.specs.Entries.{is_client}
 use Rattle.plain_server.specs.States.{State, has_work}
 use Rattle.plan_words.specs.PlanData.{PlanData}
 use Rattle.changelog_table.specs.ToolTables.{sentry_schema}
-use Rattle.journal_words.specs.Histories.{history, is_alter}
-use Rattle.journal_words.specs.Journals.{IsFaithful}
-use Rattle.chunk_copier.specs.Copiers as copiers
-use Rattle.chunk_copier.specs.declared.copier.Copier.{Copier}
-use Rattle.chunk_copier.specs.declared.copier.CopyStep.{CopyStep}
-use Rattle.chunk_copier.specs.declared.copier.CopyStep.TheVariants as copying
-use Rattle.event_applier.specs.Appliers as appliers
-use Rattle.event_applier.specs.declared.applier.Applier.{Applier}
-use Rattle.event_applier.specs.declared.applier.ApplyStep.{ApplyStep}
-use Rattle.event_applier.specs.declared.applier.ApplyStep.TheVariants as applying
-use Rattle.cutover_core.specs.CutOvers as cutovers
-use Rattle.cutover_core.specs.CutOvers.{is_bad, is_ending, may_succeed}
-use Rattle.cutover_core.specs.Attempts.{is_clear, without_first}
-use Rattle.cutover_core.specs.declared.cutover.Clearing.{Clearing as ClearingStep}
-use Rattle.cutover_core.specs.declared.cutover.Clearing.TheVariants.{Looking, Drops}
-use Rattle.cutover_core.specs.declared.cutover.CutOver.{CutOver}
-use Rattle.cutover_core.specs.declared.cutover.Hold.{Hold}
-use Rattle.cutover_core.specs.declared.cutover.Leftovers.{Leftovers}
-use Rattle.cutover_core.specs.declared.cutover.Phase.{Phase}
-use Rattle.cutover_core.specs.declared.cutover.Phase.TheVariants.{Resting, Attempting, Ending, Finishing, Finished}
-use Rattle.cutover_core.specs.declared.cutover.Role.{Role}
-use Rattle.cutover_core.specs.declared.cutover.Role.TheVariants.{Inspector, Locker, Renamer}
-use Rattle.cutover_core.specs.declared.cutover.Stage.TheVariants.{Drained}
+use Rattle.migration_program.specs.JournalWords.Histories.{history, is_alter}
+use Rattle.migration_program.specs.JournalWords.Journals.{IsFaithful}
+use Rattle.migration_program.specs.ChunkCopier.Copiers as copiers
+use Rattle.migration_program.specs.declared.chunk_copier.copier.Copier.{Copier}
+use Rattle.migration_program.specs.declared.chunk_copier.copier.CopyStep.{CopyStep}
+use Rattle.migration_program.specs.declared.chunk_copier.copier.CopyStep.TheVariants as copying
+use Rattle.migration_program.specs.EventApplier.Appliers as appliers
+use Rattle.migration_program.specs.declared.event_applier.applier.Applier.{Applier}
+use Rattle.migration_program.specs.declared.event_applier.applier.ApplyStep.{ApplyStep}
+use Rattle.migration_program.specs.declared.event_applier.applier.ApplyStep.TheVariants as applying
+use Rattle.migration_program.specs.CutoverCore.CutOvers as cutovers
+use Rattle.migration_program.specs.CutoverCore.CutOvers.{is_bad, is_ending, may_succeed}
+use Rattle.migration_program.specs.CutoverCore.Attempts.{is_clear, without_first}
+use Rattle.migration_program.specs.declared.cutover_core.cutover.Clearing.{Clearing as ClearingStep}
+use Rattle.migration_program.specs.declared.cutover_core.cutover.Clearing.TheVariants.{Looking, Drops}
+use Rattle.migration_program.specs.declared.cutover_core.cutover.CutOver.{CutOver}
+use Rattle.migration_program.specs.declared.cutover_core.cutover.Hold.{Hold}
+use Rattle.migration_program.specs.declared.cutover_core.cutover.Leftovers.{Leftovers}
+use Rattle.migration_program.specs.declared.cutover_core.cutover.Phase.{Phase}
+use Rattle.migration_program.specs.declared.cutover_core.cutover.Phase.TheVariants.{Resting, Attempting, Ending, Finishing, Finished}
+use Rattle.migration_program.specs.declared.cutover_core.cutover.Role.{Role}
+use Rattle.migration_program.specs.declared.cutover_core.cutover.Role.TheVariants.{Inspector, Locker, Renamer}
+use Rattle.migration_program.specs.declared.cutover_core.cutover.Stage.TheVariants.{Drained}
 use Rattle.migration_program.specs.Operators.{commanded}
 use Rattle.migration_program.specs.Programs.{given, Follows}
 use Rattle.migration_program.specs.Setups.{Setup, Listing, Clearing, MakingLog, MakingGhost, Marking, Reaching, Ready, setup_after}
 use Rattle.migration_program.specs.Tools.{Work, Course, SettingUp, Migrating, Reason, CopyUnfit, ApplyUnfit, Spent, Panicked, Tool, Moment, first_reason, stopped, is_renamed, reverts, spends, is_reverting, working, copy_after, apply_after, attempt_after, is_failure, cutover_took, drains, course_of, actor_took, turn_counts, resizes, command_took, asked_took, took, moment}
 use Rattle.migration_program.specs.Verdicts.{reverted_by, ended_so, has_ended, verdict_of}
-use Rattle.machine_laws.specs.Forming.{IsFitting}
-use Rattle.machine_laws.specs.Laws.{TellsAlter, VerdictsTellTheAlter}
-use Rattle.machine_laws.specs.Machines.{CourseStands, WorkStands, PhaseHolds}
-use Rattle.machine_laws.specs.Standings.{standing_of, answers_to, IsAbout}
-use Rattle.machine_laws.specs.Tabling.{TableStands}
-use Rattle.machine_laws.proofs.CuttingOver.{LockerAsks}
-use Rattle.machine_laws.proofs.Journals.{IsRun, all_runs, asking, lock_about, about}
-use Rattle.machine_laws.proofs.Seated.{IsServed, own_fits}
-use Rattle.course_laws.proofs.CourseTurns.{gives_asked}
-use Rattle.attempt_laws.proofs.Standing.{IsStanding, standing_more, all_standing}
-use Rattle.attempt_laws.proofs.CauseLaws.Sentry.{sentry_unrefused}
-use Rattle.sentry_laws.proofs.Inductions.{moment_more}
+use Rattle.history_laws.specs.MachineLaws.Forming.{IsFitting}
+use Rattle.history_laws.specs.MachineLaws.Laws.{TellsAlter, VerdictsTellTheAlter}
+use Rattle.history_laws.specs.MachineLaws.Machines.{CourseStands, WorkStands, PhaseHolds}
+use Rattle.history_laws.specs.MachineLaws.Standings.{standing_of, answers_to, IsAbout}
+use Rattle.history_laws.specs.MachineLaws.Tabling.{TableStands}
+use Rattle.history_laws.proofs.MachineLaws.CuttingOver.{LockerAsks}
+use Rattle.history_laws.proofs.MachineLaws.Journals.{IsRun, all_runs, asking, lock_about, about}
+use Rattle.history_laws.proofs.MachineLaws.Seated.{IsServed, own_fits}
+use Rattle.revert_laws.proofs.CourseLaws.CourseTurns.{gives_asked}
+use Rattle.revert_laws.proofs.AttemptLaws.Standing.{IsStanding, standing_more, all_standing}
+use Rattle.revert_laws.proofs.AttemptLaws.CauseLaws.Sentry.{sentry_unrefused}
+use Rattle.history_laws.proofs.SentryLaws.Inductions.{moment_more}
 use Rattle.accepted_runs.specs.CompleteLaws.Laws.{may_yet, gives_up, is_copying, is_applying, has_row, is_unfit, IsSmooth, SmoothRunsAreDone}
 
 -- WHAT A SMOOTH ANSWER MEANS FOR A TASK

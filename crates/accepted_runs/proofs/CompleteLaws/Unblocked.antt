@@ -3,7 +3,7 @@ use Rattle.std.proofs.Common.{◌≡◌, ◌⊎◌, ℕ, ◌==◌, Bool, true, f
 use Rattle.std.specs.List.{AllByRecursion}
 use Rattle.std.specs.Str.{bytes_eq}
 use Rattle.std.proofs.lemmas.Bool.{true≢false}
-use Rattle.schema_rules.proofs.Lists.{All-append, All-weaker}
+use Rattle.gho_values.proofs.SchemaRules.Lists.{All-append, All-weaker}
 use Rattle.row_locks.specs.Granting.{refuser_of_lock, refuser_of_set, refusal}
 use Rattle.row_locks.specs.Holding.{held_by}
 use Rattle.row_locks.specs.declared.lock.HeldLock.{HeldLock}
@@ -16,9 +16,9 @@ use Rattle.plain_server.specs.declared.session.Session.{Session}
 use Rattle.plain_server.specs.Locking.{blocker}
 use Rattle.plain_server.specs.States.{State, session_of, name_held, names_held, locks_held, kept_names, shared_names, locked_names, waiters}
 use Rattle.history_laws.specs.Holdings.{names_of}
-use Rattle.run_laws.specs.Counting.{AreApart}
-use Rattle.sentry_laws.proofs.Holding.{both_none}
-use Rattle.statement_laws.proofs.Tests.{are_one, same_number}
+use Rattle.history_laws.specs.RunLaws.Counting.{AreApart}
+use Rattle.history_laws.proofs.SentryLaws.Holding.{both_none}
+use Rattle.plain_server.proofs.StatementLaws.Tests.{are_one, same_number}
 
 -- the lock is the session's own, or on another name
 abbrev pub Off : ℕ → List ℕ → grants.HeldName → Type 0

@@ -17,12 +17,12 @@ use Rattle.plain_server.specs.Entries.{is_client, is_command}
 use Rattle.plain_server.specs.Jobs.{after_events}
 use Rattle.plain_server.specs.States.{State}
 use Rattle.plan_words.specs.PlanData.{PlanData}
-use Rattle.journal_words.specs.Histories as histories
-use Rattle.journal_words.specs.Histories.{HistoryItem, Alter, is_alter, renames_away, takes_away, told_in, alters}
-use Rattle.journal_words.specs.Journals.{opens, state_at}
-use Rattle.cutover_core.specs.declared.cutover.Phase.{Phase}
-use Rattle.cutover_core.specs.declared.cutover.Phase.TheVariants.{Resting, Attempting, Ending, Finishing, Finished}
-use Rattle.cutover_core.specs.CutOvers.{is_done, is_ending}
+use Rattle.migration_program.specs.JournalWords.Histories as histories
+use Rattle.migration_program.specs.JournalWords.Histories.{HistoryItem, Alter, is_alter, renames_away, takes_away, told_in, alters}
+use Rattle.migration_program.specs.JournalWords.Journals.{opens, state_at}
+use Rattle.migration_program.specs.declared.cutover_core.cutover.Phase.{Phase}
+use Rattle.migration_program.specs.declared.cutover_core.cutover.Phase.TheVariants.{Resting, Attempting, Ending, Finishing, Finished}
+use Rattle.migration_program.specs.CutoverCore.CutOvers.{is_done, is_ending}
 use Rattle.migration_program.specs.Tools.{Course, SettingUp, Migrating, is_renamed, moment}
 use Rattle.history_laws.specs.Holdings.{face_of, stored}
 use Rattle.history_laws.specs.Plans.{is_client_session, limits_of, scene_of, IsSerialPlan}
@@ -32,15 +32,15 @@ use Rattle.history_laws.proofs.Journals.{JournalHolds, journal_holds}
 use Rattle.history_laws.proofs.Kept.{others_alike, unfound}
 use Rattle.history_laws.proofs.Naming.{migrated_named}
 use Rattle.history_laws.proofs.PlanJournals.{plan_runs_are_scene_runs}
-use Rattle.run_laws.specs.Kept.{IsKept}
-use Rattle.machine_laws.specs.Runnable.{IsRunnable}
-use Rattle.machine_laws.proofs.Journals.{IsRun}
-use Rattle.course_laws.specs.UnalteredLaws.Laws.{IsUnaltered}
-use Rattle.course_laws.proofs.UnalteredLaws.Away.{IsKnownAsked, tool_adds, unaltered_entry}
-use Rattle.course_laws.proofs.UnalteredLaws.Runs.{unaltered_runs}
-use Rattle.attempt_laws.specs.RenamedLaws.Laws.{CourseRenamed, IsRenamedAt}
-use Rattle.attempt_laws.proofs.RenamedLaws.Seen.{all_seen}
-use Rattle.follow_laws.proofs.FollowTurns.Asked.{about_so}
+use Rattle.history_laws.specs.RunLaws.Kept.{IsKept}
+use Rattle.history_laws.specs.MachineLaws.Runnable.{IsRunnable}
+use Rattle.history_laws.proofs.MachineLaws.Journals.{IsRun}
+use Rattle.revert_laws.specs.CourseLaws.UnalteredLaws.Laws.{IsUnaltered}
+use Rattle.revert_laws.proofs.CourseLaws.UnalteredLaws.Away.{IsKnownAsked, tool_adds, unaltered_entry}
+use Rattle.revert_laws.proofs.CourseLaws.UnalteredLaws.Runs.{unaltered_runs}
+use Rattle.revert_laws.specs.AttemptLaws.RenamedLaws.Laws.{CourseRenamed, IsRenamedAt}
+use Rattle.revert_laws.proofs.AttemptLaws.RenamedLaws.Seen.{all_seen}
+use Rattle.revert_laws.proofs.FollowLaws.FollowTurns.Asked.{about_so}
 use Rattle.accepted_runs.specs.CompleteLaws.Laws.{gives_up}
 use Rattle.accepted_runs.proofs.CompleteLaws.Alone.{Nobody}
 

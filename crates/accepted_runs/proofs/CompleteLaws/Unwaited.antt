@@ -20,40 +20,40 @@ use Rattle.plain_server.specs.Serving.{called_unless, calls, serves}
 use Rattle.plain_server.specs.States.{State, names_in}
 use Rattle.plan_words.specs.PlanData.{PlanData}
 use Rattle.changelog_table.specs.ToolNames.{log_name, old_name}
-use Rattle.journal_words.specs.Journals.{opens, state_at}
-use Rattle.journal_words.specs.Sessions.{live_session, session_in, session_left}
-use Rattle.chunk_copier.specs.Copiers as copiers
-use Rattle.chunk_copier.specs.declared.copier.CopyStep.{CopyStep}
-use Rattle.chunk_copier.specs.declared.copier.CopyStep.TheVariants as copying
-use Rattle.event_applier.specs.Appliers as appliers
-use Rattle.event_applier.specs.declared.applier.ApplyStep.{ApplyStep}
-use Rattle.event_applier.specs.declared.applier.ApplyStep.TheVariants as applying
-use Rattle.cutover_core.specs.Attempts as attempts
-use Rattle.cutover_core.specs.CutOvers.{is_done, is_ending, is_wait}
-use Rattle.cutover_core.specs.declared.cutover.Hold.{Hold}
-use Rattle.cutover_core.specs.declared.cutover.Hold.TheVariants.{Nothing, WaitsToGuard, WaitsToLock, Locks}
-use Rattle.cutover_core.specs.declared.cutover.Phase.{Phase}
-use Rattle.cutover_core.specs.declared.cutover.Phase.TheVariants.{Resting, Attempting, Ending, Finishing, Finished}
-use Rattle.cutover_core.specs.declared.cutover.Stage.TheVariants.{Locking, Hinting, Showing, Dropping, Unlocking}
+use Rattle.migration_program.specs.JournalWords.Journals.{opens, state_at}
+use Rattle.migration_program.specs.JournalWords.Sessions.{live_session, session_in, session_left}
+use Rattle.migration_program.specs.ChunkCopier.Copiers as copiers
+use Rattle.migration_program.specs.declared.chunk_copier.copier.CopyStep.{CopyStep}
+use Rattle.migration_program.specs.declared.chunk_copier.copier.CopyStep.TheVariants as copying
+use Rattle.migration_program.specs.EventApplier.Appliers as appliers
+use Rattle.migration_program.specs.declared.event_applier.applier.ApplyStep.{ApplyStep}
+use Rattle.migration_program.specs.declared.event_applier.applier.ApplyStep.TheVariants as applying
+use Rattle.migration_program.specs.CutoverCore.Attempts as attempts
+use Rattle.migration_program.specs.CutoverCore.CutOvers.{is_done, is_ending, is_wait}
+use Rattle.migration_program.specs.declared.cutover_core.cutover.Hold.{Hold}
+use Rattle.migration_program.specs.declared.cutover_core.cutover.Hold.TheVariants.{Nothing, WaitsToGuard, WaitsToLock, Locks}
+use Rattle.migration_program.specs.declared.cutover_core.cutover.Phase.{Phase}
+use Rattle.migration_program.specs.declared.cutover_core.cutover.Phase.TheVariants.{Resting, Attempting, Ending, Finishing, Finished}
+use Rattle.migration_program.specs.declared.cutover_core.cutover.Stage.TheVariants.{Locking, Hinting, Showing, Dropping, Unlocking}
 use Rattle.migration_program.specs.Programs.{apply_call, rolls_back, tool_call}
 use Rattle.migration_program.specs.Tools.{Work, Course, SettingUp, Migrating, Moment, is_renamed, is_reverting, moment}
 use Rattle.history_laws.specs.Plans.{limits_of, scene_of}
 use Rattle.history_laws.proofs.Actors.{same_actor_is}
 use Rattle.history_laws.proofs.Journals.{JournalHolds}
 use Rattle.history_laws.proofs.Waiting.{IsDone, done_answers}
-use Rattle.run_laws.specs.Laws.{Living, NoneWaits}
-use Rattle.statement_laws.proofs.Tests.{are_same, or_true, same_bytes}
-use Rattle.attempt_laws.proofs.Stages.{RenamerAt, StandsAt}
-use Rattle.attempt_laws.proofs.Standing.{CourseAt, IsStanding}
-use Rattle.course_laws.proofs.Owners.{AllOwned}
-use Rattle.machine_laws.specs.Machines.{ApplierStands, CourseStands, PhaseHolds, SetupStands, Stands, WorkStands, applier_busy, both_names, copier_asks, copier_busy, held, renaming}
-use Rattle.machine_laws.specs.Standings.{Standing, answered, free, needs_names, serves_to, standing_in, standing_of, IsAbout, is_called}
-use Rattle.machine_laws.specs.Tabling.{CourseTables, Uncopied, WorkTables}
-use Rattle.machine_laws.proofs.CuttingOver.{LockerAsks}
-use Rattle.machine_laws.proofs.Fitting.{IsPrompt}
-use Rattle.machine_laws.proofs.Journals.{Asking, IsRun, apply_called, calls_so, copier_had, lock_about, polls_so}
-use Rattle.machine_laws.proofs.Seated.{IsServed, others_stand, own_given, own_heard, own_prompt, own_stands}
-use Rattle.machine_laws.proofs.Tabling.{copied_idle, lock_none}
+use Rattle.history_laws.specs.RunLaws.Laws.{Living, NoneWaits}
+use Rattle.plain_server.proofs.StatementLaws.Tests.{are_same, or_true, same_bytes}
+use Rattle.revert_laws.proofs.AttemptLaws.Stages.{RenamerAt, StandsAt}
+use Rattle.revert_laws.proofs.AttemptLaws.Standing.{CourseAt, IsStanding}
+use Rattle.revert_laws.proofs.CourseLaws.Owners.{AllOwned}
+use Rattle.history_laws.specs.MachineLaws.Machines.{ApplierStands, CourseStands, PhaseHolds, SetupStands, Stands, WorkStands, applier_busy, both_names, copier_asks, copier_busy, held, renaming}
+use Rattle.history_laws.specs.MachineLaws.Standings.{Standing, answered, free, needs_names, serves_to, standing_in, standing_of, IsAbout, is_called}
+use Rattle.history_laws.specs.MachineLaws.Tabling.{CourseTables, Uncopied, WorkTables}
+use Rattle.history_laws.proofs.MachineLaws.CuttingOver.{LockerAsks}
+use Rattle.history_laws.proofs.MachineLaws.Fitting.{IsPrompt}
+use Rattle.history_laws.proofs.MachineLaws.Journals.{Asking, IsRun, apply_called, calls_so, copier_had, lock_about, polls_so}
+use Rattle.history_laws.proofs.MachineLaws.Seated.{IsServed, others_stand, own_given, own_heard, own_prompt, own_stands}
+use Rattle.history_laws.proofs.MachineLaws.Tabling.{copied_idle, lock_none}
 use Rattle.accepted_runs.specs.CompleteLaws.Laws.{gives_up}
 use Rattle.accepted_runs.specs.CompleteLaws.Quiet.{is_timed_out}
 use Rattle.accepted_runs.proofs.CompleteLaws.Alone.{Nobody}
@@ -343,7 +343,7 @@ module _ (plan : PlanData) (journal : List Entry) (entry : Entry) (is : IsStandi
 
       told : (request : Request) → IsAbout request (has Lock) entry.asked → (entry.asked ≡ Call request → is_wait entry.answer ≡ false) → is_wait entry.answer ≡ false
       told request (is_called asked idle) then = then asked
-      told request (Rattle.machine_laws.specs.Standings.is_polled polled some) then = no_request request (sym (waits Lock refl) ∙ some)
+      told request (Rattle.history_laws.specs.MachineLaws.Standings.is_polled polled some) then = no_request request (sym (waits Lock refl) ∙ some)
 
       copied : ((left : work.copier.is_copied ≡ false) → ⊥) → work.copier.is_copied ≡ true
       copied never = at_copied work.copier.is_copied refl where

@@ -11,26 +11,26 @@ use Rattle.plain_server.specs.declared.entry.Asked.TheVariants.{Cut}
 use Rattle.plain_server.specs.declared.entry.Entry.{Entry}
 use Rattle.plain_server.specs.Entries.{same_actor}
 use Rattle.plan_words.specs.PlanData.{PlanData}
-use Rattle.journal_words.specs.Journals.{state_behind}
-use Rattle.journal_words.specs.Sessions.{live_session}
-use Rattle.chunk_copier.specs.Copiers as copiers
-use Rattle.chunk_copier.specs.declared.copier.Copier.{Copier}
-use Rattle.chunk_copier.specs.declared.copier.CopyStep.{CopyStep}
-use Rattle.chunk_copier.specs.declared.copier.CopyStep.TheVariants.{Choosing, Spanning, Copying, Committing}
+use Rattle.migration_program.specs.JournalWords.Journals.{state_behind}
+use Rattle.migration_program.specs.JournalWords.Sessions.{live_session}
+use Rattle.migration_program.specs.ChunkCopier.Copiers as copiers
+use Rattle.migration_program.specs.declared.chunk_copier.copier.Copier.{Copier}
+use Rattle.migration_program.specs.declared.chunk_copier.copier.CopyStep.{CopyStep}
+use Rattle.migration_program.specs.declared.chunk_copier.copier.CopyStep.TheVariants.{Choosing, Spanning, Copying, Committing}
 use Rattle.migration_program.specs.Setups.{Setup, Listing, Clearing, MakingLog, MakingGhost, Marking, Reaching, Ready, setup_after}
 use Rattle.migration_program.specs.Tools.{Work, Course, SettingUp, Migrating, Moment, Tool, course_of, is_renamed, is_reverting, moment}
 use Rattle.history_laws.specs.Plans.{limits_of, scene_of, IsSerialPlan}
 use Rattle.history_laws.proofs.Actors.{same_actor_is}
 use Rattle.history_laws.proofs.Journals.{journal_holds}
-use Rattle.run_laws.specs.Kept.{IsKept}
-use Rattle.run_laws.proofs.Living.{all_living}
-use Rattle.run_laws.proofs.Waits.{all_waits}
-use Rattle.course_laws.proofs.CourseTurns.{AnswerKeeps, Kept, ResizeKeeps, UnfitKeeps, turn_kept}
-use Rattle.course_laws.proofs.Owners.{together_owned}
-use Rattle.machine_laws.specs.Laws.{VerdictsTellTheAlter}
-use Rattle.machine_laws.specs.Runnable.{IsRunnable}
-use Rattle.machine_laws.proofs.Journals.{Asking, IsRun}
-use Rattle.follow_laws.proofs.FollowTurns.Follows.{kept_front, kept_run}
+use Rattle.history_laws.specs.RunLaws.Kept.{IsKept}
+use Rattle.history_laws.proofs.RunLaws.Living.{all_living}
+use Rattle.history_laws.proofs.RunLaws.Waits.{all_waits}
+use Rattle.revert_laws.proofs.CourseLaws.CourseTurns.{AnswerKeeps, Kept, ResizeKeeps, UnfitKeeps, turn_kept}
+use Rattle.revert_laws.proofs.CourseLaws.Owners.{together_owned}
+use Rattle.history_laws.specs.MachineLaws.Laws.{VerdictsTellTheAlter}
+use Rattle.history_laws.specs.MachineLaws.Runnable.{IsRunnable}
+use Rattle.history_laws.proofs.MachineLaws.Journals.{Asking, IsRun}
+use Rattle.revert_laws.proofs.FollowLaws.FollowTurns.Follows.{kept_front, kept_run}
 use Rattle.accepted_runs.specs.CompleteLaws.Quiet.{IsQuiet, IsWithin, QuietRunsAreDone, RowsHaveImages, is_timed_out}
 use Rattle.accepted_runs.proofs.CompleteLaws.Alone.{asks_so, never_cut, unlost}
 use Rattle.accepted_runs.proofs.CompleteLaws.Quiet.{IsBounded, IsQuietSo, quiet_begins, quiet_more}

@@ -6,11 +6,11 @@ use Rattle.std.specs.Option.{option_map}
 use Rattle.std.specs.Str.{bytes_eq}
 use Rattle.std.proofs.lemmas.Bool.{false≢true, and_parts}
 use Rattle.gho_values.specs.declared.value.Value.{Value}
-use Rattle.gho_schema.specs.Rows.{key_places}
-use Rattle.gho_schema.specs.declared.schema.Schema.{Schema}
-use Rattle.alter_image.specs.Images.{image}
-use Rattle.alter_image.specs.declared.image_fault.UnfitAt.{UnfitAt}
-use Rattle.alter_image.specs.declared.map.MapColumn.{MapColumn}
+use Rattle.gho_values.specs.GhoSchema.Rows.{key_places}
+use Rattle.gho_values.specs.declared.gho_schema.schema.Schema.{Schema}
+use Rattle.gho_values.specs.AlterImage.Images.{image}
+use Rattle.gho_values.specs.declared.alter_image.image_fault.UnfitAt.{UnfitAt}
+use Rattle.gho_values.specs.declared.alter_image.map.MapColumn.{MapColumn}
 use Rattle.event_codec.specs.declared.event.RowEvent.{RowEvent}
 use Rattle.row_store.specs.Databases.{Database, TableRows, find_table, has_table, rename_tables, row_at_key, with_name}
 use Rattle.row_store.specs.declared.renaming.NotRenamed.TheVariants as reasons
@@ -29,9 +29,9 @@ use Rattle.plain_server.specs.declared.request.Request.{Request}
 use Rattle.plain_server.specs.declared.request.Request.TheVariants as requests
 use Rattle.plain_server.specs.declared.session.Waiting.{Waiting}
 use Rattle.plain_server.specs.declared.work.StatementResult.{StatementResult}
-use Rattle.statement_laws.proofs.Tests.{are_same}
+use Rattle.plain_server.proofs.StatementLaws.Tests.{are_same}
 use Rattle.history_laws.specs.Turns.{request_of}
-use Rattle.machine_laws.proofs.Schemas.{schema_events}
+use Rattle.history_laws.proofs.MachineLaws.Schemas.{schema_events}
 use Rattle.accepted_runs.specs.Tables.{names_alone}
 use Rattle.accepted_runs.proofs.Tables.Refusing.{IsFine, IsOther, copy_fine, tells_other, unfit_other, work_fine}
 

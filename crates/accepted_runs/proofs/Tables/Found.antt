@@ -6,23 +6,23 @@ use Rattle.plain_server.specs.Alone.{Ran, alone, lines_run, nothing_ran, outcome
 use Rattle.plain_server.specs.Along.{Along}
 use Rattle.plain_server.specs.declared.entry.Entry.{Entry}
 use Rattle.plan_words.specs.PlanData.{PlanData}
-use Rattle.journal_words.specs.Histories.{about, told_in}
-use Rattle.journal_words.specs.Journals.{state_at}
+use Rattle.migration_program.specs.JournalWords.Histories.{about, told_in}
+use Rattle.migration_program.specs.JournalWords.Journals.{state_at}
 use Rattle.history_laws.specs.Plans.{IsPlanRun, IsSerialPlan, limits_of, scene_of}
 use Rattle.history_laws.specs.Scenes.{Alter, Leads, PlainItem, Scene, Serial, Stored, Txn, is_mine, seen}
 use Rattle.history_laws.specs.Turns.{IsSceneRun, history}
 use Rattle.history_laws.proofs.Journals.{JournalHolds, journal_holds}
 use Rattle.history_laws.proofs.PlanJournals.{plan_runs_are_scene_runs}
-use Rattle.run_laws.specs.Kept.{IsKept}
-use Rattle.machine_laws.specs.Runnable.{IsRunnable}
-use Rattle.course_laws.specs.MarkedLaws.Laws.{MarkedJournalsAreRuns}
-use Rattle.course_laws.specs.RunnableLaws.Laws.{IsAlterable, IsWorded}
-use Rattle.course_laws.proofs.UnalteredLaws.Away.{all_asked}
-use Rattle.follow_laws.proofs.FollowTurns.Follows.{kept_front, kept_run}
+use Rattle.history_laws.specs.RunLaws.Kept.{IsKept}
+use Rattle.history_laws.specs.MachineLaws.Runnable.{IsRunnable}
+use Rattle.revert_laws.specs.CourseLaws.MarkedLaws.Laws.{MarkedJournalsAreRuns}
+use Rattle.revert_laws.specs.CourseLaws.RunnableLaws.Laws.{IsAlterable, IsWorded}
+use Rattle.revert_laws.proofs.CourseLaws.UnalteredLaws.Away.{all_asked}
+use Rattle.revert_laws.proofs.FollowLaws.FollowTurns.Follows.{kept_front, kept_run}
 use Rattle.revert_laws.specs.Laws.{RenamesFindTheAltered}
 use Rattle.revert_laws.specs.OnceLaws.Laws.{RenamesComeOnce}
 use Rattle.revert_laws.proofs.Reverted.{all_marked}
-use Rattle.accepted_laws.specs.Laws.{ReadPlansAreAlterable, ReadPlansAreRunnable, ReadPlansAreSerial, ReadPlansAreWorded}
+use Rattle.accepted_runs.specs.AcceptedLaws.Laws.{ReadPlansAreAlterable, ReadPlansAreRunnable, ReadPlansAreSerial, ReadPlansAreWorded}
 use Rattle.accepted_runs.specs.Laws.{AcceptedRunsFindTheTable}
 use Rattle.accepted_runs.specs.Tables.{FindsTable, IsFound}
 use Rattle.accepted_runs.proofs.Tables.Answering.{Stands, events_stand}

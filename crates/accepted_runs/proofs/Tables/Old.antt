@@ -18,56 +18,56 @@ use Rattle.plain_server.specs.declared.request.Request.{Request}
 use Rattle.plain_server.specs.declared.request.Request.TheVariants as requests
 use Rattle.plan_words.specs.PlanData.{PlanData}
 use Rattle.changelog_table.specs.ToolNames.{ghost_name, old_name}
-use Rattle.cutover_core.specs.Attempts as attempts
-use Rattle.cutover_core.specs.Attempts.{exchange, renamer_call}
-use Rattle.cutover_core.specs.declared.cutover.Clearing.TheVariants.{Drops, Looking}
-use Rattle.cutover_core.specs.declared.cutover.Hold.{Hold}
-use Rattle.cutover_core.specs.declared.cutover.Hold.TheVariants.{Locks, Nothing, WaitsToGuard, WaitsToLock}
-use Rattle.cutover_core.specs.declared.cutover.Phase.{Phase}
-use Rattle.cutover_core.specs.declared.cutover.Phase.TheVariants.{Attempting, Ending, Finished, Finishing, Resting}
-use Rattle.cutover_core.specs.declared.cutover.Role.TheVariants.{Renamer}
-use Rattle.cutover_core.specs.declared.cutover.Stage.TheVariants.{Draining, Drained, Dropping, Exchanging, Guarding, Hinting, Locking, Showing, Unlocking}
-use Rattle.journal_words.specs.Histories as histories
-use Rattle.journal_words.specs.Histories.{Alter, alters, entry_adds, history, is_alter, told_in}
-use Rattle.journal_words.specs.Journals.{may_lose, state_at}
+use Rattle.migration_program.specs.CutoverCore.Attempts as attempts
+use Rattle.migration_program.specs.CutoverCore.Attempts.{exchange, renamer_call}
+use Rattle.migration_program.specs.declared.cutover_core.cutover.Clearing.TheVariants.{Drops, Looking}
+use Rattle.migration_program.specs.declared.cutover_core.cutover.Hold.{Hold}
+use Rattle.migration_program.specs.declared.cutover_core.cutover.Hold.TheVariants.{Locks, Nothing, WaitsToGuard, WaitsToLock}
+use Rattle.migration_program.specs.declared.cutover_core.cutover.Phase.{Phase}
+use Rattle.migration_program.specs.declared.cutover_core.cutover.Phase.TheVariants.{Attempting, Ending, Finished, Finishing, Resting}
+use Rattle.migration_program.specs.declared.cutover_core.cutover.Role.TheVariants.{Renamer}
+use Rattle.migration_program.specs.declared.cutover_core.cutover.Stage.TheVariants.{Draining, Drained, Dropping, Exchanging, Guarding, Hinting, Locking, Showing, Unlocking}
+use Rattle.migration_program.specs.JournalWords.Histories as histories
+use Rattle.migration_program.specs.JournalWords.Histories.{Alter, alters, entry_adds, history, is_alter, told_in}
+use Rattle.migration_program.specs.JournalWords.Journals.{may_lose, state_at}
 use Rattle.migration_program.specs.Programs.{IsGiven, given, tool_call}
 use Rattle.migration_program.specs.Tools.{Course, Migrating, SettingUp, Work, is_reverting, moment}
 use Rattle.migration_program.proofs.ProgramLaws.Naming.{not_old}
-use Rattle.statement_laws.proofs.Tests.{turned_bytes}
+use Rattle.plain_server.proofs.StatementLaws.Tests.{turned_bytes}
 use Rattle.history_laws.specs.Plans.{IsSerialPlan}
 use Rattle.history_laws.specs.ServerLaws.Others.{DefinitionsAreDone, ExclusiveIsAlone}
 use Rattle.history_laws.proofs.Actors.{same_actor_is}
 use Rattle.history_laws.proofs.Moves.{renamed_new, renamed_other}
-use Rattle.ghost_laws.proofs.Turns.{along_next}
-use Rattle.run_laws.specs.Kept.{IsKept}
-use Rattle.sentry_laws.specs.Sentries.{Fits}
-use Rattle.sentry_laws.specs.Turning.{CourseHolds, IsGuarded, last_session}
-use Rattle.sentry_laws.proofs.Inductions.{all_guarded}
-use Rattle.sentry_laws.proofs.Serving.{exchanged}
-use Rattle.machine_laws.specs.Machines as machines
-use Rattle.machine_laws.specs.Machines.{CourseStands, PhaseHolds, WorkStands, held}
-use Rattle.machine_laws.specs.Runnable.{IsRunnable}
-use Rattle.machine_laws.specs.Standings.{IsAbout, Standing, answered, free, is_called, is_polled, standing_of}
-use Rattle.machine_laws.proofs.CuttingOver.{LockerAsks}
-use Rattle.machine_laws.proofs.Journals.{Asking, IsRun, IsTogether, asking, calls_so, has_now, lock_about, never_commands, polls_so, ren_about}
-use Rattle.machine_laws.proofs.Marks.{ghost_not_old, history_more}
-use Rattle.machine_laws.proofs.Schemas.{is_quiet}
-use Rattle.machine_laws.proofs.Seated.{IsServed, others_stand, own_lost}
-use Rattle.machine_laws.proofs.Tabling.{Behind, behind, may_define, rests, waits_on}
-use Rattle.course_laws.specs.UnalteredLaws.Laws.{IsUnaltered}
-use Rattle.course_laws.specs.WaitsLaws.Laws.{WaitsAreTold}
-use Rattle.course_laws.proofs.CourseTurns.{gives_asked}
-use Rattle.course_laws.proofs.UnalteredLaws.Asking.{AskedAs, ToolCall, exchange_takes}
-use Rattle.course_laws.proofs.UnalteredLaws.Away.{IsKnownAsked, all_asked, as_tool, tool_adds}
-use Rattle.attempt_laws.specs.RenamedLaws.Laws.{CourseRenamed, IsRenamedAt}
-use Rattle.attempt_laws.proofs.RenamedLaws.Seen.{all_seen}
-use Rattle.follow_laws.proofs.FollowTurns.Follows.{kept_front, kept_run}
+use Rattle.history_laws.proofs.GhostLaws.Turns.{along_next}
+use Rattle.history_laws.specs.RunLaws.Kept.{IsKept}
+use Rattle.history_laws.specs.SentryLaws.Sentries.{Fits}
+use Rattle.history_laws.specs.SentryLaws.Turning.{CourseHolds, IsGuarded, last_session}
+use Rattle.history_laws.proofs.SentryLaws.Inductions.{all_guarded}
+use Rattle.history_laws.proofs.SentryLaws.Serving.{exchanged}
+use Rattle.history_laws.specs.MachineLaws.Machines as machines
+use Rattle.history_laws.specs.MachineLaws.Machines.{CourseStands, PhaseHolds, WorkStands, held}
+use Rattle.history_laws.specs.MachineLaws.Runnable.{IsRunnable}
+use Rattle.history_laws.specs.MachineLaws.Standings.{IsAbout, Standing, answered, free, is_called, is_polled, standing_of}
+use Rattle.history_laws.proofs.MachineLaws.CuttingOver.{LockerAsks}
+use Rattle.history_laws.proofs.MachineLaws.Journals.{Asking, IsRun, IsTogether, asking, calls_so, has_now, lock_about, never_commands, polls_so, ren_about}
+use Rattle.history_laws.proofs.MachineLaws.Marks.{ghost_not_old, history_more}
+use Rattle.history_laws.proofs.MachineLaws.Schemas.{is_quiet}
+use Rattle.history_laws.proofs.MachineLaws.Seated.{IsServed, others_stand, own_lost}
+use Rattle.history_laws.proofs.MachineLaws.Tabling.{Behind, behind, may_define, rests, waits_on}
+use Rattle.revert_laws.specs.CourseLaws.UnalteredLaws.Laws.{IsUnaltered}
+use Rattle.revert_laws.specs.CourseLaws.WaitsLaws.Laws.{WaitsAreTold}
+use Rattle.revert_laws.proofs.CourseLaws.CourseTurns.{gives_asked}
+use Rattle.revert_laws.proofs.CourseLaws.UnalteredLaws.Asking.{AskedAs, ToolCall, exchange_takes}
+use Rattle.revert_laws.proofs.CourseLaws.UnalteredLaws.Away.{IsKnownAsked, all_asked, as_tool, tool_adds}
+use Rattle.revert_laws.specs.AttemptLaws.RenamedLaws.Laws.{CourseRenamed, IsRenamedAt}
+use Rattle.revert_laws.proofs.AttemptLaws.RenamedLaws.Seen.{all_seen}
+use Rattle.revert_laws.proofs.FollowLaws.FollowTurns.Follows.{kept_front, kept_run}
 use Rattle.revert_laws.specs.OnceLaws.Laws.{RenamesComeOnce}
 use Rattle.revert_laws.specs.RenameLaws.Laws.{IsRename, JournalsAreTurned}
 use Rattle.revert_laws.proofs.OnceLaws.Once.{Renaming, exchanges, renamed_past, renaming}
 use Rattle.revert_laws.proofs.OnceLaws.Past.{CoursePast, IsPast, NoMake, call_makes, goes_past, makes, ren_asks, told_renamed}
 use Rattle.revert_laws.proofs.RenameLaws.Renames.{Found, renames_found}
-use Rattle.accepted_laws.specs.Laws.{ReadPlansAreRunnable, ReadPlansAreSerial}
+use Rattle.accepted_runs.specs.AcceptedLaws.Laws.{ReadPlansAreRunnable, ReadPlansAreSerial}
 use Rattle.accepted_runs.specs.Laws.{AcceptedRunsKeepTheOldTable}
 use Rattle.accepted_runs.specs.Tables.{IsAsItWas, KeepsOldTable}
 use Rattle.accepted_runs.proofs.Tables.Turns.{IsUnwritten, Left, TurnAbout, all_unwritten, asks_so, left_gone, left_renamed, left_so, rests_left, rests_so, turn_about, turn_left, writes_no_old}

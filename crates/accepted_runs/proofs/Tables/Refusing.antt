@@ -5,12 +5,12 @@ use Rattle.gho_values.specs.Storing.{error_number, stores, seeks}
 use Rattle.gho_values.specs.declared.fault.Unfit.{Unfit}
 use Rattle.gho_values.specs.declared.fault.Unfit.TheVariants as unfit
 use Rattle.gho_values.specs.declared.value.Value.{Value}
-use Rattle.gho_schema.specs.Clustering.{clustered_place}
-use Rattle.gho_schema.specs.Rows.{key_places}
-use Rattle.gho_schema.specs.Tables.{clash}
-use Rattle.gho_schema.specs.declared.schema.Column.{Column}
-use Rattle.gho_schema.specs.declared.schema.Schema.{Schema}
-use Rattle.alter_image.specs.declared.image_fault.UnfitAt.{UnfitAt}
+use Rattle.gho_values.specs.GhoSchema.Clustering.{clustered_place}
+use Rattle.gho_values.specs.GhoSchema.Rows.{key_places}
+use Rattle.gho_values.specs.GhoSchema.Tables.{clash}
+use Rattle.gho_values.specs.declared.gho_schema.schema.Column.{Column}
+use Rattle.gho_values.specs.declared.gho_schema.schema.Schema.{Schema}
+use Rattle.gho_values.specs.declared.alter_image.image_fault.UnfitAt.{UnfitAt}
 use Rattle.event_codec.specs.declared.event.Change.{Change}
 use Rattle.event_codec.specs.declared.event.Change.TheVariants as changes
 use Rattle.script_text.specs.declared.statement.Comparison.{Comparison}

@@ -22,8 +22,8 @@ use Rattle.plain_server.specs.declared.request.Request.TheVariants as requests
 use Rattle.plain_server.specs.declared.session.Session.{Session}
 use Rattle.plain_server.specs.declared.session.Waiting.{Waiting}
 use Rattle.plain_server.specs.declared.work.StatementResult.{StatementResult}
-use Rattle.statement_laws.proofs.Finding.{change_if, found_after}
-use Rattle.statement_laws.proofs.Tests.{are_same}
+use Rattle.plain_server.proofs.StatementLaws.Finding.{change_if, found_after}
+use Rattle.plain_server.proofs.StatementLaws.Tests.{are_same}
 use Rattle.history_laws.specs.Turns.{request_of}
 use Rattle.history_laws.proofs.Moves.{drop_moves, gone_none}
 use Rattle.revert_laws.proofs.OnceLaws.Past.{makes}

@@ -26,26 +26,26 @@ use Rattle.plain_server.specs.declared.request.Request.TheVariants as requests
 use Rattle.plain_server.specs.declared.session.Waiting.{Waiting}
 use Rattle.plan_words.specs.PlanData.{PlanData}
 use Rattle.changelog_table.specs.ToolNames.{ghost_name, is_tool_name, log_name, old_name}
-use Rattle.journal_words.specs.Histories as histories
-use Rattle.journal_words.specs.Histories.{asked_about, request_waiting, told_in}
-use Rattle.journal_words.specs.Journals.{IsFaithful, may_lose, opens, opens_if, state_at}
+use Rattle.migration_program.specs.JournalWords.Histories as histories
+use Rattle.migration_program.specs.JournalWords.Histories.{asked_about, request_waiting, told_in}
+use Rattle.migration_program.specs.JournalWords.Journals.{IsFaithful, may_lose, opens, opens_if, state_at}
 use Rattle.migration_program.specs.Programs.{Follows, IsGiven, given}
 use Rattle.history_laws.specs.Plans.{IsSerialPlan, client_names, scene_of}
 use Rattle.history_laws.specs.Scenes.{Stored}
 use Rattle.history_laws.specs.Turns.{ClientAsks, answer_at, inner, missed_at, request_of}
 use Rattle.history_laws.proofs.Joined.{told_answer, told_missed}
 use Rattle.history_laws.proofs.Journals.{opened_waits, stored_opened}
-use Rattle.statement_laws.proofs.Tests.{are_same, same_bytes}
-use Rattle.machine_laws.specs.Runnable.{IsRunnable}
-use Rattle.machine_laws.specs.Standings.{IsAbout, Standing, is_called, is_polled, standing_of}
-use Rattle.machine_laws.proofs.Asking.{WaitsWith}
-use Rattle.machine_laws.proofs.Journals.{IsRun, IsTogether, all_runs}
-use Rattle.machine_laws.proofs.Marks.{ghost_not_old}
-use Rattle.machine_laws.proofs.Polling.{given_idle, given_waits}
-use Rattle.machine_laws.proofs.Seated.{IsServed, own_waiting, state_more}
-use Rattle.machine_laws.proofs.Tabling.{QuietAt, given_quiet}
-use Rattle.course_laws.proofs.UnalteredLaws.Asking.{AskedAs, ToolCall, given_asked}
-use Rattle.course_laws.proofs.UnalteredLaws.Away.{IsKnownAsked, asked_begins, asked_more, tool_not_mine}
+use Rattle.plain_server.proofs.StatementLaws.Tests.{are_same, same_bytes}
+use Rattle.history_laws.specs.MachineLaws.Runnable.{IsRunnable}
+use Rattle.history_laws.specs.MachineLaws.Standings.{IsAbout, Standing, is_called, is_polled, standing_of}
+use Rattle.history_laws.proofs.MachineLaws.Asking.{WaitsWith}
+use Rattle.history_laws.proofs.MachineLaws.Journals.{IsRun, IsTogether, all_runs}
+use Rattle.history_laws.proofs.MachineLaws.Marks.{ghost_not_old}
+use Rattle.history_laws.proofs.MachineLaws.Polling.{given_idle, given_waits}
+use Rattle.history_laws.proofs.MachineLaws.Seated.{IsServed, own_waiting, state_more}
+use Rattle.history_laws.proofs.MachineLaws.Tabling.{QuietAt, given_quiet}
+use Rattle.revert_laws.proofs.CourseLaws.UnalteredLaws.Asking.{AskedAs, ToolCall, given_asked}
+use Rattle.revert_laws.proofs.CourseLaws.UnalteredLaws.Away.{IsKnownAsked, asked_begins, asked_more, tool_not_mine}
 use Rattle.revert_laws.proofs.OnceLaws.Past.{makes}
 use Rattle.accepted_runs.specs.Tables.{IsFound, is_missing, names_alone}
 use Rattle.accepted_runs.proofs.Tables.Refusing.{IsOther}
@@ -291,7 +291,7 @@ module _ (plan : PlanData) (serial : IsSerialPlan plan) where
   unwritten_next journal entry run is = record { known = asked_more plan journal entry run is.known; unwritten = unwritten_more plan journal entry is.known run Old is.unwritten (λ request asks. writes_no_old entry.actor request asks) }
 
   unwritten_begins : IsRunnable plan → IsUnwritten []
-  unfolding Rattle.journal_words.specs.Journals.state_behind
+  unfolding Rattle.migration_program.specs.JournalWords.Journals.state_behind
   unwritten_begins runs = record { known = asked_begins plan runs; unwritten = tt }
 
   pub all_unwritten : (journal : List Entry) → IsRunnable plan → IsFaithful plan journal → Follows plan journal → IsUnwritten journal

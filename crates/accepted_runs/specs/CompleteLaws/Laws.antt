@@ -11,17 +11,17 @@ use Rattle.plain_server.specs.declared.entry.Entry.{Entry}
 use Rattle.plain_server.specs.declared.outcome.Verdict.TheVariants.{Done}
 use Rattle.plain_server.specs.Entries.{is_client}
 use Rattle.plan_words.specs.PlanData.{PlanData}
-use Rattle.chunk_copier.specs.declared.copier.CopyStep.{CopyStep}
-use Rattle.chunk_copier.specs.declared.copier.CopyStep.TheVariants.{Copying}
-use Rattle.event_applier.specs.declared.applier.ApplyStep.{ApplyStep}
-use Rattle.event_applier.specs.declared.applier.ApplyStep.TheVariants.{Applying}
-use Rattle.cutover_core.specs.CutOvers.{is_bad, may_succeed, is_ending}
-use Rattle.journal_words.specs.Journals.{IsFaithful}
+use Rattle.migration_program.specs.declared.chunk_copier.copier.CopyStep.{CopyStep}
+use Rattle.migration_program.specs.declared.chunk_copier.copier.CopyStep.TheVariants.{Copying}
+use Rattle.migration_program.specs.declared.event_applier.applier.ApplyStep.{ApplyStep}
+use Rattle.migration_program.specs.declared.event_applier.applier.ApplyStep.TheVariants.{Applying}
+use Rattle.migration_program.specs.CutoverCore.CutOvers.{is_bad, may_succeed, is_ending}
+use Rattle.migration_program.specs.JournalWords.Journals.{IsFaithful}
 use Rattle.migration_program.specs.Programs.{Follows}
 use Rattle.migration_program.specs.Tools.{Course, SettingUp, Migrating, is_renamed, moment}
 use Rattle.migration_program.specs.Verdicts.{has_ended, verdict_of}
-use Rattle.machine_laws.specs.Forming.{IsFitting}
-use Rattle.machine_laws.specs.Tabling.{TableStands}
+use Rattle.history_laws.specs.MachineLaws.Forming.{IsFitting}
+use Rattle.history_laws.specs.MachineLaws.Tabling.{TableStands}
 
 -- an attempt stands that may yet succeed
 abbrev pub may_yet : Course → Bool

@@ -2,7 +2,7 @@
 use Rattle.std.specs.Prelude.{◌≡◌, Bool, true, false, List, [], ◌∷◌, ◌++◌, Option, Some, None, Ok}
 use Rattle.std.specs.List.{AllByRecursion, list_any}
 use Rattle.gho_values.specs.declared.value.Value.{Value}
-use Rattle.alter_image.specs.Images.{image}
+use Rattle.gho_values.specs.AlterImage.Images.{image}
 use Rattle.row_store.specs.Databases.{TableRows, find_table}
 use Rattle.script_text.specs.declared.actor.Actor.TheVariants.{Apply, Ren}
 use Rattle.plain_server.specs.Along.{Along}
@@ -15,9 +15,9 @@ use Rattle.migration_program.specs.Orders.{actors, is_ready}
 use Rattle.migration_program.specs.Tools.{is_renamed, moment}
 use Rattle.migration_program.specs.Verdicts.{has_ended, verdict_of}
 use Rattle.history_laws.specs.Plans.{IsSerialPlan}
-use Rattle.run_laws.specs.Kept.{IsKept}
-use Rattle.machine_laws.specs.Runnable.{IsRunnable}
-use Rattle.accepted_laws.specs.Laws.{WasRead}
+use Rattle.history_laws.specs.RunLaws.Kept.{IsKept}
+use Rattle.history_laws.specs.MachineLaws.Runnable.{IsRunnable}
+use Rattle.accepted_runs.specs.AcceptedLaws.Laws.{WasRead}
 use Rattle.accepted_runs.specs.CompleteLaws.Laws.{may_yet, gives_up}
 
 -- *Quiet plan*: it has no client, no command of the operator's and no loss of a session.

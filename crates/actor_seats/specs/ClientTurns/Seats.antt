@@ -2,7 +2,7 @@
 use Rattle.std.specs.Prelude.{◌≡◌, if◌then◌else◌, List, drop, Option, None}
 use Rattle.script_text.specs.declared.script.ScriptLine.{ScriptLine}
 use Rattle.plain_server.specs.declared.entry.Asked.{Asked}
-use Rattle.journal_words.specs.Clients as clients
+use Rattle.migration_program.specs.JournalWords.Clients as clients
 use Rattle.actor_seats.specs.declared.client_turns.seat.ClientSeat.{ClientSeat}
 use Rattle.actor_seats.specs.declared.client_turns.outcome.Fate.{Fate}
 use Rattle.actor_seats.specs.declared.client_turns.outcome.Fate.TheVariants.{Nothing, Waits, Marked, Broken}

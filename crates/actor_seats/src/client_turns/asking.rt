@@ -2,7 +2,7 @@
 
 ghost use Rattle.std.specs.Prelude.{◌≡◌, not, List, drop, is_some, IfOk};
 ghost use Rattle.script_text.specs.declared.script.ScriptLine.{ScriptLine};
-ghost use Rattle.journal_words.specs.Clients.{Reached, new_client, word_asks, client_over};
+ghost use Rattle.migration_program.specs.JournalWords.Clients.{Reached, new_client, word_asks, client_over};
 ghost use Rattle.actor_seats.specs.ClientTurns.Seats.{IsReached, asks_so};
 
 use crate::client_turns::seat::ClientSeat;

@@ -1,7 +1,7 @@
 //! What a turn makes of a client's line. Nothing here takes memory.
 
 ghost use Rattle.std.specs.Prelude.{◌≡◌, Some};
-ghost use Rattle.journal_words.specs.Clients.{became_of, was_done, lost_side, became_in};
+ghost use Rattle.migration_program.specs.JournalWords.Clients.{became_of, was_done, lost_side, became_in};
 ghost use Rattle.actor_seats.specs.ClientTurns.Seats.{fate_as};
 
 use plain_server::{Answer, Asked, Entry, Mark};

@@ -3,7 +3,7 @@
 ghost use Rattle.std.specs.Prelude.{◌≡◌, ◌<◌, ◌∷◌, List, length, Option, is_some, drop};
 ghost use Rattle.script_text.specs.declared.script.ScriptLine.{ScriptLine};
 ghost use Rattle.plain_server.specs.declared.transaction.Reply.{Reply};
-ghost use Rattle.journal_words.specs.Clients.{Reached, ends_with, closes, behind_transaction, left_behind, is_loss, marked, client_after, became};
+ghost use Rattle.migration_program.specs.JournalWords.Clients.{Reached, ends_with, closes, behind_transaction, left_behind, is_loss, marked, client_after, became};
 ghost use Rattle.actor_seats.specs.ClientTurns.Seats.{IsReached};
 
 use crate::client_turns::outcome::{Fate, fate_of};
@@ -56,7 +56,7 @@ impl ClientSeat {
     }
 
     /// The next line got a mark.
-    #[tactic(auto, using(crate::proofs::ClientTurns::Lines::stands, journal_words::proofs::Lines::inside_more))]
+    #[tactic(auto, using(crate::proofs::ClientTurns::Lines::stands, migration_program::proofs::JournalWords::Lines::inside_more))]
     fn mark(&mut self, script: &Script, mark: Mark)
         ensures { (client : Reached) (reply : Option Reply) → IsReached script.now self.old client → IsReached script.now self.new (marked client mark reply client.left) }
     {

@@ -11,23 +11,23 @@ use Rattle.plain_server.specs.Conditions.{MayCall, MayPoll, MayLose, LosesWell}
 use Rattle.plain_server.specs.Entries.{is_client, is_command}
 use Rattle.plain_server.specs.States.{State}
 use Rattle.plan_words.specs.PlanData.{PlanData}
-use Rattle.journal_words.specs.Journals.{opens_if, state_at}
-use Rattle.journal_words.specs.Sessions.{live_session, sessions_named}
+use Rattle.migration_program.specs.JournalWords.Journals.{opens_if, state_at}
+use Rattle.migration_program.specs.JournalWords.Sessions.{live_session, sessions_named}
 use Rattle.migration_program.specs.Programs.{given}
-use Rattle.machine_laws.specs.Laws.{MayLoseAny}
-use Rattle.machine_laws.specs.Runnable.{IsRunnable}
-use Rattle.machine_laws.specs.Standings.{MayTake, opened_for}
-use Rattle.machine_laws.proofs.Whole.{given_called, given_polled, losses as losses_may}
-use Rattle.run_laws.specs.Counting.{numbered, IsBehind, AreApart}
-use Rattle.run_laws.specs.Kept.{IsKept}
-use Rattle.run_laws.specs.Laws.{Living, NoneWaits}
-use Rattle.run_laws.proofs.Living.{all_living}
-use Rattle.run_laws.proofs.Waits.{all_waits}
-use Rattle.migration_run.specs.declared.turn.Turn.{Turn}
-use Rattle.migration_run.specs.Asking.{MayAsk}
-use Rattle.migration_run.specs.Sessions.{IsSessionOf}
-use Rattle.migration_run.specs.Turning.{session_for, opened_on, MayTurn}
-use Rattle.migration_run.proofs.Connecting.{opened_live}
+use Rattle.history_laws.specs.MachineLaws.Laws.{MayLoseAny}
+use Rattle.history_laws.specs.MachineLaws.Runnable.{IsRunnable}
+use Rattle.history_laws.specs.MachineLaws.Standings.{MayTake, opened_for}
+use Rattle.history_laws.proofs.MachineLaws.Whole.{given_called, given_polled, losses as losses_may}
+use Rattle.history_laws.specs.RunLaws.Counting.{numbered, IsBehind, AreApart}
+use Rattle.history_laws.specs.RunLaws.Kept.{IsKept}
+use Rattle.history_laws.specs.RunLaws.Laws.{Living, NoneWaits}
+use Rattle.history_laws.proofs.RunLaws.Living.{all_living}
+use Rattle.history_laws.proofs.RunLaws.Waits.{all_waits}
+use Rattle.due_turns.specs.declared.migration_run.turn.Turn.{Turn}
+use Rattle.due_turns.specs.MigrationRun.Asking.{MayAsk}
+use Rattle.due_turns.specs.MigrationRun.Sessions.{IsSessionOf}
+use Rattle.due_turns.specs.MigrationRun.Turning.{session_for, opened_on, MayTurn}
+use Rattle.due_turns.proofs.MigrationRun.Connecting.{opened_live}
 use Rattle.due_turns.proofs.Coming.{Comes, Cuts, Gives, comes, given_uncut, Lives, cut_lives}
 use Rattle.due_turns.proofs.Serving.{opened_numbered}
 use Rattle.due_turns.specs.DueCalls.Laws.{DueTurnsMayBe}

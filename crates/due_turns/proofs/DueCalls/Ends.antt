@@ -11,40 +11,40 @@ use Rattle.plain_server.specs.declared.request.Request.{Request}
 use Rattle.plain_server.specs.declared.request.Request.TheVariants as requests
 use Rattle.plan_words.specs.PlanData.{PlanData}
 use Rattle.changelog_table.specs.ToolTables.{sentry_schema}
-use Rattle.journal_words.specs.Clients.{client_at, word_asks, client_asks}
-use Rattle.journal_words.specs.Keeping.{words_of}
-use Rattle.journal_words.specs.Sessions.{live_session}
-use Rattle.chunk_copier.specs.declared.copier.CopyStep.{CopyStep}
-use Rattle.chunk_copier.specs.declared.copier.CopyStep.TheVariants as copying
-use Rattle.chunk_copier.specs.Copiers as copiers
-use Rattle.event_applier.specs.declared.applier.Applier.{Applier}
-use Rattle.event_applier.specs.declared.applier.ApplyStep.{ApplyStep}
-use Rattle.event_applier.specs.declared.applier.ApplyStep.TheVariants as applying
-use Rattle.event_applier.specs.Appliers as appliers
-use Rattle.event_applier.specs.Appliers.{Doing, says, doing_at}
-use Rattle.cutover_core.specs.declared.cutover.Clearing.{Clearing as Cleared}
-use Rattle.cutover_core.specs.declared.cutover.Clearing.TheVariants.{Looking, Drops}
-use Rattle.cutover_core.specs.declared.cutover.CutOver.{CutOver}
-use Rattle.cutover_core.specs.declared.cutover.Hold.{Hold}
-use Rattle.cutover_core.specs.declared.cutover.Hold.TheVariants.{Nothing, WaitsToGuard, WaitsToLock, Locks}
-use Rattle.cutover_core.specs.declared.cutover.Phase.{Phase}
-use Rattle.cutover_core.specs.declared.cutover.Phase.TheVariants.{Resting, Attempting, Ending, Finishing, Finished}
-use Rattle.cutover_core.specs.declared.cutover.Role.TheVariants.{Inspector, Locker}
-use Rattle.cutover_core.specs.declared.cutover.Stage.TheVariants.{Locking, Hinting, Showing, Dropping, Unlocking}
-use Rattle.cutover_core.specs.Attempts as cutovers
-use Rattle.cutover_core.specs.Attempts.{clears, is_free, unlocks, exchange}
-use Rattle.cutover_core.specs.CutOvers.{is_resting}
+use Rattle.migration_program.specs.JournalWords.Clients.{client_at, word_asks, client_asks}
+use Rattle.migration_program.specs.JournalWords.Keeping.{words_of}
+use Rattle.migration_program.specs.JournalWords.Sessions.{live_session}
+use Rattle.migration_program.specs.declared.chunk_copier.copier.CopyStep.{CopyStep}
+use Rattle.migration_program.specs.declared.chunk_copier.copier.CopyStep.TheVariants as copying
+use Rattle.migration_program.specs.ChunkCopier.Copiers as copiers
+use Rattle.migration_program.specs.declared.event_applier.applier.Applier.{Applier}
+use Rattle.migration_program.specs.declared.event_applier.applier.ApplyStep.{ApplyStep}
+use Rattle.migration_program.specs.declared.event_applier.applier.ApplyStep.TheVariants as applying
+use Rattle.migration_program.specs.EventApplier.Appliers as appliers
+use Rattle.migration_program.specs.EventApplier.Appliers.{Doing, says, doing_at}
+use Rattle.migration_program.specs.declared.cutover_core.cutover.Clearing.{Clearing as Cleared}
+use Rattle.migration_program.specs.declared.cutover_core.cutover.Clearing.TheVariants.{Looking, Drops}
+use Rattle.migration_program.specs.declared.cutover_core.cutover.CutOver.{CutOver}
+use Rattle.migration_program.specs.declared.cutover_core.cutover.Hold.{Hold}
+use Rattle.migration_program.specs.declared.cutover_core.cutover.Hold.TheVariants.{Nothing, WaitsToGuard, WaitsToLock, Locks}
+use Rattle.migration_program.specs.declared.cutover_core.cutover.Phase.{Phase}
+use Rattle.migration_program.specs.declared.cutover_core.cutover.Phase.TheVariants.{Resting, Attempting, Ending, Finishing, Finished}
+use Rattle.migration_program.specs.declared.cutover_core.cutover.Role.TheVariants.{Inspector, Locker}
+use Rattle.migration_program.specs.declared.cutover_core.cutover.Stage.TheVariants.{Locking, Hinting, Showing, Dropping, Unlocking}
+use Rattle.migration_program.specs.CutoverCore.Attempts as cutovers
+use Rattle.migration_program.specs.CutoverCore.Attempts.{clears, is_free, unlocks, exchange}
+use Rattle.migration_program.specs.CutoverCore.CutOvers.{is_resting}
 use Rattle.migration_program.specs.Operators.{is_throttled}
 use Rattle.migration_program.specs.Setups.{Setup, Listing, Clearing, MakingLog, MakingGhost, Marking, Reaching, Ready, setup_call}
 use Rattle.migration_program.specs.Programs.{in_transaction, rolls_back, copy_call, apply_call, may_begin, tool_call, tool_asks, given}
 use Rattle.migration_program.specs.Tools.{Course, SettingUp, Migrating, is_reverting, Moment, moment}
-use Rattle.machine_laws.specs.Machines.{copier_asks}
-use Rattle.machine_laws.proofs.Asking.{some_request, unless_called, copier_next, renamer_next}
-use Rattle.machine_laws.proofs.Calling.{reverting_or}
-use Rattle.machine_laws.proofs.Clients.{Next, calls_line, polls_line, client_next}
-use Rattle.machine_laws.proofs.Forming.{next_call}
-use Rattle.machine_laws.proofs.Journals.{Asking, calls_so, polls_so, asking, apply_called}
-use Rattle.machine_laws.proofs.Polling.{AllTogether, no_word}
+use Rattle.history_laws.specs.MachineLaws.Machines.{copier_asks}
+use Rattle.history_laws.proofs.MachineLaws.Asking.{some_request, unless_called, copier_next, renamer_next}
+use Rattle.history_laws.proofs.MachineLaws.Calling.{reverting_or}
+use Rattle.history_laws.proofs.MachineLaws.Clients.{Next, calls_line, polls_line, client_next}
+use Rattle.history_laws.proofs.MachineLaws.Forming.{next_call}
+use Rattle.history_laws.proofs.MachineLaws.Journals.{Asking, calls_so, polls_so, asking, apply_called}
+use Rattle.history_laws.proofs.MachineLaws.Polling.{AllTogether, no_word}
 
 -- who may ask for the range of this table
 abbrev pub EndsBy : PlanData → Actor → List ℕ → Type 0
@@ -166,7 +166,7 @@ module _ (plan : PlanData) (journal : List Entry) where
   call_ends actor request (SettingUp setup tries) call = absurd cc
   call_ends actor request (Migrating work) call = absurd cc
 
-  asked_ends : (actor : Actor) (request : Request) → now.server ≡ Rattle.journal_words.specs.Journals.state_at plan journal → tool_asks plan journal now actor ≡ Some (Call request) → AsksEnds plan actor request
+  asked_ends : (actor : Actor) (request : Request) → now.server ≡ Rattle.migration_program.specs.JournalWords.Journals.state_at plan journal → tool_asks plan journal now actor ≡ Some (Call request) → AsksEnds plan actor request
   asked_ends actor request server gives = by (asking plan journal actor (Call request) server gives)
     where
       by : Asking plan journal actor (Call request) → AsksEnds plan actor request

@@ -1,7 +1,7 @@
 -- The range of keys that a turn is told is that of the migrated table before it.
 use Rattle.std.proofs.Common.{◌≡◌, ℕ, Bool, true, false, not, List, [], ◌∷◌, ◌++◌, Option, Some, None, refl, sym, ap, ◌∙◌, subst}
 use Rattle.gho_values.specs.declared.value.Value.{Value}
-use Rattle.gho_schema.specs.Rows.{key_places}
+use Rattle.gho_values.specs.GhoSchema.Rows.{key_places}
 use Rattle.row_store.specs.Databases.{TableRows, Database, find_table}
 use Rattle.script_text.specs.declared.actor.Actor.{Actor}
 use Rattle.script_text.specs.declared.actor.Actor.TheVariants.{Op, Insp, Copy, Apply, Lock, Ren, Client}
@@ -22,17 +22,17 @@ use Rattle.plain_server.specs.Locking.{need, blocker}
 use Rattle.plain_server.specs.Deeds.{of_table, deed_within, deed_unless, is_outside}
 use Rattle.plain_server.specs.Serving.{does, done, called_unless, calls, is_over, polled_over, polled_unless, polled_of, polls, serves, without_waiting}
 use Rattle.plan_words.specs.PlanData.{PlanData}
-use Rattle.journal_words.specs.Journals.{opens, state_at, inner_answer, heard, IsFaithful}
+use Rattle.migration_program.specs.JournalWords.Journals.{opens, state_at, inner_answer, heard, IsFaithful}
 use Rattle.migration_program.specs.Programs.{IsGiven, Follows}
 use Rattle.history_laws.specs.Scenes.{Stored}
 use Rattle.history_laws.specs.Turns.{request_of}
 use Rattle.history_laws.proofs.Journals.{stored_opened, opened_waits}
-use Rattle.machine_laws.specs.Forming.{IsFitting}
-use Rattle.machine_laws.specs.Standings.{standing_of, serves_to, IsAbout, is_called, is_polled}
-use Rattle.machine_laws.proofs.Asking.{WaitsWith}
-use Rattle.machine_laws.proofs.Journals.{IsRun, all_runs}
-use Rattle.machine_laws.proofs.Polling.{AllTogether, AllWaits, waits_more, waits_begin, together_more_all, together_begins_all, given_idle, given_waits}
-use Rattle.machine_laws.proofs.Seated.{IsServed, own_heard, own_given, own_missed, own_waiting}
+use Rattle.history_laws.specs.MachineLaws.Forming.{IsFitting}
+use Rattle.history_laws.specs.MachineLaws.Standings.{standing_of, serves_to, IsAbout, is_called, is_polled}
+use Rattle.history_laws.proofs.MachineLaws.Asking.{WaitsWith}
+use Rattle.history_laws.proofs.MachineLaws.Journals.{IsRun, all_runs}
+use Rattle.history_laws.proofs.MachineLaws.Polling.{AllTogether, AllWaits, waits_more, waits_begin, together_more_all, together_begins_all, given_idle, given_waits}
+use Rattle.history_laws.proofs.MachineLaws.Seated.{IsServed, own_heard, own_given, own_missed, own_waiting}
 use Rattle.due_turns.specs.DueCalls.Ranges.{range_of, keys_in, range_of_table, range_in, ahead_of, IsTold}
 use Rattle.due_turns.specs.DueCalls.Laws.{RangesAreAhead}
 use Rattle.due_turns.proofs.DueCalls.Ends.{EndsBy, AsksEnds, given_ends}

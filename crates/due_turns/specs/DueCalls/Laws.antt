@@ -5,15 +5,15 @@ use Rattle.plain_server.specs.declared.entry.Entry.{Entry}
 use Rattle.plain_server.specs.Entries.{is_command}
 use Rattle.plain_server.specs.States.{State}
 use Rattle.plan_words.specs.PlanData.{PlanData}
-use Rattle.journal_words.specs.Journals.{state_at, IsAnswered, IsFaithful}
-use Rattle.journal_words.specs.Sessions.{live_session}
+use Rattle.migration_program.specs.JournalWords.Journals.{state_at, IsAnswered, IsFaithful}
+use Rattle.migration_program.specs.JournalWords.Sessions.{live_session}
 use Rattle.migration_program.specs.Programs.{IsFollowed, Follows}
-use Rattle.machine_laws.specs.Forming.{IsFitting}
-use Rattle.machine_laws.specs.Runnable.{IsRunnable}
-use Rattle.run_laws.specs.Counting.{IsBehind}
-use Rattle.run_laws.specs.Kept.{IsKept}
-use Rattle.migration_run.specs.declared.turn.Turn.{Turn}
-use Rattle.migration_run.specs.Turning.{MayTurn}
+use Rattle.history_laws.specs.MachineLaws.Forming.{IsFitting}
+use Rattle.history_laws.specs.MachineLaws.Runnable.{IsRunnable}
+use Rattle.history_laws.specs.RunLaws.Counting.{IsBehind}
+use Rattle.history_laws.specs.RunLaws.Kept.{IsKept}
+use Rattle.due_turns.specs.declared.migration_run.turn.Turn.{Turn}
+use Rattle.due_turns.specs.MigrationRun.Turning.{MayTurn}
 use Rattle.due_turns.specs.Due.{due}
 use Rattle.due_turns.specs.DueCalls.Ranges.{ahead_of, IsTold}
 

@@ -2,7 +2,7 @@
 -- the greatest value of the unique key.)
 use Rattle.std.specs.Prelude.{◌≡◌, ℕ, List, [], ◌∷◌, Option, Some, None}
 use Rattle.gho_values.specs.declared.value.Value.{Value}
-use Rattle.gho_schema.specs.Rows.{key_places}
+use Rattle.gho_values.specs.GhoSchema.Rows.{key_places}
 use Rattle.row_store.specs.Databases.{TableRows, Database, find_table}
 use Rattle.script_text.specs.declared.actor.Actor.{Actor}
 use Rattle.script_text.specs.declared.actor.Actor.TheVariants.{Insp}

@@ -4,8 +4,8 @@ use Rattle.std.specs.Prelude.{◌==◌}
 use Rattle.std.specs.List.{list_any}
 use Rattle.std.specs.Str.{bytes_eq}
 use Rattle.event_codec.specs.declared.event.RowEvent.{RowEvent}
-use Rattle.gho_schema.specs.declared.schema.Schema.{Schema}
-use Rattle.gho_schema.specs.Rows.{key_places}
+use Rattle.gho_values.specs.declared.gho_schema.schema.Schema.{Schema}
+use Rattle.gho_values.specs.GhoSchema.Rows.{key_places}
 use Rattle.row_locks.specs.declared.lock.Lock.{Lock}
 use Rattle.row_store.specs.Databases.{TableRows, Database, find_table, has_table, rename_tables}
 use Rattle.script_text.specs.declared.actor.Side.{Side}
@@ -13,9 +13,9 @@ use Rattle.script_text.specs.declared.actor.Side.TheVariants.{Before, After}
 use Rattle.plain_server.specs.declared.session.Session.{Session}
 use Rattle.plain_server.specs.Rows.{reaches}
 use Rattle.plain_server.specs.Needing.{lock_on}
-use Rattle.statement_laws.specs.Agreeing.{Agree, Among, Within, TablesAgree, covers, is_under}
-use Rattle.statement_laws.specs.Covering.{Apart, IsOrderlyTable}
-use Rattle.statement_laws.specs.Databases.{EventsCovered, WhereFound}
+use Rattle.plain_server.specs.StatementLaws.Agreeing.{Agree, Among, Within, TablesAgree, covers, is_under}
+use Rattle.plain_server.specs.StatementLaws.Covering.{Apart, IsOrderlyTable}
+use Rattle.plain_server.specs.StatementLaws.Databases.{EventsCovered, WhereFound}
 use Rattle.plain_server.specs.Jobs.{Job, table_of, job_of, says, job_says, job_needs, after_events, copy_job}
 use Rattle.history_laws.specs.Scenes.{Stored, SessionHold}
 use Rattle.history_laws.specs.Turns.{scene_state, IsTold, IsAllowed, IsSceneRun}
@@ -28,10 +28,10 @@ use Rattle.std.proofs.lemmas.List.{append-nil, append_assoc}
 use Rattle.plain_server.specs.Along.{Along}
 use Rattle.history_laws.specs.ServerLaws.Others.{OthersAgree, RowsStay, StaysTo, OthersStay}
 use Rattle.history_laws.proofs.ServerLaws.Others.{entry_faces, at_wait, created_same, dropped_same, renamed_same}
-use Rattle.statement_laws.proofs.Finding.{agree_then, agree_itself, tables_itself, says_covered}
-use Rattle.statement_laws.proofs.Standing.{same-filter, same-within}
-use Rattle.statement_laws.proofs.Points.{within-left, within-right, within-itself}
-use Rattle.statement_laws.proofs.Stables.{covered_both, covered_more, covered_before, others_agree}
+use Rattle.plain_server.proofs.StatementLaws.Finding.{agree_then, agree_itself, tables_itself, says_covered}
+use Rattle.plain_server.proofs.StatementLaws.Standing.{same-filter, same-within}
+use Rattle.plain_server.proofs.StatementLaws.Points.{within-left, within-right, within-itself}
+use Rattle.plain_server.proofs.StatementLaws.Stables.{covered_both, covered_more, covered_before, others_agree}
 use Rattle.history_laws.proofs.Words.{names_left, names_last, quiet_covered}
 use Rattle.history_laws.proofs.Faces.{faces_opened}
 use Rattle.history_laws.proofs.Names.{Free, OneIn, names_granted, opened_one}
@@ -47,8 +47,8 @@ use Rattle.plain_server.specs.States.{State, is_in_transaction, names_held, open
 use Rattle.plain_server.specs.declared.session.Waiting.{Waiting}
 use Rattle.plain_server.specs.Deeds.{all_stand, begins, created, deed_unless, defined, dropped, is_outside, locks_if, renamed_or, result_deed}
 use Rattle.plain_server.specs.Serving.{called_unless, calls, does, done, exclusive, is_over, leaves, loses, polled_of, polled_over, polled_unless, polls, serves, without_waiting}
-use Rattle.journal_words.specs.Journals.{after_entry, opens}
-use Rattle.statement_laws.proofs.Tests.{turned, same_bytes}
+use Rattle.migration_program.specs.JournalWords.Journals.{after_entry, opens}
+use Rattle.plain_server.proofs.StatementLaws.Tests.{turned, same_bytes}
 
 -- the session has its locks and its writes, apart from what others hold
 pub record OwnHold (now : State) (number : ℕ) : Type 0 where

@@ -28,8 +28,8 @@ use Rattle.plain_server.specs.declared.session.Waiting.{Waiting}
 use Rattle.plain_server.specs.Serving.{called_unless, calls, does, done, exclusive, is_over, polled_of, polled_over, polled_unless, polls, serves, without_waiting}
 use Rattle.plain_server.specs.Deeds.{deed_unless, is_outside}
 use Rattle.plain_server.specs.Locking.{need, need_within, blocker}
-use Rattle.journal_words.specs.Journals.{opens, opens_if}
-use Rattle.statement_laws.proofs.Tests.{are_one, are_same}
+use Rattle.migration_program.specs.JournalWords.Journals.{opens, opens_if}
+use Rattle.plain_server.proofs.StatementLaws.Tests.{are_one, are_same}
 
 -- names that are free are held by nobody else
 one_alone : (held : List grants.HeldName) (number n : ℕ) (first : List ℕ) → Free held number (exclusive first ∷ []) → (n == number) ≡ false → holds held n first false ≡ false

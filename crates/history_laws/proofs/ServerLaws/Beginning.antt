@@ -4,8 +4,8 @@ use Rattle.std.specs.List.{list_any}
 use Rattle.std.specs.Str.{bytes_eq}
 use Rattle.gho_values.specs.declared.value.Value.{Value}
 use Rattle.gho_values.specs.declared.span.Span.{Span}
-use Rattle.gho_schema.specs.declared.schema.Schema.{Schema}
-use Rattle.gho_schema.specs.Clustering.{clustered_place}
+use Rattle.gho_values.specs.declared.gho_schema.schema.Schema.{Schema}
+use Rattle.gho_values.specs.GhoSchema.Clustering.{clustered_place}
 use Rattle.event_codec.specs.declared.event.RowEvent.{RowEvent}
 use Rattle.event_codec.specs.declared.event.Change.{Change}
 use Rattle.row_locks.specs.declared.lock.Lock.{Lock}
@@ -14,7 +14,7 @@ use Rattle.script_text.specs.declared.actor.Side.{Side}
 use Rattle.plain_server.specs.declared.answer.Answer.TheVariants as answers
 use Rattle.plain_server.specs.declared.session.Session.{Session}
 use Rattle.plain_server.specs.Needing.{lock_on}
-use Rattle.statement_laws.specs.Agreeing.{Among}
+use Rattle.plain_server.specs.StatementLaws.Agreeing.{Among}
 use Rattle.plain_server.specs.Jobs.{after_events, change_table}
 use Rattle.history_laws.specs.Scenes.{Stored}
 use Rattle.plain_server.specs.declared.answer.Answer.{Answer}
@@ -24,7 +24,7 @@ use Rattle.plain_server.specs.declared.entry.Asked.TheVariants.{Call, Poll, Cut,
 use Rattle.plain_server.specs.Entries.{is_command, is_client}
 use Rattle.history_laws.specs.Holdings.{Face, face_of}
 use Rattle.history_laws.specs.ServerLaws.Others.{SpanHeld, SpansAreHeld}
-use Rattle.statement_laws.proofs.Finding.{found_after, change_if}
+use Rattle.plain_server.proofs.StatementLaws.Finding.{found_after, change_if}
 use Rattle.history_laws.proofs.Words.{names_last}
 use Rattle.history_laws.proofs.Held.{hold_in, holding_face}
 use Rattle.history_laws.proofs.Faces.{faces_with, opened_live}
@@ -38,8 +38,8 @@ use Rattle.plain_server.specs.States.{State, is_in_transaction, locked_names, op
 use Rattle.plain_server.specs.declared.session.Waiting.{Waiting}
 use Rattle.plain_server.specs.Deeds.{begins, deed_unless, is_outside}
 use Rattle.plain_server.specs.Serving.{called_unless, calls, does, done, holding, is_over, leaves, polled_of, polled_over, polled_unless, polls, serves, without_waiting}
-use Rattle.journal_words.specs.Journals.{after_entry, opens}
-use Rattle.statement_laws.proofs.Points.{among-right}
+use Rattle.migration_program.specs.JournalWords.Journals.{after_entry, opens}
+use Rattle.plain_server.proofs.StatementLaws.Points.{among-right}
 
 -- events leave a table's schema
 schema_if : (b : Bool) (change : Change) (found : Option TableRows) (table : TableRows) → found ≡ Some table → (later : TableRows) × (change_if b change found ≡ Some later) × (later.schema ≡ table.schema)

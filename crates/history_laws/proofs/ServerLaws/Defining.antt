@@ -22,7 +22,7 @@ use Rattle.plain_server.specs.declared.session.Waiting.{Waiting}
 use Rattle.plain_server.specs.Serving.{called_unless, calls, does, done, is_over, leaves, loses, polled_of, polled_over, polled_unless, polls, serves, without_waiting}
 use Rattle.plain_server.specs.Deeds.{created, deed_unless, defined, dropped, is_outside, renamed_or}
 use Rattle.plain_server.specs.Locking.{need, blocker}
-use Rattle.journal_words.specs.Journals.{opens}
+use Rattle.migration_program.specs.JournalWords.Journals.{opens}
 
 defined_done : (base : State) (number : ℕ) (result : Result Database ℕ) → (does (defined result) base number).answer ≡ ok → result ≡ Ok (does (defined result) base number).after.tables
 defined_done base number (Ok tables) given = refl

@@ -26,8 +26,8 @@ use Rattle.plain_server.specs.declared.session.Waiting.{Waiting}
 use Rattle.plain_server.specs.Deeds.{all_stand, deed_unless, is_outside, locks_if}
 use Rattle.plain_server.specs.Serving.{called_unless, calls, does, done, exclusive, is_over, leaves, locking, polled_of, polled_over, polled_unless, polls, serves, without_waiting}
 use Rattle.plain_server.specs.Locking.{need, blocker}
-use Rattle.journal_words.specs.Journals.{after_entry, opens}
-use Rattle.statement_laws.proofs.Tests.{same_bytes, are_same, or_true}
+use Rattle.migration_program.specs.JournalWords.Journals.{after_entry, opens}
+use Rattle.plain_server.proofs.StatementLaws.Tests.{same_bytes, are_same, or_true}
 
 own_taken : (holder number : ℕ) (held : List HeldName) (names : List (List ℕ)) (name : List ℕ) → (holder == number) ≡ true → list_any (bytes_eq name) names ≡ true → holds (as_held holder (held ++ map exclusive names)) number name true ≡ true
 unfolding holds

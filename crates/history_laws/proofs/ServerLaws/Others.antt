@@ -19,7 +19,7 @@ use Rattle.script_text.specs.declared.actor.Side.{Side}
 use Rattle.script_text.specs.declared.actor.Side.TheVariants.{Before, After}
 use Rattle.plain_server.specs.declared.session.Session.{Session}
 use Rattle.plain_server.specs.declared.session.HeldName.{HeldName}
-use Rattle.statement_laws.specs.Databases.{EventsCovered}
+use Rattle.plain_server.specs.StatementLaws.Databases.{EventsCovered}
 use Rattle.plain_server.specs.Jobs.{Job, table_of, job_of, says, job_says, result_in, events_of, after_events, change_table, copy_job}
 use Rattle.plain_server.specs.Saying.{tells}
 use Rattle.history_laws.specs.Turns.{scene_state, about, request_of}
@@ -35,7 +35,7 @@ use Rattle.std.specs.Option.{is_some}
 use Rattle.row_store.specs.declared.renaming.Pair.{Pair}
 use Rattle.row_store.proofs.ChangedTables.{found_where}
 use Rattle.plain_server.specs.declared.answer.Answer.{Answer}
-use Rattle.statement_laws.proofs.Finding.{found_after, change_if}
+use Rattle.plain_server.proofs.StatementLaws.Finding.{found_after, change_if}
 use Rattle.history_laws.proofs.Moves.{behind_other, drop_moves, rename_moves}
 use Rattle.plain_server.specs.declared.session.Limits.{Limits}
 use Rattle.history_laws.specs.Scenes.{Scene}
@@ -52,8 +52,8 @@ use Rattle.plain_server.specs.Answers.{ok}
 use Rattle.plain_server.specs.declared.need.Need.{Need}
 use Rattle.plain_server.specs.Locking.{need, need_within, blocker}
 use Rattle.plain_server.specs.declared.session.Waiting.{Waiting}
-use Rattle.journal_words.specs.Journals.{after_entry, opens, opens_if}
-use Rattle.statement_laws.proofs.Tests.{same_number, same_bytes, are_same, turned_bytes, or_true, nor_left}
+use Rattle.migration_program.specs.JournalWords.Journals.{after_entry, opens, opens_if}
+use Rattle.plain_server.proofs.StatementLaws.Tests.{same_number, same_bytes, are_same, turned_bytes, or_true, nor_left}
 use Rattle.least_session.proofs.Sessions.{none_of}
 
 -- WHAT OTHERS HOLD

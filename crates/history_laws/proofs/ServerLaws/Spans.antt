@@ -8,19 +8,19 @@ use Rattle.gho_values.specs.declared.span.Span.{Span}
 use Rattle.gho_values.specs.Spans.{has}
 use Rattle.gho_values.specs.Storing.{stores}
 use Rattle.gho_values.specs.Laws.{StoresNullWhereNullable}
-use Rattle.gho_schema.specs.declared.schema.Schema.{Schema}
-use Rattle.gho_schema.specs.declared.schema.Index.{Index}
-use Rattle.gho_schema.specs.declared.schema.Column.{Column}
-use Rattle.gho_schema.specs.Clustering.{is_not_null, clustered_place, unique_at}
-use Rattle.gho_schema.specs.Rows.{key_of, key_places, places_of}
-use Rattle.gho_schema.specs.Tables.{IsRow, no_null}
+use Rattle.gho_values.specs.declared.gho_schema.schema.Schema.{Schema}
+use Rattle.gho_values.specs.declared.gho_schema.schema.Index.{Index}
+use Rattle.gho_values.specs.declared.gho_schema.schema.Column.{Column}
+use Rattle.gho_values.specs.GhoSchema.Clustering.{is_not_null, clustered_place, unique_at}
+use Rattle.gho_values.specs.GhoSchema.Rows.{key_of, key_places, places_of}
+use Rattle.gho_values.specs.GhoSchema.Tables.{IsRow, no_null}
 use Rattle.row_store.specs.Databases.{TableRows, rows_in}
 use Rattle.row_store.proofs.TableLaws.{key_no_null}
 use Rattle.plain_server.specs.Rows.{reaches, rows_met, lies_under}
-use Rattle.statement_laws.specs.Covering.{IsOrderlyTable}
-use Rattle.statement_laws.specs.Databases.{WhereFound}
+use Rattle.plain_server.specs.StatementLaws.Covering.{IsOrderlyTable}
+use Rattle.plain_server.specs.StatementLaws.Databases.{WhereFound}
 use Rattle.history_laws.specs.ServerLaws.Others.{SpanStays}
-use Rattle.statement_laws.proofs.Orderly.{nulls}
+use Rattle.plain_server.proofs.StatementLaws.Orderly.{nulls}
 use Rattle.history_laws.proofs.ServerLaws.Agreements.{rows_stay}
 
 -- the clustered key of a row is in the span where the row is reached

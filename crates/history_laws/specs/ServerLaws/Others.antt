@@ -9,17 +9,17 @@ use Rattle.gho_values.specs.declared.span.Span.{Span}
 use Rattle.gho_values.specs.declared.value.Value.{Value}
 use Rattle.plain_server.specs.declared.answer.Answer.TheVariants as answers
 use Rattle.plain_server.specs.Chunks.{span_keys}
-use Rattle.gho_schema.specs.Clustering.{clustered_place}
+use Rattle.gho_values.specs.GhoSchema.Clustering.{clustered_place}
 use Rattle.row_store.specs.Databases.{has_table, rows_in, rename_tables, TableRows, Database, find_table}
 use Rattle.plain_server.specs.declared.session.Limits.{Limits}
 use Rattle.row_locks.specs.declared.lock.Lock.{Lock}
 use Rattle.plain_server.specs.declared.work.Reach.{Reach}
 use Rattle.plain_server.specs.Rows.{rows_met}
 use Rattle.plain_server.specs.Needing.{lock_on}
-use Rattle.statement_laws.specs.Agreeing.{Agree, Among}
+use Rattle.plain_server.specs.StatementLaws.Agreeing.{Agree, Among}
 use Rattle.history_laws.specs.Holdings.{face_of, OneHolder}
-use Rattle.statement_laws.specs.Covering.{Apart}
-use Rattle.statement_laws.specs.Databases.{IsOrderly, EventsCovered}
+use Rattle.plain_server.specs.StatementLaws.Covering.{Apart}
+use Rattle.plain_server.specs.StatementLaws.Databases.{IsOrderly, EventsCovered}
 use Rattle.history_laws.specs.Scenes.{Scene}
 use Rattle.std.specs.Str.{bytes_eq}
 use Rattle.plain_server.specs.declared.answer.Answer.{Answer}
@@ -30,7 +30,7 @@ use Rattle.plain_server.specs.declared.request.Request.{Request}
 use Rattle.plain_server.specs.Answers.{ok}
 use Rattle.plain_server.specs.States.{State, is_exclusive, names_held, names_in, waits_for}
 use Rattle.plain_server.specs.Deeds.{created, dropped, renamed_or}
-use Rattle.journal_words.specs.Journals.{opens}
+use Rattle.migration_program.specs.JournalWords.Journals.{opens}
 
 abbrev pub held_at : State → List grants.HeldName
 held_at state = names_held state.sessions

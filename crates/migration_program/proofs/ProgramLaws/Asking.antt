@@ -7,8 +7,8 @@ use Rattle.std.specs.Str.{bytes_eq}
 use Rattle.gho_values.specs.declared.value.Value.{Value}
 use Rattle.gho_values.specs.declared.span.Bound.{Bound}
 use Rattle.gho_values.specs.declared.span.Span.{Span}
-use Rattle.gho_schema.specs.declared.schema.Schema.{Schema}
-use Rattle.alter_image.specs.declared.map.MapColumn.{MapColumn}
+use Rattle.gho_values.specs.declared.gho_schema.schema.Schema.{Schema}
+use Rattle.gho_values.specs.declared.alter_image.map.MapColumn.{MapColumn}
 use Rattle.script_text.specs.declared.actor.Actor.TheVariants.{Insp, Copy, Apply, Lock, Ren}
 use Rattle.script_text.specs.declared.statement.Statement.{Statement}
 use Rattle.plain_server.specs.declared.request.Request.TheVariants as requests
@@ -16,8 +16,8 @@ use Rattle.plain_server.specs.Jobs.{table_of}
 use Rattle.plan_words.specs.PlanData.{PlanData, new_schema}
 use Rattle.changelog_table.specs.ToolNames.{ghost_name, log_name, old_name}
 use Rattle.changelog_table.specs.ToolTables.{log_schema, sentry_schema}
-use Rattle.cutover_core.specs.declared.cutover.Leftovers.{Leftovers}
-use Rattle.cutover_core.specs.Attempts.{first_name, exchange, writes_hint}
+use Rattle.migration_program.specs.declared.cutover_core.cutover.Leftovers.{Leftovers}
+use Rattle.migration_program.specs.CutoverCore.Attempts.{first_name, exchange, writes_hint}
 use Rattle.migration_program.specs.Operators.{is_throttled}
 use Rattle.migration_program.specs.Tools.{Moment}
 use Rattle.migration_program.specs.Online.{attempt_goes_on, is_near, attempt_stands, is_written, only_reads}

@@ -14,31 +14,31 @@ use Rattle.plain_server.specs.declared.entry.Asked.{Asked}
 use Rattle.plain_server.specs.declared.entry.Asked.TheVariants.{Call, Poll}
 use Rattle.plain_server.specs.Entries.{request_in}
 use Rattle.plan_words.specs.PlanData.{PlanData}
-use Rattle.journal_words.specs.Sessions.{live_session}
-use Rattle.journal_words.specs.Keeping.{words_of}
+use Rattle.migration_program.specs.JournalWords.Sessions.{live_session}
+use Rattle.migration_program.specs.JournalWords.Keeping.{words_of}
 use Rattle.changelog_table.specs.ToolNames.{ghost_name}
-use Rattle.chunk_copier.specs.declared.copier.Copier.{Copier}
-use Rattle.chunk_copier.specs.declared.copier.CopyRange.{CopyRange}
-use Rattle.chunk_copier.specs.declared.copier.CopyStep.{CopyStep}
-use Rattle.chunk_copier.specs.declared.copier.CopyStep.TheVariants as copying
-use Rattle.chunk_copier.specs.Copiers as copiers
-use Rattle.event_applier.specs.declared.applier.Applier.{Applier}
-use Rattle.event_applier.specs.declared.applier.ApplyStep.{ApplyStep}
-use Rattle.event_applier.specs.declared.applier.ApplyStep.TheVariants as applying
-use Rattle.event_applier.specs.Appliers.{Doing, Putting, Removing, Changing}
-use Rattle.event_applier.specs.Appliers as appliers
-use Rattle.cutover_core.specs.declared.cutover.Clearing.{Clearing}
-use Rattle.cutover_core.specs.declared.cutover.Clearing.TheVariants.{Looking, Drops}
-use Rattle.cutover_core.specs.declared.cutover.CutOver.{CutOver}
-use Rattle.cutover_core.specs.declared.cutover.Hold.{Hold}
-use Rattle.cutover_core.specs.declared.cutover.Hold.TheVariants.{Locks}
-use Rattle.cutover_core.specs.declared.cutover.Phase.{Phase}
-use Rattle.cutover_core.specs.declared.cutover.Phase.TheVariants.{Resting, Attempting, Ending, Finishing}
-use Rattle.cutover_core.specs.declared.cutover.Stage.{Stage}
-use Rattle.cutover_core.specs.declared.cutover.Stage.TheVariants.{Locking, Hinting, Drained, Showing, Dropping, Unlocking}
-use Rattle.cutover_core.specs.declared.cutover.Role.TheVariants.{Inspector, Locker, Renamer}
-use Rattle.cutover_core.specs.Attempts as cutovers
-use Rattle.cutover_core.specs.CutOvers.{stands, is_done, is_resting}
+use Rattle.migration_program.specs.declared.chunk_copier.copier.Copier.{Copier}
+use Rattle.migration_program.specs.declared.chunk_copier.copier.CopyRange.{CopyRange}
+use Rattle.migration_program.specs.declared.chunk_copier.copier.CopyStep.{CopyStep}
+use Rattle.migration_program.specs.declared.chunk_copier.copier.CopyStep.TheVariants as copying
+use Rattle.migration_program.specs.ChunkCopier.Copiers as copiers
+use Rattle.migration_program.specs.declared.event_applier.applier.Applier.{Applier}
+use Rattle.migration_program.specs.declared.event_applier.applier.ApplyStep.{ApplyStep}
+use Rattle.migration_program.specs.declared.event_applier.applier.ApplyStep.TheVariants as applying
+use Rattle.migration_program.specs.EventApplier.Appliers.{Doing, Putting, Removing, Changing}
+use Rattle.migration_program.specs.EventApplier.Appliers as appliers
+use Rattle.migration_program.specs.declared.cutover_core.cutover.Clearing.{Clearing}
+use Rattle.migration_program.specs.declared.cutover_core.cutover.Clearing.TheVariants.{Looking, Drops}
+use Rattle.migration_program.specs.declared.cutover_core.cutover.CutOver.{CutOver}
+use Rattle.migration_program.specs.declared.cutover_core.cutover.Hold.{Hold}
+use Rattle.migration_program.specs.declared.cutover_core.cutover.Hold.TheVariants.{Locks}
+use Rattle.migration_program.specs.declared.cutover_core.cutover.Phase.{Phase}
+use Rattle.migration_program.specs.declared.cutover_core.cutover.Phase.TheVariants.{Resting, Attempting, Ending, Finishing}
+use Rattle.migration_program.specs.declared.cutover_core.cutover.Stage.{Stage}
+use Rattle.migration_program.specs.declared.cutover_core.cutover.Stage.TheVariants.{Locking, Hinting, Drained, Showing, Dropping, Unlocking}
+use Rattle.migration_program.specs.declared.cutover_core.cutover.Role.TheVariants.{Inspector, Locker, Renamer}
+use Rattle.migration_program.specs.CutoverCore.Attempts as cutovers
+use Rattle.migration_program.specs.CutoverCore.CutOvers.{stands, is_done, is_resting}
 use Rattle.migration_program.specs.Setups as setups
 use Rattle.migration_program.specs.Operators.{is_throttled, is_postponed}
 use Rattle.migration_program.specs.Tools.{Work, Course, SettingUp, Migrating, Moment, is_reverting, moment}
@@ -154,7 +154,7 @@ module _ (plan : PlanData) (now : Moment) (journal : List Entry) where
   -- THE LOCKER
 
   stage_goes : (work : Work) (stage : Stage) → now.tool.course ≡ Migrating work → work.cutover.phase ≡ Attempting stage → Rattle.migration_program.specs.Online.attempt_goes_on now.tool.course ≡ true
-  stage_goes work stage course phase = ap Rattle.migration_program.specs.Online.attempt_goes_on course ∙ ap Rattle.cutover_core.specs.CutOvers.may_succeed phase
+  stage_goes work stage course phase = ap Rattle.migration_program.specs.Online.attempt_goes_on course ∙ ap Rattle.migration_program.specs.CutoverCore.CutOvers.may_succeed phase
 
   locker_at : (table : List ℕ) (stage : Stage) (request : Request) → table ≡ plan.table → Rattle.migration_program.specs.Online.attempt_goes_on now.tool.course ≡ true → cutovers.locker_at table stage ≡ Some request → AsksWell plan now Lock request
   locker_at table Locking request same going is = one_call (AsksWell plan now Lock) _ request is (well.locks plan now table same going)

@@ -1,24 +1,24 @@
 -- The machines' tables are the plan's, whatever they take.
 use Rattle.std.proofs.Common.{◌≡◌, ℕ, ◌==◌, Bool, true, false, List, refl, ap, ◌∙◌}
 use Rattle.std.specs.Prelude.{if◌then◌else◌}
-use Rattle.gho_schema.specs.declared.schema.Schema.{Schema}
+use Rattle.gho_values.specs.declared.gho_schema.schema.Schema.{Schema}
 use Rattle.plain_server.specs.declared.answer.Answer.{Answer}
 use Rattle.plain_server.specs.declared.answer.Answer.TheVariants as answers
 use Rattle.plan_words.specs.PlanData.{PlanData}
 use Rattle.changelog_table.specs.ToolNames.{ghost_name}
-use Rattle.chunk_copier.specs.declared.copier.Copier.{Copier}
-use Rattle.chunk_copier.specs.declared.copier.CopyStep.{CopyStep}
-use Rattle.chunk_copier.specs.declared.copier.CopyStep.TheVariants as copying
-use Rattle.chunk_copier.specs.Copiers as copiers
-use Rattle.event_applier.specs.declared.applier.Applier.{Applier}
-use Rattle.event_applier.specs.declared.applier.ApplyStep.{ApplyStep}
-use Rattle.event_applier.specs.declared.applier.ApplyStep.TheVariants as applying
-use Rattle.event_applier.specs.declared.applier.Batch.{Batch}
-use Rattle.event_applier.specs.Appliers as appliers
-use Rattle.cutover_core.specs.declared.cutover.CutOver.{CutOver}
-use Rattle.cutover_core.specs.declared.cutover.Role.{Role}
-use Rattle.cutover_core.specs.declared.cutover.Role.TheVariants.{Inspector, Locker, Renamer}
-use Rattle.cutover_core.specs.CutOvers as cutovers
+use Rattle.migration_program.specs.declared.chunk_copier.copier.Copier.{Copier}
+use Rattle.migration_program.specs.declared.chunk_copier.copier.CopyStep.{CopyStep}
+use Rattle.migration_program.specs.declared.chunk_copier.copier.CopyStep.TheVariants as copying
+use Rattle.migration_program.specs.ChunkCopier.Copiers as copiers
+use Rattle.migration_program.specs.declared.event_applier.applier.Applier.{Applier}
+use Rattle.migration_program.specs.declared.event_applier.applier.ApplyStep.{ApplyStep}
+use Rattle.migration_program.specs.declared.event_applier.applier.ApplyStep.TheVariants as applying
+use Rattle.migration_program.specs.declared.event_applier.applier.Batch.{Batch}
+use Rattle.migration_program.specs.EventApplier.Appliers as appliers
+use Rattle.migration_program.specs.declared.cutover_core.cutover.CutOver.{CutOver}
+use Rattle.migration_program.specs.declared.cutover_core.cutover.Role.{Role}
+use Rattle.migration_program.specs.declared.cutover_core.cutover.Role.TheVariants.{Inspector, Locker, Renamer}
+use Rattle.migration_program.specs.CutoverCore.CutOvers as cutovers
 use Rattle.migration_program.specs.Tools.{Work, Course, SettingUp, Migrating, moment}
 use Rattle.migration_program.proofs.ProgramLaws.Keeping.{Keeps, always}
 

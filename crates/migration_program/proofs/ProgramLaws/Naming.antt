@@ -7,8 +7,8 @@ use Rattle.std.proofs.Math.Bool.{or-true}
 use Rattle.std.proofs.lemmas.List.{length-append}
 use Rattle.std.proofs.lemmas.Slice.Eq.{bytes_eq-Decides}
 use Rattle.changelog_table.specs.ToolNames.{ghost_name, log_name, old_name, is_tool_name}
-use Rattle.cutover_core.specs.declared.cutover.Leftovers.{Leftovers}
-use Rattle.cutover_core.specs.Attempts.{first_name}
+use Rattle.migration_program.specs.declared.cutover_core.cutover.Leftovers.{Leftovers}
+use Rattle.migration_program.specs.CutoverCore.Attempts.{first_name}
 
 -- a longer name differs
 longer : (a b : List ℕ) (more : ℕ) → length b ≡ length a + more → 0 < more → bytes_eq a b ≡ false

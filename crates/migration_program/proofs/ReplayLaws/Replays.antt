@@ -5,9 +5,9 @@ use Rattle.plain_server.specs.Along.{Along}
 use Rattle.plain_server.specs.declared.entry.Entry.{Entry}
 use Rattle.plain_server.specs.Entries.{is_cut}
 use Rattle.plan_words.specs.PlanData.{PlanData}
-use Rattle.journal_words.specs.Journals.{IsAnswered, state_at}
-use Rattle.journal_words.specs.Sessions.{live_session, IsNumbered, NumbersSessions}
-use Rattle.journal_words.specs.Keeping.{IsPlanned, KeepsPlan}
+use Rattle.migration_program.specs.JournalWords.Journals.{IsAnswered, state_at}
+use Rattle.migration_program.specs.JournalWords.Sessions.{live_session, IsNumbered, NumbersSessions}
+use Rattle.migration_program.specs.JournalWords.Keeping.{IsPlanned, KeepsPlan}
 use Rattle.migration_program.specs.Programs.{IsFollowed, Follows}
 use Rattle.migration_program.specs.Orders.{next_actor, IsNext, ReplayOrder, IsReplay}
 use Rattle.migration_program.specs.ReplayLaws.Laws.{ReplaysAgree, OneReplay}

@@ -10,9 +10,9 @@ use Rattle.plain_server.specs.Answers.{ok}
 use Rattle.plain_server.specs.Entries.{is_cut}
 use Rattle.plain_server.specs.States.{State}
 use Rattle.plan_words.specs.PlanData.{PlanData}
-use Rattle.journal_words.specs.Journals.{inner_answer, heard, missed, IsAnswered, state_at}
-use Rattle.journal_words.specs.Sessions.{live_session, sessions_named, IsInSession, IsNumbered}
-use Rattle.journal_words.specs.Keeping.{cut_due, side_due, IsStruck, IsPlanned}
+use Rattle.migration_program.specs.JournalWords.Journals.{inner_answer, heard, missed, IsAnswered, state_at}
+use Rattle.migration_program.specs.JournalWords.Sessions.{live_session, sessions_named, IsInSession, IsNumbered}
+use Rattle.migration_program.specs.JournalWords.Keeping.{cut_due, side_due, IsStruck, IsPlanned}
 use Rattle.migration_program.specs.Programs.{given, IsGiven, IsFollowed}
 use Rattle.migration_program.specs.Orders.{next_actor, IsNext}
 

@@ -23,45 +23,45 @@ use Rattle.plain_server.specs.States.{State, is_of}
 use Rattle.plan_words.specs.PlanData.{PlanData}
 use Rattle.changelog_table.specs.ToolNames.{log_name, ghost_name}
 use Rattle.changelog_table.specs.Hints.{hint_row, hint_if, hint_of, or_last, hint_in, last_hint}
-use Rattle.journal_words.specs.Journals.{state_at}
-use Rattle.cutover_core.specs.declared.cutover.Clearing.TheVariants.{Looking, Drops}
-use Rattle.cutover_core.specs.declared.cutover.CutOver.{CutOver}
-use Rattle.cutover_core.specs.declared.cutover.Leftovers.{Leftovers}
+use Rattle.migration_program.specs.JournalWords.Journals.{state_at}
+use Rattle.migration_program.specs.declared.cutover_core.cutover.Clearing.TheVariants.{Looking, Drops}
+use Rattle.migration_program.specs.declared.cutover_core.cutover.CutOver.{CutOver}
+use Rattle.migration_program.specs.declared.cutover_core.cutover.Leftovers.{Leftovers}
 use Rattle.plain_server.specs.declared.listing.TableName.{TableName}
-use Rattle.cutover_core.specs.declared.cutover.Phase.{Phase}
-use Rattle.cutover_core.specs.declared.cutover.Phase.TheVariants.{Resting, Attempting, Ending, Finishing, Finished}
-use Rattle.cutover_core.specs.declared.cutover.Role.TheVariants.{Inspector, Locker, Renamer}
-use Rattle.cutover_core.specs.declared.cutover.Stage.{Stage}
-use Rattle.cutover_core.specs.declared.cutover.Stage.TheVariants.{Guarding, Locking, Hinting, Draining, Drained, Showing, Dropping, Unlocking, Exchanging}
-use Rattle.cutover_core.specs.Attempts.{has_name, has_sentry, is_clear, without_first}
-use Rattle.cutover_core.specs.CutOvers as cutovers
-use Rattle.cutover_core.specs.CutOvers.{is_bad, begun, locker_phase, locker_stage, attempts_after, inspector_phase, inspector_stage, finishing, seen, renamer_phase, waits_phase, failed, applier_turn, reverted}
+use Rattle.migration_program.specs.declared.cutover_core.cutover.Phase.{Phase}
+use Rattle.migration_program.specs.declared.cutover_core.cutover.Phase.TheVariants.{Resting, Attempting, Ending, Finishing, Finished}
+use Rattle.migration_program.specs.declared.cutover_core.cutover.Role.TheVariants.{Inspector, Locker, Renamer}
+use Rattle.migration_program.specs.declared.cutover_core.cutover.Stage.{Stage}
+use Rattle.migration_program.specs.declared.cutover_core.cutover.Stage.TheVariants.{Guarding, Locking, Hinting, Draining, Drained, Showing, Dropping, Unlocking, Exchanging}
+use Rattle.migration_program.specs.CutoverCore.Attempts.{has_name, has_sentry, is_clear, without_first}
+use Rattle.migration_program.specs.CutoverCore.CutOvers as cutovers
+use Rattle.migration_program.specs.CutoverCore.CutOvers.{is_bad, begun, locker_phase, locker_stage, attempts_after, inspector_phase, inspector_stage, finishing, seen, renamer_phase, waits_phase, failed, applier_turn, reverted}
 use Rattle.migration_program.specs.Programs.{given, IsGiven}
 use Rattle.migration_program.specs.Setups.{Setup, Listing, Clearing, MakingLog, MakingGhost, Marking, Reaching, Ready, setup_after}
 use Rattle.migration_program.specs.Tools.{Work, Course, SettingUp, Migrating, Tool, stopped, course_of, moment}
 use Rattle.history_laws.specs.Plans.{IsSerialPlan}
 use Rattle.history_laws.proofs.Actors.{same_actor_is}
-use Rattle.statement_laws.proofs.Tests.{same_bytes}
-use Rattle.ghost_laws.specs.Invariant.{NotOf}
+use Rattle.plain_server.proofs.StatementLaws.Tests.{same_bytes}
+use Rattle.history_laws.specs.GhostLaws.Invariant.{NotOf}
 use Rattle.history_laws.specs.ServerLaws.Others.{EntriesAreTurns}
-use Rattle.run_laws.specs.Kept.{IsKept}
-use Rattle.machine_laws.specs.Runnable.{IsRunnable}
-use Rattle.machine_laws.specs.Standings.{standing_of}
-use Rattle.sentry_laws.specs.Sentries.{IsDraining, WritesHint, scene, InspectorWrites}
-use Rattle.sentry_laws.specs.Turning.{CourseTurn, IsTurned, last_session, WorkTurn, AskedTurn, InspectorSays}
-use Rattle.course_laws.proofs.CourseTurns.{Kept, UnfitKeeps, CopyKeeps, ApplyKeeps, SetupKeeps, CutKeeps, AnswerKeeps, ResizeKeeps, turn_kept, gives_asked}
-use Rattle.course_laws.specs.UnalteredLaws.Laws.{IsUnaltered}
-use Rattle.follow_laws.proofs.InspectorTurns.Inspectors.{inspectors_turned}
-use Rattle.follow_laws.proofs.FollowTurns.Follows.{kept_front, kept_run}
-use Rattle.course_laws.proofs.UnalteredLaws.Away.{unaltered_front}
-use Rattle.follow_laws.specs.HintLaws.Laws.{KnowsHints, IsBegun, is_unhinted}
-use Rattle.follow_laws.proofs.HintLaws.Asked.{others_left, lost_left, insp_left}
-use Rattle.follow_laws.proofs.HintLaws.Known.{hints_go, hints_known}
-use Rattle.follow_laws.proofs.HintLaws.Logging.{LogsAway, LogsHint}
-use Rattle.follow_laws.proofs.HintLaws.Phases.{may_hint}
-use Rattle.follow_laws.proofs.HintLaws.States.{CourseHints, HintsGo}
-use Rattle.course_laws.proofs.Owners.{commands_operator}
-use Rattle.run_laws.proofs.Taking.{server_is}
+use Rattle.history_laws.specs.RunLaws.Kept.{IsKept}
+use Rattle.history_laws.specs.MachineLaws.Runnable.{IsRunnable}
+use Rattle.history_laws.specs.MachineLaws.Standings.{standing_of}
+use Rattle.history_laws.specs.SentryLaws.Sentries.{IsDraining, WritesHint, scene, InspectorWrites}
+use Rattle.history_laws.specs.SentryLaws.Turning.{CourseTurn, IsTurned, last_session, WorkTurn, AskedTurn, InspectorSays}
+use Rattle.revert_laws.proofs.CourseLaws.CourseTurns.{Kept, UnfitKeeps, CopyKeeps, ApplyKeeps, SetupKeeps, CutKeeps, AnswerKeeps, ResizeKeeps, turn_kept, gives_asked}
+use Rattle.revert_laws.specs.CourseLaws.UnalteredLaws.Laws.{IsUnaltered}
+use Rattle.revert_laws.proofs.FollowLaws.InspectorTurns.Inspectors.{inspectors_turned}
+use Rattle.revert_laws.proofs.FollowLaws.FollowTurns.Follows.{kept_front, kept_run}
+use Rattle.revert_laws.proofs.CourseLaws.UnalteredLaws.Away.{unaltered_front}
+use Rattle.revert_laws.specs.FollowLaws.HintLaws.Laws.{KnowsHints, IsBegun, is_unhinted}
+use Rattle.revert_laws.proofs.FollowLaws.HintLaws.Asked.{others_left, lost_left, insp_left}
+use Rattle.revert_laws.proofs.FollowLaws.HintLaws.Known.{hints_go, hints_known}
+use Rattle.revert_laws.proofs.FollowLaws.HintLaws.Logging.{LogsAway, LogsHint}
+use Rattle.revert_laws.proofs.FollowLaws.HintLaws.Phases.{may_hint}
+use Rattle.revert_laws.proofs.FollowLaws.HintLaws.States.{CourseHints, HintsGo}
+use Rattle.revert_laws.proofs.CourseLaws.Owners.{commands_operator}
+use Rattle.history_laws.proofs.RunLaws.Taking.{server_is}
 
 -- LAST HINTS
 

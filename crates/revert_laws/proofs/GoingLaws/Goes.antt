@@ -13,35 +13,35 @@ use Rattle.plain_server.specs.States.{State, is_of, unread}
 use Rattle.plan_words.specs.PlanData.{PlanData}
 use Rattle.changelog_table.specs.ToolNames.{log_name}
 use Rattle.changelog_table.specs.Hints.{last_hint}
-use Rattle.journal_words.specs.Histories.{history, is_alter}
-use Rattle.journal_words.specs.Journals.{state_at}
-use Rattle.cutover_core.specs.declared.cutover.Hold.TheVariants.{Nothing, WaitsToGuard}
-use Rattle.cutover_core.specs.declared.cutover.Phase.{Phase}
-use Rattle.cutover_core.specs.declared.cutover.Phase.TheVariants.{Resting, Attempting, Ending, Finishing, Finished}
-use Rattle.cutover_core.specs.declared.cutover.Stage.TheVariants.{Guarding, Draining, Exchanging}
+use Rattle.migration_program.specs.JournalWords.Histories.{history, is_alter}
+use Rattle.migration_program.specs.JournalWords.Journals.{state_at}
+use Rattle.migration_program.specs.declared.cutover_core.cutover.Hold.TheVariants.{Nothing, WaitsToGuard}
+use Rattle.migration_program.specs.declared.cutover_core.cutover.Phase.{Phase}
+use Rattle.migration_program.specs.declared.cutover_core.cutover.Phase.TheVariants.{Resting, Attempting, Ending, Finishing, Finished}
+use Rattle.migration_program.specs.declared.cutover_core.cutover.Stage.TheVariants.{Guarding, Draining, Exchanging}
 use Rattle.migration_program.specs.Orders.{actors, is_ready}
 use Rattle.migration_program.specs.Programs.{may_read, unread_in}
 use Rattle.migration_program.specs.Tools.{Work, Course, SettingUp, Migrating, Moment, moment}
 use Rattle.migration_program.proofs.ProgramLaws.Machines.{CourseIsNamed, named}
 use Rattle.history_laws.specs.Plans.{IsSerialPlan}
 use Rattle.history_laws.specs.ServerLaws.Others.{EntriesAreTurns}
-use Rattle.run_laws.specs.Kept.{IsKept}
-use Rattle.machine_laws.specs.Runnable.{IsRunnable}
-use Rattle.machine_laws.specs.Standings.{standing_of}
-use Rattle.sentry_laws.specs.Sentries.{IsDraining}
-use Rattle.course_laws.specs.UnalteredLaws.Laws.{IsUnaltered}
-use Rattle.course_laws.specs.ReadyLaws.Laws.{IsStuckAt, IsStuck}
-use Rattle.course_laws.proofs.ReadyLaws.Ready.{someone_ready}
-use Rattle.attempt_laws.specs.Laws.{IsWaiting}
-use Rattle.attempt_laws.proofs.Stages.{AskedAt}
-use Rattle.attempt_laws.proofs.Standing.{CourseAt, IsStanding, all_standing, all_wait}
-use Rattle.attempt_laws.specs.RenamedLaws.Laws.{IsRenamedAt, CourseRenamed}
-use Rattle.attempt_laws.proofs.RenamedLaws.Seen.{all_seen}
-use Rattle.follow_laws.specs.HintLaws.Laws.{KnowsHints}
-use Rattle.follow_laws.proofs.HintLaws.Known.{hints_known}
+use Rattle.history_laws.specs.RunLaws.Kept.{IsKept}
+use Rattle.history_laws.specs.MachineLaws.Runnable.{IsRunnable}
+use Rattle.history_laws.specs.MachineLaws.Standings.{standing_of}
+use Rattle.history_laws.specs.SentryLaws.Sentries.{IsDraining}
+use Rattle.revert_laws.specs.CourseLaws.UnalteredLaws.Laws.{IsUnaltered}
+use Rattle.revert_laws.specs.CourseLaws.ReadyLaws.Laws.{IsStuckAt, IsStuck}
+use Rattle.revert_laws.proofs.CourseLaws.ReadyLaws.Ready.{someone_ready}
+use Rattle.revert_laws.specs.AttemptLaws.Laws.{IsWaiting}
+use Rattle.revert_laws.proofs.AttemptLaws.Stages.{AskedAt}
+use Rattle.revert_laws.proofs.AttemptLaws.Standing.{CourseAt, IsStanding, all_standing, all_wait}
+use Rattle.revert_laws.specs.AttemptLaws.RenamedLaws.Laws.{IsRenamedAt, CourseRenamed}
+use Rattle.revert_laws.proofs.AttemptLaws.RenamedLaws.Seen.{all_seen}
+use Rattle.revert_laws.specs.FollowLaws.HintLaws.Laws.{KnowsHints}
+use Rattle.revert_laws.proofs.FollowLaws.HintLaws.Known.{hints_known}
 use Rattle.revert_laws.specs.GoingLaws.Laws.{SomeoneGoes}
 use Rattle.revert_laws.proofs.GoingLaws.Drains.{CourseDrains, hinted_last, last_away, last_both, unread_away}
-use Rattle.cutover_core.specs.CutOvers.{stands}
+use Rattle.migration_program.specs.CutoverCore.CutOvers.{stands}
 use Rattle.migration_program.specs.Operators.{is_throttled}
 
 module _ (turns : EntriesAreTurns) (plan : PlanData) (journal : List Entry) (runs : IsRunnable plan) (serial : IsSerialPlan plan) (kept : IsKept plan journal) where

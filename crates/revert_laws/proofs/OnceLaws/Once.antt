@@ -16,32 +16,32 @@ use Rattle.plain_server.specs.declared.entry.Entry.{Entry}
 use Rattle.plain_server.specs.declared.request.Request.{Request}
 use Rattle.plain_server.specs.declared.request.Request.TheVariants as requests
 use Rattle.plan_words.specs.PlanData.{PlanData}
-use Rattle.cutover_core.specs.Attempts.{exchange}
-use Rattle.cutover_core.specs.CutOvers.{is_done}
-use Rattle.cutover_core.specs.declared.cutover.Clearing.TheVariants.{Drops, Looking}
-use Rattle.cutover_core.specs.declared.cutover.Phase.{Phase}
-use Rattle.cutover_core.specs.declared.cutover.Phase.TheVariants.{Attempting, Ending, Finished, Finishing, Resting}
-use Rattle.cutover_core.specs.declared.cutover.Stage.TheVariants.{Hinting}
-use Rattle.journal_words.specs.Histories as histories
-use Rattle.journal_words.specs.Histories.{alters, entry_adds, is_alter, told_in}
-use Rattle.journal_words.specs.Journals.{state_at}
+use Rattle.migration_program.specs.CutoverCore.Attempts.{exchange}
+use Rattle.migration_program.specs.CutoverCore.CutOvers.{is_done}
+use Rattle.migration_program.specs.declared.cutover_core.cutover.Clearing.TheVariants.{Drops, Looking}
+use Rattle.migration_program.specs.declared.cutover_core.cutover.Phase.{Phase}
+use Rattle.migration_program.specs.declared.cutover_core.cutover.Phase.TheVariants.{Attempting, Ending, Finished, Finishing, Resting}
+use Rattle.migration_program.specs.declared.cutover_core.cutover.Stage.TheVariants.{Hinting}
+use Rattle.migration_program.specs.JournalWords.Histories as histories
+use Rattle.migration_program.specs.JournalWords.Histories.{alters, entry_adds, is_alter, told_in}
+use Rattle.migration_program.specs.JournalWords.Journals.{state_at}
 use Rattle.migration_program.specs.Programs.{IsGiven, given, tool_call}
 use Rattle.migration_program.specs.Tools.{Course, Migrating, SettingUp, is_reverting, moment}
 use Rattle.history_laws.specs.Plans.{IsSerialPlan}
 use Rattle.history_laws.specs.ServerLaws.Others.{DefinitionsAreDone}
-use Rattle.run_laws.specs.Kept.{IsKept}
+use Rattle.history_laws.specs.RunLaws.Kept.{IsKept}
 use Rattle.actor_seats.proofs.Alters.{of_client}
-use Rattle.machine_laws.specs.Machines.{CourseStands, SetupStands}
-use Rattle.machine_laws.specs.Runnable.{IsRunnable}
-use Rattle.machine_laws.specs.Standings.{Standing, standing_of}
-use Rattle.machine_laws.proofs.Journals.{Asking, IsRun, asking, calls_so, never_commands, polls_so}
-use Rattle.machine_laws.proofs.Marks.{history_more}
-use Rattle.machine_laws.proofs.Seated.{others_stand}
-use Rattle.course_laws.specs.UnalteredLaws.Laws.{IsUnaltered}
-use Rattle.course_laws.proofs.UnalteredLaws.Away.{IsKnownAsked, about_asked, all_asked, tool_adds}
-use Rattle.follow_laws.proofs.FollowTurns.Follows.{kept_front, kept_run, unmarked_now}
-use Rattle.follow_laws.proofs.InspectorTurns.Fitting.{WaitsAt}
-use Rattle.follow_laws.proofs.InspectorTurns.Keeping.{CourseFits, all_fit}
+use Rattle.history_laws.specs.MachineLaws.Machines.{CourseStands, SetupStands}
+use Rattle.history_laws.specs.MachineLaws.Runnable.{IsRunnable}
+use Rattle.history_laws.specs.MachineLaws.Standings.{Standing, standing_of}
+use Rattle.history_laws.proofs.MachineLaws.Journals.{Asking, IsRun, asking, calls_so, never_commands, polls_so}
+use Rattle.history_laws.proofs.MachineLaws.Marks.{history_more}
+use Rattle.history_laws.proofs.MachineLaws.Seated.{others_stand}
+use Rattle.revert_laws.specs.CourseLaws.UnalteredLaws.Laws.{IsUnaltered}
+use Rattle.revert_laws.proofs.CourseLaws.UnalteredLaws.Away.{IsKnownAsked, about_asked, all_asked, tool_adds}
+use Rattle.revert_laws.proofs.FollowLaws.FollowTurns.Follows.{kept_front, kept_run, unmarked_now}
+use Rattle.revert_laws.proofs.FollowLaws.InspectorTurns.Fitting.{WaitsAt}
+use Rattle.revert_laws.proofs.FollowLaws.InspectorTurns.Keeping.{CourseFits, all_fit}
 use Rattle.revert_laws.proofs.OnceLaws.Past.{GoesPast, IsPast, NoMake, goes_past, makes, past_with, rename_frees}
 
 -- BEHIND THE FIRST

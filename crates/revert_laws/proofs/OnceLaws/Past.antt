@@ -27,23 +27,23 @@ use Rattle.plain_server.specs.declared.request.Request.TheVariants as requests
 use Rattle.plain_server.specs.declared.session.Waiting.{Waiting}
 use Rattle.plan_words.specs.PlanData.{PlanData}
 use Rattle.changelog_table.specs.ToolNames.{ghost_name, old_name}
-use Rattle.cutover_core.specs.Attempts as cutovers
-use Rattle.cutover_core.specs.Attempts.{clears, exchange, is_free}
-use Rattle.cutover_core.specs.declared.cutover.Clearing.{Clearing}
-use Rattle.cutover_core.specs.declared.cutover.Clearing.TheVariants.{Drops, Looking}
-use Rattle.cutover_core.specs.declared.cutover.CutOver.{CutOver}
-use Rattle.cutover_core.specs.declared.cutover.Phase.{Phase}
-use Rattle.cutover_core.specs.declared.cutover.Phase.TheVariants.{Attempting, Ending, Finished, Finishing, Resting}
-use Rattle.cutover_core.specs.declared.cutover.Role.TheVariants.{Inspector}
-use Rattle.cutover_core.specs.declared.cutover.Stage.TheVariants.{Hinting, Showing}
-use Rattle.journal_words.specs.Histories as histories
-use Rattle.journal_words.specs.Histories.{alters, entry_adds, is_alter, told_in}
-use Rattle.journal_words.specs.Journals.{may_lose, opens, state_at}
+use Rattle.migration_program.specs.CutoverCore.Attempts as cutovers
+use Rattle.migration_program.specs.CutoverCore.Attempts.{clears, exchange, is_free}
+use Rattle.migration_program.specs.declared.cutover_core.cutover.Clearing.{Clearing}
+use Rattle.migration_program.specs.declared.cutover_core.cutover.Clearing.TheVariants.{Drops, Looking}
+use Rattle.migration_program.specs.declared.cutover_core.cutover.CutOver.{CutOver}
+use Rattle.migration_program.specs.declared.cutover_core.cutover.Phase.{Phase}
+use Rattle.migration_program.specs.declared.cutover_core.cutover.Phase.TheVariants.{Attempting, Ending, Finished, Finishing, Resting}
+use Rattle.migration_program.specs.declared.cutover_core.cutover.Role.TheVariants.{Inspector}
+use Rattle.migration_program.specs.declared.cutover_core.cutover.Stage.TheVariants.{Hinting, Showing}
+use Rattle.migration_program.specs.JournalWords.Histories as histories
+use Rattle.migration_program.specs.JournalWords.Histories.{alters, entry_adds, is_alter, told_in}
+use Rattle.migration_program.specs.JournalWords.Journals.{may_lose, opens, state_at}
 use Rattle.migration_program.specs.Programs.{IsGiven, given, tool_call}
 use Rattle.migration_program.specs.Tools.{Course, Migrating, Moment, SettingUp, Tool, Work, is_reverting, moment, stopped}
 use Rattle.migration_program.proofs.ProgramLaws.Machines.{CourseIsNamed, named}
 use Rattle.migration_program.proofs.ProgramLaws.Naming.{not_ghost}
-use Rattle.statement_laws.proofs.Tests.{turned_bytes}
+use Rattle.plain_server.proofs.StatementLaws.Tests.{turned_bytes}
 use Rattle.history_laws.specs.Plans.{IsSerialPlan, limits_of, scene_of}
 use Rattle.history_laws.specs.Scenes.{Stored}
 use Rattle.history_laws.specs.Turns.{IsTold, about, answer_at, missed_at, request_of, told_at}
@@ -52,22 +52,22 @@ use Rattle.history_laws.proofs.Joined.{told_answer, told_missed}
 use Rattle.history_laws.proofs.Journals.{opened_waits, stored_opened}
 use Rattle.history_laws.proofs.Moves.{renamed_other, renamed_old, found_has, renamed_ok}
 use Rattle.history_laws.specs.ServerLaws.Others.{DefinitionsAreDone}
-use Rattle.machine_laws.specs.Machines.{CourseStands, Stands, WorkStands, inspector_asks, inspector_waits}
-use Rattle.machine_laws.specs.Runnable.{IsRunnable}
-use Rattle.machine_laws.specs.Standings.{IsAbout, Standing, answered, free, is_called, is_polled, standing_of}
-use Rattle.machine_laws.specs.Tabling.{schema_of}
-use Rattle.machine_laws.proofs.Asking.{inspector_next, some_request, waits_asks}
-use Rattle.machine_laws.proofs.Journals.{Asking, IsRun, IsTogether, asking, calls_so, has_now, lock_about, never_commands, polls_so, ren_about}
-use Rattle.machine_laws.proofs.Marks.{ghost_not_old, locker_keeps}
-use Rattle.machine_laws.proofs.Renaming.{renamed_or_stays}
-use Rattle.machine_laws.proofs.Schemas.{keeps_table, schema_rests, schema_stays}
-use Rattle.machine_laws.proofs.Seated.{IsServed, others_stand, own_lost, own_waiting, state_more}
-use Rattle.machine_laws.proofs.Tabling.{Behind, behind, quiet_stay, rests, waits_on}
-use Rattle.course_laws.proofs.UnalteredLaws.Away.{IsKnownAsked, about_asked, tool_adds}
+use Rattle.history_laws.specs.MachineLaws.Machines.{CourseStands, Stands, WorkStands, inspector_asks, inspector_waits}
+use Rattle.history_laws.specs.MachineLaws.Runnable.{IsRunnable}
+use Rattle.history_laws.specs.MachineLaws.Standings.{IsAbout, Standing, answered, free, is_called, is_polled, standing_of}
+use Rattle.history_laws.specs.MachineLaws.Tabling.{schema_of}
+use Rattle.history_laws.proofs.MachineLaws.Asking.{inspector_next, some_request, waits_asks}
+use Rattle.history_laws.proofs.MachineLaws.Journals.{Asking, IsRun, IsTogether, asking, calls_so, has_now, lock_about, never_commands, polls_so, ren_about}
+use Rattle.history_laws.proofs.MachineLaws.Marks.{ghost_not_old, locker_keeps}
+use Rattle.history_laws.proofs.MachineLaws.Renaming.{renamed_or_stays}
+use Rattle.history_laws.proofs.MachineLaws.Schemas.{keeps_table, schema_rests, schema_stays}
+use Rattle.history_laws.proofs.MachineLaws.Seated.{IsServed, others_stand, own_lost, own_waiting, state_more}
+use Rattle.history_laws.proofs.MachineLaws.Tabling.{Behind, behind, quiet_stay, rests, waits_on}
+use Rattle.revert_laws.proofs.CourseLaws.UnalteredLaws.Away.{IsKnownAsked, about_asked, tool_adds}
 use Rattle.actor_seats.proofs.Alters.{of_client}
-use Rattle.course_laws.proofs.CourseTurns.{AnswerKeeps, Kept, ResizeKeeps, TurnKeeps, UnfitKeeps, gives_asked, turn_kept}
-use Rattle.follow_laws.proofs.LockerTurns.Quiet.{CountsNone, Quiet, quiet_served}
-use Rattle.sentry_laws.proofs.Serving.{exchanged}
+use Rattle.revert_laws.proofs.CourseLaws.CourseTurns.{AnswerKeeps, Kept, ResizeKeeps, TurnKeeps, UnfitKeeps, gives_asked, turn_kept}
+use Rattle.revert_laws.proofs.FollowLaws.LockerTurns.Quiet.{CountsNone, Quiet, quiet_served}
+use Rattle.history_laws.proofs.SentryLaws.Serving.{exchanged}
 
 -- NAMES
 

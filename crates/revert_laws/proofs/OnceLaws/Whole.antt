@@ -4,13 +4,13 @@ use Rattle.std.specs.List.{list_any}
 use Rattle.plain_server.specs.Along.{Along}
 use Rattle.plain_server.specs.declared.entry.Entry.{Entry}
 use Rattle.plan_words.specs.PlanData.{PlanData}
-use Rattle.journal_words.specs.Histories.{entry_adds, history, is_alter}
+use Rattle.migration_program.specs.JournalWords.Histories.{entry_adds, history, is_alter}
 use Rattle.history_laws.specs.Plans.{IsSerialPlan}
 use Rattle.history_laws.specs.ServerLaws.Others.{DefinitionsAreDone}
-use Rattle.run_laws.specs.Kept.{IsKept}
-use Rattle.machine_laws.specs.Runnable.{IsRunnable}
-use Rattle.course_laws.specs.UnalteredLaws.Laws.{IsUnaltered}
-use Rattle.follow_laws.proofs.FollowTurns.Follows.{kept_front}
+use Rattle.history_laws.specs.RunLaws.Kept.{IsKept}
+use Rattle.history_laws.specs.MachineLaws.Runnable.{IsRunnable}
+use Rattle.revert_laws.specs.CourseLaws.UnalteredLaws.Laws.{IsUnaltered}
+use Rattle.revert_laws.proofs.FollowLaws.FollowTurns.Follows.{kept_front}
 use Rattle.revert_laws.specs.OnceLaws.Laws.{RenamesComeOnce}
 use Rattle.revert_laws.proofs.OnceLaws.Once.{IsFirst, past_along, renamed_past, unaltered_more}
 

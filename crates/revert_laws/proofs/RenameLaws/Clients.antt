@@ -13,25 +13,25 @@ use Rattle.plain_server.specs.declared.entry.Entry.{Entry}
 use Rattle.plain_server.specs.declared.request.Request.{Request}
 use Rattle.plain_server.specs.declared.request.Request.TheVariants as requests
 use Rattle.plan_words.specs.PlanData.{PlanData}
-use Rattle.journal_words.specs.Journals.{opens, state_at}
+use Rattle.migration_program.specs.JournalWords.Journals.{opens, state_at}
 use Rattle.migration_program.specs.Programs.{IsGiven, given}
 use Rattle.migration_program.specs.Tools.{Course, Migrating, SettingUp, Work, moment}
 use Rattle.history_laws.specs.Plans.{IsSerialPlan, limits_of, scene_of}
 use Rattle.history_laws.specs.Turns.{ClientAsks, about}
 use Rattle.history_laws.proofs.PlanJournals.{plan_runs_are_scene_runs}
 use Rattle.history_laws.specs.ServerLaws.Others.{EntriesAreTurns, TurnOf, asks_exclusive}
-use Rattle.run_laws.specs.Kept.{IsKept}
-use Rattle.machine_laws.specs.Runnable.{IsRunnable}
-use Rattle.machine_laws.proofs.Journals.{IsRun, IsTogether, client_commands}
-use Rattle.sentry_laws.specs.Turning.{AskedTurn, CourseTurn, IsTurned, OtherTurn, WorkTurn, last_session, told}
-use Rattle.sentry_laws.proofs.Calling.{other_says}
-use Rattle.course_laws.specs.UnalteredLaws.Laws.{IsUnaltered}
-use Rattle.course_laws.proofs.UnalteredLaws.Asking.{AskedAs}
-use Rattle.course_laws.proofs.UnalteredLaws.Away.{IsKnownAsked, all_asked, unaltered_front}
-use Rattle.course_laws.proofs.UnalteredLaws.Runs.{unaltered_runs}
-use Rattle.follow_laws.proofs.FollowTurns.Asked.{asked_as}
-use Rattle.follow_laws.proofs.FollowTurns.Follows.{kept_front, kept_run}
-use Rattle.follow_laws.proofs.HoldLaws.Seats.{kept_differs}
+use Rattle.history_laws.specs.RunLaws.Kept.{IsKept}
+use Rattle.history_laws.specs.MachineLaws.Runnable.{IsRunnable}
+use Rattle.history_laws.proofs.MachineLaws.Journals.{IsRun, IsTogether, client_commands}
+use Rattle.history_laws.specs.SentryLaws.Turning.{AskedTurn, CourseTurn, IsTurned, OtherTurn, WorkTurn, last_session, told}
+use Rattle.history_laws.proofs.SentryLaws.Calling.{other_says}
+use Rattle.revert_laws.specs.CourseLaws.UnalteredLaws.Laws.{IsUnaltered}
+use Rattle.revert_laws.proofs.CourseLaws.UnalteredLaws.Asking.{AskedAs}
+use Rattle.revert_laws.proofs.CourseLaws.UnalteredLaws.Away.{IsKnownAsked, all_asked, unaltered_front}
+use Rattle.revert_laws.proofs.CourseLaws.UnalteredLaws.Runs.{unaltered_runs}
+use Rattle.revert_laws.proofs.FollowLaws.FollowTurns.Asked.{asked_as}
+use Rattle.revert_laws.proofs.FollowLaws.FollowTurns.Follows.{kept_front, kept_run}
+use Rattle.revert_laws.proofs.FollowLaws.HoldLaws.Seats.{kept_differs}
 use Rattle.revert_laws.specs.RenameLaws.Laws.{ClientsAreTurned, OperatorsAreTurned}
 use Rattle.revert_laws.proofs.RenameLaws.Commands.{command_turned}
 

@@ -10,14 +10,14 @@ use Rattle.plain_server.specs.declared.entry.Asked.{Asked}
 use Rattle.plain_server.specs.declared.entry.Asked.TheVariants.{Call, Poll, Command, Cut}
 use Rattle.plain_server.specs.declared.entry.Entry.{Entry}
 use Rattle.plan_words.specs.PlanData.{PlanData}
-use Rattle.journal_words.specs.Journals.{opens_if, state_at}
+use Rattle.migration_program.specs.JournalWords.Journals.{opens_if, state_at}
 use Rattle.migration_program.specs.Tools.{Course, Migrating, SettingUp, Work, moment}
-use Rattle.run_laws.specs.Kept.{IsKept}
-use Rattle.run_laws.proofs.Living.{never_lost}
-use Rattle.machine_laws.proofs.Journals.{IsRun, IsTogether, all_together}
-use Rattle.machine_laws.proofs.Seated.{state_more}
-use Rattle.sentry_laws.specs.Turning.{AskedTurn, CourseTurn, IsTurned, last_session}
-use Rattle.follow_laws.proofs.FollowTurns.Follows.{kept_front, kept_run}
+use Rattle.history_laws.specs.RunLaws.Kept.{IsKept}
+use Rattle.history_laws.proofs.RunLaws.Living.{never_lost}
+use Rattle.history_laws.proofs.MachineLaws.Journals.{IsRun, IsTogether, all_together}
+use Rattle.history_laws.proofs.MachineLaws.Seated.{state_more}
+use Rattle.history_laws.specs.SentryLaws.Turning.{AskedTurn, CourseTurn, IsTurned, last_session}
+use Rattle.revert_laws.proofs.FollowLaws.FollowTurns.Follows.{kept_front, kept_run}
 
 stays : (side : Option Side) (asked : Asked) (tool : Bool) (session : ℕ) (state : State) → side ≡ None → is_command asked ≡ true → leaves side (opens_if (is_command asked) tool session state) session asked ≡ state
 unfolding opens_if

@@ -22,14 +22,14 @@ use Rattle.plain_server.specs.declared.request.Request.{Request}
 use Rattle.plain_server.specs.declared.request.Request.TheVariants as requests
 use Rattle.plain_server.specs.declared.session.Waiting.{Waiting}
 use Rattle.plan_words.specs.PlanData.{PlanData}
-use Rattle.cutover_core.specs.Attempts.{exchange}
-use Rattle.event_applier.specs.Appliers as appliers
-use Rattle.event_applier.specs.Appliers.{events_of}
-use Rattle.event_applier.specs.declared.applier.ApplyStep.{ApplyStep}
-use Rattle.event_applier.specs.declared.applier.ApplyStep.TheVariants.{Reading, Beginning, Applying, Committing}
-use Rattle.journal_words.specs.Histories as histories
-use Rattle.journal_words.specs.Histories.{adds, alters, asked_about, is_alter, request_waiting, told_in}
-use Rattle.journal_words.specs.Journals.{opens, state_at}
+use Rattle.migration_program.specs.CutoverCore.Attempts.{exchange}
+use Rattle.migration_program.specs.EventApplier.Appliers as appliers
+use Rattle.migration_program.specs.EventApplier.Appliers.{events_of}
+use Rattle.migration_program.specs.declared.event_applier.applier.ApplyStep.{ApplyStep}
+use Rattle.migration_program.specs.declared.event_applier.applier.ApplyStep.TheVariants.{Reading, Beginning, Applying, Committing}
+use Rattle.migration_program.specs.JournalWords.Histories as histories
+use Rattle.migration_program.specs.JournalWords.Histories.{adds, alters, asked_about, is_alter, request_waiting, told_in}
+use Rattle.migration_program.specs.JournalWords.Journals.{opens, state_at}
 use Rattle.migration_program.specs.Programs.{Follows, IsFollowed, IsGiven, given, tool_call}
 use Rattle.migration_program.specs.Tools.{Course, Migrating, SettingUp, Work, is_reverting, moment}
 use Rattle.history_laws.specs.Plans.{IsSerialPlan, limits_of, scene_of}
@@ -39,30 +39,30 @@ use Rattle.history_laws.proofs.Journals.{opened_waits}
 use Rattle.history_laws.proofs.PlanJournals.{plan_runs_are_scene_runs}
 use Rattle.history_laws.proofs.Moves.{renamed_ok}
 use Rattle.history_laws.specs.ServerLaws.Others.{DefinitionsAreDone, ExclusiveIsAlone, WasDone}
-use Rattle.ghost_laws.specs.Leaving.{deed_answer, where_done}
-use Rattle.ghost_laws.proofs.Undone.{deeds_answer}
-use Rattle.migration_laws.proofs.CopyLaws.Served.{Deeded, deeded}
-use Rattle.migration_laws.proofs.CopyLaws.Served.Deeded.{outside_so, within_so}
-use Rattle.run_laws.specs.Kept.{IsKept}
+use Rattle.history_laws.specs.GhostLaws.Leaving.{deed_answer, where_done}
+use Rattle.history_laws.proofs.GhostLaws.Undone.{deeds_answer}
+use Rattle.revert_laws.proofs.MigrationLaws.CopyLaws.Served.{Deeded, deeded}
+use Rattle.revert_laws.proofs.MigrationLaws.CopyLaws.Served.Deeded.{outside_so, within_so}
+use Rattle.history_laws.specs.RunLaws.Kept.{IsKept}
 use Rattle.actor_seats.proofs.Alters.{of_client}
-use Rattle.machine_laws.specs.Machines.{CourseStands, SetupStands}
-use Rattle.machine_laws.specs.Runnable.{IsRunnable}
-use Rattle.machine_laws.specs.Standings.{Standing, free, standing_of}
-use Rattle.machine_laws.proofs.Journals.{Asking, IsRun, IsTogether, asking, calls_so, polls_so}
-use Rattle.machine_laws.proofs.Seated.{IsServed, own_waiting}
-use Rattle.sentry_laws.specs.Turning.{IsGuarded, IsRenamed, IsTurned, IsWhole, WaitsSay}
-use Rattle.sentry_laws.proofs.Agreeing.{renames_follow}
-use Rattle.sentry_laws.proofs.Inductions.{all_guarded}
-use Rattle.sentry_laws.proofs.Serving.{exchanged, is_renamed}
-use Rattle.course_laws.specs.UnalteredLaws.Laws.{IsUnaltered}
-use Rattle.course_laws.proofs.UnalteredLaws.Away.{IsKnownAsked, about_asked, all_asked, tool_adds, unaltered_front}
-use Rattle.course_laws.proofs.UnalteredLaws.Runs.{unaltered_runs}
-use Rattle.follow_laws.specs.FollowTurns.Laws.{IsMark}
-use Rattle.follow_laws.proofs.FollowTurns.Follows.{kept_front, kept_run}
-use Rattle.course_laws.specs.WaitsLaws.Laws.{WaitsAreTold}
-use Rattle.follow_laws.specs.LockerTurns.Laws.{LockersAreTurned, RenamersAreTurned}
-use Rattle.follow_laws.specs.InspectorTurns.Laws.{InspectorsAreTurned}
-use Rattle.follow_laws.specs.BatchTurns.Laws.{AppliersAreTurned, CopiersAreTurned}
+use Rattle.history_laws.specs.MachineLaws.Machines.{CourseStands, SetupStands}
+use Rattle.history_laws.specs.MachineLaws.Runnable.{IsRunnable}
+use Rattle.history_laws.specs.MachineLaws.Standings.{Standing, free, standing_of}
+use Rattle.history_laws.proofs.MachineLaws.Journals.{Asking, IsRun, IsTogether, asking, calls_so, polls_so}
+use Rattle.history_laws.proofs.MachineLaws.Seated.{IsServed, own_waiting}
+use Rattle.history_laws.specs.SentryLaws.Turning.{IsGuarded, IsRenamed, IsTurned, IsWhole, WaitsSay}
+use Rattle.history_laws.proofs.SentryLaws.Agreeing.{renames_follow}
+use Rattle.history_laws.proofs.SentryLaws.Inductions.{all_guarded}
+use Rattle.history_laws.proofs.SentryLaws.Serving.{exchanged, is_renamed}
+use Rattle.revert_laws.specs.CourseLaws.UnalteredLaws.Laws.{IsUnaltered}
+use Rattle.revert_laws.proofs.CourseLaws.UnalteredLaws.Away.{IsKnownAsked, about_asked, all_asked, tool_adds, unaltered_front}
+use Rattle.revert_laws.proofs.CourseLaws.UnalteredLaws.Runs.{unaltered_runs}
+use Rattle.revert_laws.specs.FollowLaws.FollowTurns.Laws.{IsMark}
+use Rattle.revert_laws.proofs.FollowLaws.FollowTurns.Follows.{kept_front, kept_run}
+use Rattle.revert_laws.specs.CourseLaws.WaitsLaws.Laws.{WaitsAreTold}
+use Rattle.revert_laws.specs.FollowLaws.LockerTurns.Laws.{LockersAreTurned, RenamersAreTurned}
+use Rattle.revert_laws.specs.FollowLaws.InspectorTurns.Laws.{InspectorsAreTurned}
+use Rattle.revert_laws.specs.FollowLaws.BatchTurns.Laws.{AppliersAreTurned, CopiersAreTurned}
 use Rattle.revert_laws.specs.RenameLaws.Laws.{ClientsAreTurned, IsRename, JournalsAreTurned, OperatorsAreTurned, RenamesComeAtTheMark}
 
 -- an applier that may read next is reading

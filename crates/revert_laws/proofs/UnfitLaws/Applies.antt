@@ -2,9 +2,9 @@
 use Rattle.std.proofs.Common.{◌≡◌, ◌<◌, ℕ, ◌==◌, Bool, true, false, cond, List, [], ◌∷◌, ◌++◌, length, Option, Some, refl, sym, ap, ◌∙◌, subst}
 use Rattle.std.specs.List.{slice_get}
 use Rattle.std.specs.Option.{option_map}
-use Rattle.gho_schema.specs.declared.schema.Column.{Column}
-use Rattle.schema_rules.proofs.Lists.{All-at}
-use Rattle.alter_image.specs.declared.map.MapColumn.{MapColumn}
+use Rattle.gho_values.specs.declared.gho_schema.schema.Column.{Column}
+use Rattle.gho_values.proofs.SchemaRules.Lists.{All-at}
+use Rattle.gho_values.specs.declared.alter_image.map.MapColumn.{MapColumn}
 use Rattle.row_store.specs.Databases.{TableRows}
 use Rattle.script_text.specs.declared.actor.Actor.{Actor}
 use Rattle.script_text.specs.declared.actor.Actor.TheVariants.{Apply}
@@ -19,42 +19,42 @@ use Rattle.plain_server.specs.declared.request.Request.TheVariants as requests
 use Rattle.plain_server.specs.Entries.{answer_at}
 use Rattle.plain_server.specs.Reading.{events_in}
 use Rattle.plan_words.specs.PlanData.{PlanData, new_map}
-use Rattle.journal_words.specs.Journals.{state_at}
-use Rattle.journal_words.specs.Sessions.{live_session}
-use Rattle.event_applier.specs.declared.applier.Applier.{Applier}
-use Rattle.event_applier.specs.declared.applier.ApplyStep.{ApplyStep}
-use Rattle.event_applier.specs.declared.applier.ApplyStep.TheVariants.{Reading, Beginning, Applying, Committing}
-use Rattle.event_applier.specs.declared.applier.Batch.{Batch}
-use Rattle.event_applier.specs.declared.applier.Part.{Part}
-use Rattle.event_applier.specs.declared.applier.Part.TheVariants.{Whole, Removal, Return}
-use Rattle.event_applier.specs.Appliers.{Doing, call_at, doing_at, doing_in, in_part, nothing_planned, progress_at, row_done, says}
-use Rattle.event_applier.specs.Appliers.Doing.{Putting, Removing, Changing}
-use Rattle.event_applier.specs.Appliers as appliers
+use Rattle.migration_program.specs.JournalWords.Journals.{state_at}
+use Rattle.migration_program.specs.JournalWords.Sessions.{live_session}
+use Rattle.migration_program.specs.declared.event_applier.applier.Applier.{Applier}
+use Rattle.migration_program.specs.declared.event_applier.applier.ApplyStep.{ApplyStep}
+use Rattle.migration_program.specs.declared.event_applier.applier.ApplyStep.TheVariants.{Reading, Beginning, Applying, Committing}
+use Rattle.migration_program.specs.declared.event_applier.applier.Batch.{Batch}
+use Rattle.migration_program.specs.declared.event_applier.applier.Part.{Part}
+use Rattle.migration_program.specs.declared.event_applier.applier.Part.TheVariants.{Whole, Removal, Return}
+use Rattle.migration_program.specs.EventApplier.Appliers.{Doing, call_at, doing_at, doing_in, in_part, nothing_planned, progress_at, row_done, says}
+use Rattle.migration_program.specs.EventApplier.Appliers.Doing.{Putting, Removing, Changing}
+use Rattle.migration_program.specs.EventApplier.Appliers as appliers
 use Rattle.migration_program.specs.Failures.{applied_row, concerned}
 use Rattle.migration_program.specs.Programs.{apply_call, given, rolls_back, tool_call}
 use Rattle.migration_program.specs.Tools.{Course, Migrating, Work, is_reverting, moment}
 use Rattle.migration_program.proofs.ProgramLaws.Machines.{CourseIsNamed, IsNamed, named}
 use Rattle.history_laws.specs.Plans.{limits_of, scene_of}
-use Rattle.ghost_laws.specs.GhostRows.Moments.{Row}
-use Rattle.ghost_laws.specs.GhostRows.Timelines.{Migration}
-use Rattle.ghost_laws.specs.Doings.{planned}
-use Rattle.ghost_laws.specs.Holding.{Clustered}
-use Rattle.ghost_laws.specs.Reading.{own_changes}
-use Rattle.ghost_laws.proofs.Running.{any_kept}
-use Rattle.migration_laws.specs.ApplyLaws.Applying.{IsBatchTold, StepKnows}
-use Rattle.migration_laws.proofs.ApplyLaws.Knowing.{next_at, same_told}
-use Rattle.migration_laws.proofs.ApplyLaws.Planning.{DoesRows, NextDoing, next_doing, planned_alike, planned_rows}
-use Rattle.migration_laws.proofs.ApplyLaws.Statements.{said, said_is}
-use Rattle.run_laws.specs.Kept.{IsKept}
-use Rattle.machine_laws.specs.Standings.{IsAbout, Standing, is_called, is_polled, standing_of}
-use Rattle.machine_laws.specs.Tabling.{schema_of}
-use Rattle.machine_laws.proofs.Journals.{Asking, apply_called, asking, calls_so, polls_so}
-use Rattle.migration_laws.specs.Machines.{MigrationStands}
-use Rattle.course_laws.proofs.CourseTurns.{gives_asked}
-use Rattle.course_laws.proofs.Hearing.{own_answer, opened_tables}
-use Rattle.follow_laws.specs.FollowTurns.Goes.{Goes, machines_in}
-use Rattle.follow_laws.specs.FollowTurns.Laws.{IsMigrationOf}
-use Rattle.follow_laws.proofs.FollowTurns.Seats.{SomeSeats, some_seats}
+use Rattle.history_laws.specs.GhostLaws.GhostRows.Moments.{Row}
+use Rattle.history_laws.specs.GhostLaws.GhostRows.Timelines.{Migration}
+use Rattle.history_laws.specs.GhostLaws.Doings.{planned}
+use Rattle.history_laws.specs.GhostLaws.Holding.{Clustered}
+use Rattle.history_laws.specs.GhostLaws.Reading.{own_changes}
+use Rattle.history_laws.proofs.GhostLaws.Running.{any_kept}
+use Rattle.revert_laws.specs.MigrationLaws.ApplyLaws.Applying.{IsBatchTold, StepKnows}
+use Rattle.revert_laws.proofs.MigrationLaws.ApplyLaws.Knowing.{next_at, same_told}
+use Rattle.revert_laws.proofs.MigrationLaws.ApplyLaws.Planning.{DoesRows, NextDoing, next_doing, planned_alike, planned_rows}
+use Rattle.revert_laws.proofs.MigrationLaws.ApplyLaws.Statements.{said, said_is}
+use Rattle.history_laws.specs.RunLaws.Kept.{IsKept}
+use Rattle.history_laws.specs.MachineLaws.Standings.{IsAbout, Standing, is_called, is_polled, standing_of}
+use Rattle.history_laws.specs.MachineLaws.Tabling.{schema_of}
+use Rattle.history_laws.proofs.MachineLaws.Journals.{Asking, apply_called, asking, calls_so, polls_so}
+use Rattle.revert_laws.specs.MigrationLaws.Machines.{MigrationStands}
+use Rattle.revert_laws.proofs.CourseLaws.CourseTurns.{gives_asked}
+use Rattle.revert_laws.proofs.CourseLaws.Hearing.{own_answer, opened_tables}
+use Rattle.revert_laws.specs.FollowLaws.FollowTurns.Goes.{Goes, machines_in}
+use Rattle.revert_laws.specs.FollowLaws.FollowTurns.Laws.{IsMigrationOf}
+use Rattle.revert_laws.proofs.FollowLaws.FollowTurns.Seats.{SomeSeats, some_seats}
 use Rattle.revert_laws.proofs.UnfitLaws.Known.{IsKnownTurn, known_turn}
 use Rattle.revert_laws.proofs.UnfitLaws.Refusals.{HasNoImage, RowFits, done_fits}
 

@@ -8,10 +8,10 @@ use Rattle.gho_values.specs.Storing.{error_number}
 use Rattle.gho_values.specs.declared.fault.Unfit.{Unfit as Fault}
 use Rattle.gho_values.specs.declared.value.Value.{Value}
 use Rattle.gho_values.proofs.Orders.{tied_keys}
-use Rattle.gho_schema.specs.Rows.{key_of, key_places}
-use Rattle.gho_schema.specs.declared.schema.Schema.{Schema}
-use Rattle.alter_image.specs.Images.{image}
-use Rattle.alter_image.specs.declared.map.MapColumn.{MapColumn}
+use Rattle.gho_values.specs.GhoSchema.Rows.{key_of, key_places}
+use Rattle.gho_values.specs.declared.gho_schema.schema.Schema.{Schema}
+use Rattle.gho_values.specs.AlterImage.Images.{image}
+use Rattle.gho_values.specs.declared.alter_image.map.MapColumn.{MapColumn}
 use Rattle.row_store.specs.Databases.{TableRows, Database, find_table}
 use Rattle.row_store.specs.RowLists.{is_at}
 use Rattle.row_store.proofs.Orders.{is_Equal}
@@ -30,13 +30,13 @@ use Rattle.plain_server.specs.Jobs.{after_events}
 use Rattle.plain_server.specs.States.{State, session_of, view, writes_of}
 use Rattle.plan_words.specs.PlanData.{PlanData, new_map, old_schema}
 use Rattle.changelog_table.specs.ToolNames.{ghost_name}
-use Rattle.journal_words.specs.Journals.{opens, state_at}
-use Rattle.journal_words.specs.Sessions.{live_session}
-use Rattle.chunk_copier.specs.Copiers as copiers
-use Rattle.chunk_copier.specs.Copiers.{call_at, copies, key_at, progress_at, resized}
-use Rattle.chunk_copier.specs.declared.copier.Chunk.{Chunk}
-use Rattle.chunk_copier.specs.declared.copier.CopyStep.{CopyStep}
-use Rattle.chunk_copier.specs.declared.copier.CopyStep.TheVariants.{Choosing, Spanning, Copying, Committing}
+use Rattle.migration_program.specs.JournalWords.Journals.{opens, state_at}
+use Rattle.migration_program.specs.JournalWords.Sessions.{live_session}
+use Rattle.migration_program.specs.ChunkCopier.Copiers as copiers
+use Rattle.migration_program.specs.ChunkCopier.Copiers.{call_at, copies, key_at, progress_at, resized}
+use Rattle.migration_program.specs.declared.chunk_copier.copier.Chunk.{Chunk}
+use Rattle.migration_program.specs.declared.chunk_copier.copier.CopyStep.{CopyStep}
+use Rattle.migration_program.specs.declared.chunk_copier.copier.CopyStep.TheVariants.{Choosing, Spanning, Copying, Committing}
 use Rattle.migration_program.specs.Failures.{row_in}
 use Rattle.migration_program.specs.Operators.{is_throttled}
 use Rattle.migration_program.specs.Programs.{copy_call, given, rolls_back, tool_call}
@@ -47,27 +47,27 @@ use Rattle.history_laws.specs.Holdings.{Face, face_of}
 use Rattle.history_laws.specs.Scenes.{SessionHold}
 use Rattle.history_laws.proofs.Actors.{Placed, placed}
 use Rattle.history_laws.proofs.Faces.{faces_opened, writes_face}
-use Rattle.ghost_laws.specs.GhostRows.Moments.{Row}
-use Rattle.ghost_laws.specs.GhostRows.Timelines.{Migration}
-use Rattle.ghost_laws.specs.Holding.{Clustered}
-use Rattle.ghost_laws.specs.Invariant.{NotOf}
-use Rattle.ghost_laws.proofs.Keeping.{found_besides}
-use Rattle.ghost_laws.proofs.Running.{any_kept}
-use Rattle.migration_laws.proofs.CopyLaws.Knowing.{Asks, asks_at}
-use Rattle.migration_laws.proofs.CopyLaws.Rows.{after_none, not_of}
-use Rattle.run_laws.specs.Kept.{IsKept}
-use Rattle.machine_laws.specs.Machines.{CourseStands, Stands, WorkStands, copier_asks, copier_busy}
-use Rattle.machine_laws.specs.Standings.{IsAbout, MayTake, Standing, is_called, is_polled, standing_of}
-use Rattle.machine_laws.specs.Tabling.{CourseTables, TablesStand, schema_of}
-use Rattle.machine_laws.proofs.Asking.{unless_called}
-use Rattle.machine_laws.proofs.Journals.{Asking, asking, calls_so, polls_so}
-use Rattle.migration_laws.specs.Machines.{MigrationStands}
-use Rattle.course_laws.proofs.CopyAnswers.{CopyFits, UnfitRow, own_copy}
-use Rattle.course_laws.proofs.CourseTurns.{gives_asked}
-use Rattle.course_laws.proofs.Hearing.{opened_tables}
-use Rattle.follow_laws.specs.FollowTurns.Goes.{CopyWaits, Goes, machines_in}
-use Rattle.follow_laws.specs.FollowTurns.Laws.{IsMigrationOf}
-use Rattle.follow_laws.proofs.FollowTurns.Seats.{SomeSeats, new_holds, seat_own, some_seats}
+use Rattle.history_laws.specs.GhostLaws.GhostRows.Moments.{Row}
+use Rattle.history_laws.specs.GhostLaws.GhostRows.Timelines.{Migration}
+use Rattle.history_laws.specs.GhostLaws.Holding.{Clustered}
+use Rattle.history_laws.specs.GhostLaws.Invariant.{NotOf}
+use Rattle.history_laws.proofs.GhostLaws.Keeping.{found_besides}
+use Rattle.history_laws.proofs.GhostLaws.Running.{any_kept}
+use Rattle.revert_laws.proofs.MigrationLaws.CopyLaws.Knowing.{Asks, asks_at}
+use Rattle.revert_laws.proofs.MigrationLaws.CopyLaws.Rows.{after_none, not_of}
+use Rattle.history_laws.specs.RunLaws.Kept.{IsKept}
+use Rattle.history_laws.specs.MachineLaws.Machines.{CourseStands, Stands, WorkStands, copier_asks, copier_busy}
+use Rattle.history_laws.specs.MachineLaws.Standings.{IsAbout, MayTake, Standing, is_called, is_polled, standing_of}
+use Rattle.history_laws.specs.MachineLaws.Tabling.{CourseTables, TablesStand, schema_of}
+use Rattle.history_laws.proofs.MachineLaws.Asking.{unless_called}
+use Rattle.history_laws.proofs.MachineLaws.Journals.{Asking, asking, calls_so, polls_so}
+use Rattle.revert_laws.specs.MigrationLaws.Machines.{MigrationStands}
+use Rattle.revert_laws.proofs.CourseLaws.CopyAnswers.{CopyFits, UnfitRow, own_copy}
+use Rattle.revert_laws.proofs.CourseLaws.CourseTurns.{gives_asked}
+use Rattle.revert_laws.proofs.CourseLaws.Hearing.{opened_tables}
+use Rattle.revert_laws.specs.FollowLaws.FollowTurns.Goes.{CopyWaits, Goes, machines_in}
+use Rattle.revert_laws.specs.FollowLaws.FollowTurns.Laws.{IsMigrationOf}
+use Rattle.revert_laws.proofs.FollowLaws.FollowTurns.Seats.{SomeSeats, new_holds, seat_own, some_seats}
 use Rattle.revert_laws.proofs.UnfitLaws.Known.{IsKnownTurn, known_turn}
 
 -- THE ANSWER

@@ -17,24 +17,24 @@ use Rattle.plain_server.specs.declared.outcome.Task.{Task}
 use Rattle.plain_server.specs.declared.outcome.Task.TheVariants as tasks
 use Rattle.plain_server.specs.States.{has_work}
 use Rattle.plan_words.specs.PlanData.{PlanData}
-use Rattle.chunk_copier.specs.Copiers as copiers
-use Rattle.chunk_copier.specs.declared.copier.Copier.{Copier}
-use Rattle.chunk_copier.specs.declared.copier.CopyStep.{CopyStep}
-use Rattle.chunk_copier.specs.declared.copier.CopyStep.TheVariants.{Choosing, Spanning, Copying, Committing}
-use Rattle.event_applier.specs.Appliers as appliers
-use Rattle.event_applier.specs.declared.applier.Applier.{Applier}
-use Rattle.event_applier.specs.declared.applier.ApplyStep.{ApplyStep}
-use Rattle.event_applier.specs.declared.applier.ApplyStep.TheVariants as applying
-use Rattle.cutover_core.specs.CutOvers as cutovers
-use Rattle.cutover_core.specs.CutOvers.{is_bad}
-use Rattle.cutover_core.specs.declared.cutover.CutOver.{CutOver}
-use Rattle.cutover_core.specs.declared.cutover.Role.{Role}
-use Rattle.cutover_core.specs.declared.cutover.Role.TheVariants.{Inspector, Locker, Renamer}
+use Rattle.migration_program.specs.ChunkCopier.Copiers as copiers
+use Rattle.migration_program.specs.declared.chunk_copier.copier.Copier.{Copier}
+use Rattle.migration_program.specs.declared.chunk_copier.copier.CopyStep.{CopyStep}
+use Rattle.migration_program.specs.declared.chunk_copier.copier.CopyStep.TheVariants.{Choosing, Spanning, Copying, Committing}
+use Rattle.migration_program.specs.EventApplier.Appliers as appliers
+use Rattle.migration_program.specs.declared.event_applier.applier.Applier.{Applier}
+use Rattle.migration_program.specs.declared.event_applier.applier.ApplyStep.{ApplyStep}
+use Rattle.migration_program.specs.declared.event_applier.applier.ApplyStep.TheVariants as applying
+use Rattle.migration_program.specs.CutoverCore.CutOvers as cutovers
+use Rattle.migration_program.specs.CutoverCore.CutOvers.{is_bad}
+use Rattle.migration_program.specs.declared.cutover_core.cutover.CutOver.{CutOver}
+use Rattle.migration_program.specs.declared.cutover_core.cutover.Role.{Role}
+use Rattle.migration_program.specs.declared.cutover_core.cutover.Role.TheVariants.{Inspector, Locker, Renamer}
 use Rattle.migration_program.specs.Operators.{commanded}
 use Rattle.migration_program.specs.Setups.{Setup, Listing, setup_after}
 use Rattle.migration_program.specs.Tools.{Work, Course, SettingUp, Migrating, Reason, CopyUnfit, ApplyUnfit, Spent, Panicked, Tool, Moment, first_reason, stopped, is_renamed, reverts, spends, is_reverting, working, copy_after, copy_took, apply_after, apply_took, attempt_after, is_failure, cutover_took, drains, course_of, setup_took, actor_took, turn_counts, resizes, panics, command_took, asked_took, took, moment}
-use Rattle.machine_laws.proofs.Journals.{IsRun, IsTogether, together_more, together_begins}
-use Rattle.sentry_laws.proofs.Inductions.{moment_more}
+use Rattle.history_laws.proofs.MachineLaws.Journals.{IsRun, IsTogether, together_more, together_begins}
+use Rattle.history_laws.proofs.SentryLaws.Inductions.{moment_more}
 
 -- what stays of the tool's work once all is reverted
 pub record Stood : Type 0 where

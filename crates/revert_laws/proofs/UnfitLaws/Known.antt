@@ -2,12 +2,12 @@
 use Rattle.std.proofs.Common.{List, [], ◌∷◌, ◌++◌}
 use Rattle.plain_server.specs.declared.entry.Entry.{Entry}
 use Rattle.plan_words.specs.PlanData.{PlanData}
-use Rattle.run_laws.specs.Kept.{IsKept}
-use Rattle.machine_laws.specs.Runnable.{IsRunnable}
-use Rattle.machine_laws.proofs.Journals.{IsRun, IsTogether}
-use Rattle.machine_laws.proofs.Seated.{IsServed}
-use Rattle.course_laws.proofs.UnalteredLaws.Away.{IsKnownAsked, all_asked}
-use Rattle.follow_laws.proofs.FollowTurns.Follows.{kept_front, kept_run}
+use Rattle.history_laws.specs.RunLaws.Kept.{IsKept}
+use Rattle.history_laws.specs.MachineLaws.Runnable.{IsRunnable}
+use Rattle.history_laws.proofs.MachineLaws.Journals.{IsRun, IsTogether}
+use Rattle.history_laws.proofs.MachineLaws.Seated.{IsServed}
+use Rattle.revert_laws.proofs.CourseLaws.UnalteredLaws.Away.{IsKnownAsked, all_asked}
+use Rattle.revert_laws.proofs.FollowLaws.FollowTurns.Follows.{kept_front, kept_run}
 
 pub record IsKnownTurn (plan : PlanData) (journal : List Entry) (entry : Entry) : Type 0 where
   pub known : IsKnownAsked plan journal

@@ -4,12 +4,12 @@ use Rattle.std.specs.Option.{option_map}
 use Rattle.gho_values.specs.Storing.{error_number}
 use Rattle.gho_values.specs.declared.fault.Unfit.{Unfit as Fault}
 use Rattle.gho_values.specs.declared.value.Value.{Value}
-use Rattle.gho_schema.specs.declared.schema.Schema.{Schema}
-use Rattle.gho_schema.specs.Rows.{key_of, key_places}
-use Rattle.gho_schema.specs.Tables.{IsRow}
-use Rattle.alter_image.specs.declared.image_fault.UnfitAt.{UnfitAt}
-use Rattle.alter_image.specs.declared.map.MapColumn.{MapColumn}
-use Rattle.alter_image.specs.Images.{image}
+use Rattle.gho_values.specs.declared.gho_schema.schema.Schema.{Schema}
+use Rattle.gho_values.specs.GhoSchema.Rows.{key_of, key_places}
+use Rattle.gho_values.specs.GhoSchema.Tables.{IsRow}
+use Rattle.gho_values.specs.declared.alter_image.image_fault.UnfitAt.{UnfitAt}
+use Rattle.gho_values.specs.declared.alter_image.map.MapColumn.{MapColumn}
+use Rattle.gho_values.specs.AlterImage.Images.{image}
 use Rattle.event_codec.specs.declared.event.Change.{Change}
 use Rattle.event_codec.specs.declared.event.Change.TheVariants as changes
 use Rattle.row_store.specs.Databases.{TableRows, Database, find_table}
@@ -27,17 +27,17 @@ use Rattle.plain_server.specs.Rows.{change_rows, rows_met, same_row}
 use Rattle.plain_server.specs.Saying.{change_first, clashes_besides, result_or_refusal, tells, updated, updates, with_sets}
 use Rattle.plain_server.specs.Serving.{does, done}
 use Rattle.plain_server.specs.States.{State, is_in_transaction, session_of, view, writes_of}
-use Rattle.event_applier.specs.Appliers.{Doing, row_done}
-use Rattle.event_applier.specs.Appliers.Doing.{Putting, Removing, Changing}
-use Rattle.ghost_laws.specs.GhostRows.Moments.{Row}
-use Rattle.ghost_laws.specs.GhostRows.Timelines.{IsPlanned, Migration}
-use Rattle.ghost_laws.specs.Statements.{by_key, delete_at, unfit_at, update_at}
-use Rattle.migration_laws.specs.ApplyLaws.Finding.{FindsRows}
-use Rattle.migration_laws.proofs.ApplyLaws.Keys.{new_at}
-use Rattle.migration_laws.proofs.ApplyLaws.Planning.{DoesRows}
-use Rattle.migration_laws.proofs.ApplyLaws.Statements.{change_unfit, change_unsaid, change_work, put_unfit, put_work, remove_unsaid, remove_work, said, said_of}
-use Rattle.machine_laws.specs.Tabling.{schema_of}
-use Rattle.machine_laws.proofs.Schemas.{schema_events}
+use Rattle.migration_program.specs.EventApplier.Appliers.{Doing, row_done}
+use Rattle.migration_program.specs.EventApplier.Appliers.Doing.{Putting, Removing, Changing}
+use Rattle.history_laws.specs.GhostLaws.GhostRows.Moments.{Row}
+use Rattle.history_laws.specs.GhostLaws.GhostRows.Timelines.{IsPlanned, Migration}
+use Rattle.history_laws.specs.GhostLaws.Statements.{by_key, delete_at, unfit_at, update_at}
+use Rattle.revert_laws.specs.MigrationLaws.ApplyLaws.Finding.{FindsRows}
+use Rattle.revert_laws.proofs.MigrationLaws.ApplyLaws.Keys.{new_at}
+use Rattle.revert_laws.proofs.MigrationLaws.ApplyLaws.Planning.{DoesRows}
+use Rattle.revert_laws.proofs.MigrationLaws.ApplyLaws.Statements.{change_unfit, change_unsaid, change_work, put_unfit, put_work, remove_unsaid, remove_work, said, said_of}
+use Rattle.history_laws.specs.MachineLaws.Tabling.{schema_of}
+use Rattle.history_laws.proofs.MachineLaws.Schemas.{schema_events}
 
 -- the row has no image at this place, with this number
 pub record HasNoImage (columns : List MapColumn) (row : Row) (place number : ℕ) : Type 0 where

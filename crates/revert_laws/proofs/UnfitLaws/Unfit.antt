@@ -5,7 +5,7 @@ use Rattle.std.specs.List.{list_any, slice_get}
 use Rattle.std.proofs.Math.Seq.{take-append_seam}
 use Rattle.gho_values.specs.Laws.{StoresAgain}
 use Rattle.gho_values.specs.declared.value.Value.{Value}
-use Rattle.gho_schema.specs.Rows.{key_of, key_places}
+use Rattle.gho_values.specs.GhoSchema.Rows.{key_of, key_places}
 use Rattle.row_store.specs.Databases.{find_table}
 use Rattle.script_text.specs.declared.actor.Actor.{Actor}
 use Rattle.script_text.specs.declared.actor.Actor.TheVariants.{Copy, Apply}
@@ -20,35 +20,35 @@ use Rattle.plain_server.specs.Entries.{answer_at}
 use Rattle.plain_server.specs.Reading.{keys_in}
 use Rattle.plain_server.specs.States.{State}
 use Rattle.plan_words.specs.PlanData.{PlanData, new_map, old_schema}
-use Rattle.journal_words.specs.Histories.{history, is_alter}
-use Rattle.journal_words.specs.Journals.{state_at}
-use Rattle.journal_words.proofs.Answers.{answer_more}
-use Rattle.chunk_copier.specs.Copiers as copiers
-use Rattle.chunk_copier.specs.Copiers.{key_at}
-use Rattle.chunk_copier.specs.declared.copier.CopyStep.{CopyStep}
-use Rattle.chunk_copier.specs.declared.copier.CopyStep.TheVariants.{Choosing, Spanning, Copying, Committing}
-use Rattle.event_applier.specs.Appliers as appliers
-use Rattle.event_applier.specs.Appliers.{Doing, doing_at, row_done, unfit_key}
+use Rattle.migration_program.specs.JournalWords.Histories.{history, is_alter}
+use Rattle.migration_program.specs.JournalWords.Journals.{state_at}
+use Rattle.migration_program.proofs.JournalWords.Answers.{answer_more}
+use Rattle.migration_program.specs.ChunkCopier.Copiers as copiers
+use Rattle.migration_program.specs.ChunkCopier.Copiers.{key_at}
+use Rattle.migration_program.specs.declared.chunk_copier.copier.CopyStep.{CopyStep}
+use Rattle.migration_program.specs.declared.chunk_copier.copier.CopyStep.TheVariants.{Choosing, Spanning, Copying, Committing}
+use Rattle.migration_program.specs.EventApplier.Appliers as appliers
+use Rattle.migration_program.specs.EventApplier.Appliers.{Doing, doing_at, row_done, unfit_key}
 use Rattle.migration_program.specs.Failures.{IsUnfit, Stands, concerned, row_in}
 use Rattle.migration_program.specs.Programs.{Follows}
 use Rattle.migration_program.specs.Tools.{Course, SettingUp, Migrating, Reason, CopyUnfit, ApplyUnfit, Spent, Panicked, Work, is_reverting, moment}
 use Rattle.migration_program.specs.Verdicts.{apply_key, cause_of, column_at, copy_key, ended_so, has_ended, reverted_by, verdict_of}
-use Rattle.ghost_laws.specs.GhostRows.Moments.{Row}
-use Rattle.ghost_laws.specs.GhostRows.Timelines.{Migration}
-use Rattle.ghost_laws.specs.Holding.{Clustered}
-use Rattle.ghost_laws.proofs.Keys.{clustered}
-use Rattle.migration_laws.specs.PlanningLaws.Laws.{migration_of}
-use Rattle.run_laws.specs.Kept.{IsKept}
-use Rattle.course_laws.specs.RunnableLaws.Laws.{AlterablePlansAreRunnable}
-use Rattle.machine_laws.proofs.Journals.{all_runs}
-use Rattle.course_laws.specs.UnalteredLaws.Laws.{IsUnaltered}
-use Rattle.course_laws.proofs.UnalteredLaws.Away.{all_asked, unaltered_front}
-use Rattle.follow_laws.specs.FollowTurns.Goes.{Goes}
-use Rattle.follow_laws.specs.FollowTurns.Laws.{GoesSomehow, IsMigrationOf}
-use Rattle.follow_laws.proofs.FollowTurns.Follows.{kept_front}
-use Rattle.follow_laws.proofs.Follows.{migration, own_table}
-use Rattle.follow_laws.proofs.Starts.{followers_go}
-use Rattle.attempt_laws.proofs.VerdictLaws.Standing.{IsGround, ground}
+use Rattle.history_laws.specs.GhostLaws.GhostRows.Moments.{Row}
+use Rattle.history_laws.specs.GhostLaws.GhostRows.Timelines.{Migration}
+use Rattle.history_laws.specs.GhostLaws.Holding.{Clustered}
+use Rattle.history_laws.proofs.GhostLaws.Keys.{clustered}
+use Rattle.revert_laws.specs.MigrationLaws.PlanningLaws.Laws.{migration_of}
+use Rattle.history_laws.specs.RunLaws.Kept.{IsKept}
+use Rattle.revert_laws.specs.CourseLaws.RunnableLaws.Laws.{AlterablePlansAreRunnable}
+use Rattle.history_laws.proofs.MachineLaws.Journals.{all_runs}
+use Rattle.revert_laws.specs.CourseLaws.UnalteredLaws.Laws.{IsUnaltered}
+use Rattle.revert_laws.proofs.CourseLaws.UnalteredLaws.Away.{all_asked, unaltered_front}
+use Rattle.revert_laws.specs.FollowLaws.FollowTurns.Goes.{Goes}
+use Rattle.revert_laws.specs.FollowLaws.FollowTurns.Laws.{GoesSomehow, IsMigrationOf}
+use Rattle.revert_laws.proofs.FollowLaws.FollowTurns.Follows.{kept_front}
+use Rattle.revert_laws.proofs.FollowLaws.Follows.{migration, own_table}
+use Rattle.revert_laws.proofs.FollowLaws.Starts.{followers_go}
+use Rattle.revert_laws.proofs.AttemptLaws.VerdictLaws.Standing.{IsGround, ground}
 use Rattle.revert_laws.specs.UnfitLaws.Laws.{UnfitRowsStand}
 use Rattle.revert_laws.proofs.UnfitLaws.Applies as applies
 use Rattle.revert_laws.proofs.UnfitLaws.Copies.{IsUnfitRow, is_unfit, key, key_is, was_refused}

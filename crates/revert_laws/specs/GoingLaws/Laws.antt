@@ -6,9 +6,9 @@ use Rattle.plan_words.specs.PlanData.{PlanData}
 use Rattle.history_laws.specs.Plans.{IsSerialPlan}
 use Rattle.migration_program.specs.Orders.{actors, is_ready}
 use Rattle.migration_program.specs.Verdicts.{has_ended}
-use Rattle.run_laws.specs.Kept.{IsKept}
-use Rattle.machine_laws.specs.Runnable.{IsRunnable}
-use Rattle.course_laws.specs.ReadyLaws.Laws.{ScriptsEnd}
+use Rattle.history_laws.specs.RunLaws.Kept.{IsKept}
+use Rattle.history_laws.specs.MachineLaws.Runnable.{IsRunnable}
+use Rattle.revert_laws.specs.CourseLaws.ReadyLaws.Laws.{ScriptsEnd}
 
 -- *Someone goes*: while a run of a runnable and serial plan, whose scripts leave no transaction open, hasn't ended some actor
 -- is ready.

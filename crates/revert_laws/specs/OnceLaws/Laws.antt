@@ -4,11 +4,11 @@ use Rattle.std.specs.List.{list_any}
 use Rattle.plain_server.specs.Along.{Along}
 use Rattle.plain_server.specs.declared.entry.Entry.{Entry}
 use Rattle.plan_words.specs.PlanData.{PlanData}
-use Rattle.journal_words.specs.Histories.{entry_adds, is_alter}
+use Rattle.migration_program.specs.JournalWords.Histories.{entry_adds, is_alter}
 use Rattle.history_laws.specs.Plans.{IsSerialPlan}
-use Rattle.run_laws.specs.Kept.{IsKept}
-use Rattle.machine_laws.specs.Runnable.{IsRunnable}
-use Rattle.course_laws.specs.UnalteredLaws.Laws.{IsUnaltered}
+use Rattle.history_laws.specs.RunLaws.Kept.{IsKept}
+use Rattle.history_laws.specs.MachineLaws.Runnable.{IsRunnable}
+use Rattle.revert_laws.specs.CourseLaws.UnalteredLaws.Laws.{IsUnaltered}
 
 -- *Renames come once*: in a journal that is kept, where a turn does the RENAME of the migrated table no turn before it did.
 abbrev pub RenamesComeOnce : Type 0

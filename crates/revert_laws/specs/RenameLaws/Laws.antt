@@ -6,14 +6,14 @@ use Rattle.script_text.specs.declared.actor.Actor.TheVariants.{Op}
 use Rattle.plain_server.specs.Entries.{is_client}
 use Rattle.plain_server.specs.declared.entry.Entry.{Entry}
 use Rattle.plan_words.specs.PlanData.{PlanData}
-use Rattle.journal_words.specs.Histories.{entry_adds, is_alter}
+use Rattle.migration_program.specs.JournalWords.Histories.{entry_adds, is_alter}
 use Rattle.migration_program.specs.Tools.{is_reverting, moment}
 use Rattle.history_laws.specs.Plans.{IsSerialPlan}
-use Rattle.run_laws.specs.Kept.{IsKept}
-use Rattle.machine_laws.specs.Runnable.{IsRunnable}
-use Rattle.sentry_laws.specs.Turning.{IsTurned}
-use Rattle.course_laws.specs.UnalteredLaws.Laws.{IsUnaltered}
-use Rattle.follow_laws.specs.FollowTurns.Laws.{IsMark}
+use Rattle.history_laws.specs.RunLaws.Kept.{IsKept}
+use Rattle.history_laws.specs.MachineLaws.Runnable.{IsRunnable}
+use Rattle.history_laws.specs.SentryLaws.Turning.{IsTurned}
+use Rattle.revert_laws.specs.CourseLaws.UnalteredLaws.Laws.{IsUnaltered}
+use Rattle.revert_laws.specs.FollowLaws.FollowTurns.Laws.{IsMark}
 
 -- *Clients' turns are turned*: a client's turn leaves the cut-over what the sentry relation asks.
 abbrev pub ClientsAreTurned : Type 0

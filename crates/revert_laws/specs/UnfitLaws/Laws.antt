@@ -8,8 +8,8 @@ use Rattle.plan_words.specs.PlanData.{PlanData}
 use Rattle.migration_program.specs.Failures.{Stands}
 use Rattle.migration_program.specs.Verdicts.{verdict_of}
 use Rattle.history_laws.specs.Plans.{IsSerialPlan}
-use Rattle.run_laws.specs.Kept.{IsKept}
-use Rattle.course_laws.specs.RunnableLaws.Laws.{IsAlterable, IsWorded}
+use Rattle.history_laws.specs.RunLaws.Kept.{IsKept}
+use Rattle.revert_laws.specs.CourseLaws.RunnableLaws.Laws.{IsAlterable, IsWorded}
 
 -- *Unfit rows stand*: where a verdict names a row without an image, a value was refused so in that turn. The row stood in the
 -- migrated table then, where the turn was the copier's; or an event of the table left it, where it was the applier's.

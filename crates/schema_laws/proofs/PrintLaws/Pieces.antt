@@ -9,7 +9,7 @@ use Rattle.gho_values.specs.declared.kind.Kind.TheVariants.{Int, VarChar, VarBin
 use Rattle.gho_values.specs.declared.value.Value.{Value}
 use Rattle.gho_values.specs.declared.value.Value.TheVariants.{Null, Num, Text, Blob}
 use Rattle.gho_values.specs.Printing.{printed}
-use Rattle.gho_schema.specs.declared.schema.Column.{Column}
+use Rattle.gho_values.specs.declared.gho_schema.schema.Column.{Column}
 use Rattle.sql_words.specs.declared.word.WordClass.TheVariants as class
 use Rattle.sql_words.specs.declared.front.Front.TheVariants.{Found}
 use Rattle.sql_words.specs.Characters.{begins_with}

@@ -14,8 +14,8 @@ use Rattle.gho_values.specs.declared.kind.Kind.TheVariants.{Int, VarChar, VarBin
 use Rattle.gho_values.specs.declared.value.Value.{Value}
 use Rattle.gho_values.specs.declared.value.Value.TheVariants.{Null, Num, Text, Blob}
 use Rattle.gho_values.specs.Printing.{printed}
-use Rattle.gho_schema.specs.declared.schema.Column.{Column}
-use Rattle.gho_schema.specs.Names.{same_name}
+use Rattle.gho_values.specs.declared.gho_schema.schema.Column.{Column}
+use Rattle.gho_values.specs.GhoSchema.Names.{same_name}
 use Rattle.sql_words.specs.declared.word.WordClass.TheVariants as class
 use Rattle.sql_words.proofs.Reprinted.{text_value-printed_text, bytes_value-printed_bytes}
 use Rattle.table_words.specs.declared.attributes.Attribute.TheVariants.{Nullable, Default}
@@ -29,7 +29,7 @@ use Rattle.table_words.specs.Tokens.{is_keyword, same_sign}
 use Rattle.schema_text.specs.declared.written.ColumnAttribute.TheVariants.{Plain}
 use Rattle.schema_text.specs.declared.written.ColumnAttributes.{ColumnAttributes}
 use Rattle.schema_text.specs.Columns.{unwritten_column, with_column_attribute, column_attribute_at, column_attributes_at, column_at}
-use Rattle.schema_rules.specs.Lawful.{is_kind}
+use Rattle.gho_values.specs.SchemaRules.Lawful.{is_kind}
 use Rattle.schema_laws.proofs.PrintLaws.Numbers.{number_value-decimal, number_value-printed}
 use Rattle.table_words.specs.Pieces.{behind_name, name_at, behind_sign, behind_keyword, sign_at, number_at, keyword_at, literal_of, literal_at}
 use Rattle.schema_print.specs.Printing.{quoted, integer_name}

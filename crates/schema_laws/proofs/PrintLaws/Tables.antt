@@ -3,9 +3,9 @@ use Rattle.std.proofs.Common.{◌≡◌, ℕ, false, List, [], ◌∷◌, ◌++�
 use Rattle.std.specs.List.{flat_map, AllByRecursion}
 use Rattle.gho_values.specs.declared.value.Value.TheVariants.{Text}
 use Rattle.gho_values.specs.Printing.{printed}
-use Rattle.gho_schema.specs.declared.schema.Column.{Column}
-use Rattle.gho_schema.specs.declared.schema.Index.{Index}
-use Rattle.gho_schema.specs.declared.schema.Schema.{Schema}
+use Rattle.gho_values.specs.declared.gho_schema.schema.Column.{Column}
+use Rattle.gho_values.specs.declared.gho_schema.schema.Index.{Index}
+use Rattle.gho_values.specs.declared.gho_schema.schema.Schema.{Schema}
 use Rattle.sql_words.specs.declared.word.WordClass.TheVariants as class
 use Rattle.sql_words.specs.declared.word.WordFault.{WordFault}
 use Rattle.sql_words.specs.declared.front.Front.TheVariants.{Found}

@@ -4,10 +4,10 @@ use Rattle.std.specs.List.{flat_map, AllByRecursion}
 use Rattle.std.specs.Str.{bytes_eq}
 use Rattle.std.proofs.lemmas.List.{length-map}
 use Rattle.gho_values.specs.Printing.{printed}
-use Rattle.gho_schema.specs.Names.{same_name}
-use Rattle.gho_schema.specs.declared.schema.Column.{Column}
-use Rattle.gho_schema.specs.declared.schema.Index.{Index}
-use Rattle.gho_schema.specs.declared.schema.Schema.{Schema}
+use Rattle.gho_values.specs.GhoSchema.Names.{same_name}
+use Rattle.gho_values.specs.declared.gho_schema.schema.Column.{Column}
+use Rattle.gho_values.specs.declared.gho_schema.schema.Index.{Index}
+use Rattle.gho_values.specs.declared.gho_schema.schema.Schema.{Schema}
 use Rattle.sql_words.proofs.Reprinted.{text_value-printed_text}
 use Rattle.table_words.specs.declared.code.SchemaCode.TheVariants.{Syntax}
 use Rattle.table_words.specs.declared.token.Token.{Token}
@@ -18,7 +18,7 @@ use Rattle.table_words.specs.Scope.{is_no_item}
 use Rattle.table_words.specs.Tokens.{is_keyword, same_sign}
 use Rattle.schema_text.specs.declared.written.Item.{Item}
 use Rattle.schema_text.specs.declared.written.Item.TheVariants as items
-use Rattle.schema_rules.specs.Lawful.{is_kind, IsColumn, IsKey, IsLawful}
+use Rattle.gho_values.specs.SchemaRules.Lawful.{is_kind, IsColumn, IsKey, IsLawful}
 use Rattle.schema_text.specs.Options.{value_words, comment_at, option_at, options_at}
 use Rattle.schema_print.specs.Printing.{column_name}
 use Rattle.schema_text.specs.Written.{primary_item_at, behind_key_word, item_at, items_at, table_at, written}

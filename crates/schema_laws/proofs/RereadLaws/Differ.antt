@@ -5,11 +5,11 @@ use Rattle.std.specs.Char.{to_ascii_lowercase}
 use Rattle.std.specs.List.{list_any, slice_get, prefix_len, position_or_len, AllByRecursion}
 use Rattle.std.proofs.lemmas.Bool.{lt-ltb, and_parts, or_parts, or_right}
 use Rattle.std.proofs.lemmas.Slice.Eq.{bytes_eq-Decides}
-use Rattle.gho_schema.specs.Names.{same_name}
-use Rattle.schema_rules.specs.Names.{is_among, differ_from, names_differ, place_of}
-use Rattle.schema_rules.proofs.Lists.{All-at, All-weaker}
-use Rattle.schema_rules.proofs.Steps.{first_or}
-use Rattle.schema_rules.proofs.SameNames.{same_name-own, same_name-turned, other_name-turned}
+use Rattle.gho_values.specs.GhoSchema.Names.{same_name}
+use Rattle.gho_values.specs.SchemaRules.Names.{is_among, differ_from, names_differ, place_of}
+use Rattle.gho_values.proofs.SchemaRules.Lists.{All-at, All-weaker}
+use Rattle.gho_values.proofs.SchemaRules.Steps.{first_or}
+use Rattle.gho_values.proofs.SchemaRules.SameNames.{same_name-own, same_name-turned, other_name-turned}
 
 -- ---- pairs of names
 

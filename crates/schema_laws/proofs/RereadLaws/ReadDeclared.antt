@@ -11,30 +11,30 @@ use Rattle.gho_values.specs.declared.kind.Kind.{Kind}
 use Rattle.gho_values.specs.declared.value.Value.{Value}
 use Rattle.gho_values.specs.declared.value.Value.TheVariants.{Null}
 use Rattle.gho_values.specs.Storing.{stores}
-use Rattle.gho_schema.specs.declared.schema.Column.{Column}
-use Rattle.gho_schema.specs.declared.schema.Index.{Index}
-use Rattle.gho_schema.specs.declared.schema.Schema.{Schema}
+use Rattle.gho_values.specs.declared.gho_schema.schema.Column.{Column}
+use Rattle.gho_values.specs.declared.gho_schema.schema.Index.{Index}
+use Rattle.gho_values.specs.declared.gho_schema.schema.Schema.{Schema}
 use Rattle.table_words.specs.declared.code.SchemaCode.{SchemaCode}
 use Rattle.table_words.specs.declared.code.SchemaCode.TheVariants.{RepeatedName, UnknownKeyColumn, NoClusteredKey, TooManyColumns, TooManyKeys, NameTooLong, ReservedName, BadDefault}
-use Rattle.schema_rules.specs.Results.{◌>>=◌}
+use Rattle.gho_values.specs.SchemaRules.Results.{◌>>=◌}
 use Rattle.table_words.specs.Tokens.{text_words}
 use Rattle.schema_text.specs.declared.keys.NamedKeys.{NamedKeys}
 use Rattle.schema_text.specs.declared.parts.Parts.{Parts}
 use Rattle.schema_text.specs.declared.written.WrittenColumn.{WrittenColumn}
 use Rattle.schema_text.specs.declared.written.WrittenKey.{WrittenKey}
-use Rattle.gho_schema.specs.Clustering.{clustered_place}
-use Rattle.schema_rules.specs.Reasons.{Reasons, first_reason}
+use Rattle.gho_values.specs.GhoSchema.Clustering.{clustered_place}
+use Rattle.gho_values.specs.SchemaRules.Reasons.{Reasons, first_reason}
 use Rattle.schema_text.specs.Declaring.{column_names, size_reasons, are_known, name_reasons, nullable_of, declared_column, declared_columns, primary_index, key_index, schema_of, clustered, built, declared_parts, declared}
-use Rattle.schema_rules.specs.Defaults.{stored, stored_default, defaults_fit, default_or}
-use Rattle.schema_rules.specs.Names.{names_differ}
+use Rattle.gho_values.specs.SchemaRules.Defaults.{stored, stored_default, defaults_fit, default_or}
+use Rattle.gho_values.specs.SchemaRules.Names.{names_differ}
 use Rattle.schema_text.specs.Keys.{key_name, no_keys, with_key, named_keys}
-use Rattle.schema_rules.specs.Limits.{is_column_name, is_tool_name, is_table_name, is_reserved}
+use Rattle.gho_values.specs.SchemaRules.Limits.{is_column_name, is_tool_name, is_table_name, is_reserved}
 use Rattle.schema_text.specs.Parts.{parts_of}
 use Rattle.schema_text.specs.Reading.{schema_at}
 use Rattle.schema_text.specs.Written.{written}
 use Rattle.schema_laws.proofs.Columns.{made}
-use Rattle.schema_rules.proofs.Lists.{All-append, All-anything, All-filter, All-map, fold-keeps}
-use Rattle.schema_rules.proofs.Steps.{bind_ok, unless_ok, none_first, ok_is, default_is}
+use Rattle.gho_values.proofs.SchemaRules.Lists.{All-append, All-anything, All-filter, All-map, fold-keeps}
+use Rattle.gho_values.proofs.SchemaRules.Steps.{bind_ok, unless_ok, none_first, ok_is, default_is}
 use Rattle.schema_laws.specs.RereadLaws.Laws.{HasName, PrimaryStandsFirst, key_names, has_default, IsDeclared, ReadSchemasAreDeclared}
 use Rattle.schema_laws.proofs.RereadLaws.Differ.{Differ, differ-parts, differ-whole}
 use Rattle.schema_laws.proofs.RereadLaws.Parted.{IsNamedText, text_names}

@@ -10,30 +10,30 @@ use Rattle.gho_values.specs.declared.kind.Kind.{Kind}
 use Rattle.gho_values.specs.declared.value.Value.{Value}
 use Rattle.gho_values.specs.declared.value.Value.TheVariants.{Null, Num, Text, Blob}
 use Rattle.gho_values.specs.Storing.{stores}
-use Rattle.gho_schema.specs.declared.schema.Column.{Column}
-use Rattle.gho_schema.specs.declared.schema.Index.{Index}
-use Rattle.gho_schema.specs.declared.schema.Schema.{Schema}
-use Rattle.gho_schema.specs.Names.{same_name}
+use Rattle.gho_values.specs.declared.gho_schema.schema.Column.{Column}
+use Rattle.gho_values.specs.declared.gho_schema.schema.Index.{Index}
+use Rattle.gho_values.specs.declared.gho_schema.schema.Schema.{Schema}
+use Rattle.gho_values.specs.GhoSchema.Names.{same_name}
 use Rattle.table_words.specs.declared.code.SchemaCode.{SchemaCode}
 use Rattle.table_words.specs.declared.code.SchemaCode.TheVariants.{RepeatedName, UnknownKeyColumn, NoClusteredKey, TooManyColumns, TooManyKeys, NameTooLong, ReservedName, BadDefault}
-use Rattle.schema_rules.specs.Results.{◌>>=◌}
+use Rattle.gho_values.specs.SchemaRules.Results.{◌>>=◌}
 use Rattle.schema_text.specs.declared.keys.NamedKeys.{NamedKeys}
 use Rattle.schema_text.specs.declared.parts.Parts.{Parts}
 use Rattle.schema_text.specs.declared.written.WrittenColumn.{WrittenColumn}
 use Rattle.schema_text.specs.declared.written.WrittenKey.{WrittenKey}
-use Rattle.gho_schema.specs.Clustering.{is_not_null, may_cluster, clustered_among, clustered_place, unique_at, clustered_key}
-use Rattle.schema_rules.specs.Reasons.{Reasons, first_reason, unless}
+use Rattle.gho_values.specs.GhoSchema.Clustering.{is_not_null, may_cluster, clustered_among, clustered_place, unique_at, clustered_key}
+use Rattle.gho_values.specs.SchemaRules.Reasons.{Reasons, first_reason, unless}
 use Rattle.schema_text.specs.Declaring.{column_names, size_reasons, are_known, name_reasons, nullable_of, declared_column, declared_columns, primary_index, key_index, schema_of, clustered, built, declared_parts, declared}
-use Rattle.schema_rules.specs.Defaults.{stored_default, defaults_fit, default_or}
-use Rattle.schema_rules.specs.Names.{is_among, names_differ, place_of, places_of}
+use Rattle.gho_values.specs.SchemaRules.Defaults.{stored_default, defaults_fit, default_or}
+use Rattle.gho_values.specs.SchemaRules.Names.{is_among, names_differ, place_of, places_of}
 use Rattle.schema_text.specs.Keys.{named_keys}
-use Rattle.schema_rules.specs.Lawful.{StoresDefault, IsColumn, IsKey, IsNotNull, IsLawful}
-use Rattle.schema_rules.specs.Limits.{is_column_name, is_tool_name, is_table_name, is_reserved}
+use Rattle.gho_values.specs.SchemaRules.Lawful.{StoresDefault, IsColumn, IsKey, IsNotNull, IsLawful}
+use Rattle.gho_values.specs.SchemaRules.Limits.{is_column_name, is_tool_name, is_table_name, is_reserved}
 use Rattle.schema_print.specs.Printing.{column_name}
 use Rattle.schema_text.specs.Reading.{schema_at}
 use Rattle.schema_laws.proofs.Columns.{made}
-use Rattle.schema_rules.proofs.Lists.{All-at, All-append, slice_get-map-some, slice_get-within-some}
-use Rattle.schema_rules.proofs.Steps.{there}
+use Rattle.gho_values.proofs.SchemaRules.Lists.{All-at, All-append, slice_get-map-some, slice_get-within-some}
+use Rattle.gho_values.proofs.SchemaRules.Steps.{there}
 use Rattle.schema_laws.specs.PrintLaws.Laws.{CanPrint, default_read, line_of, names_read, table_read}
 use Rattle.schema_laws.specs.RereadLaws.Laws.{HasName, PrimaryStandsFirst, key_names, has_default, IsDeclared, PrintedSchemasAreReadAgain}
 use Rattle.schema_laws.proofs.RereadLaws.Differ.{Differ, differ-parts, other-place, place-own, among-own}

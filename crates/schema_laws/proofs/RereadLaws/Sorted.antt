@@ -2,11 +2,11 @@
 use Rattle.std.proofs.Common.{◌≡◌, ℕ, Bool, true, false, not, cond, List, [], ◌∷◌, ◌++◌, Option, Some, None, unwrap_or, refl, sym, ap, subst, map}
 use Rattle.std.specs.Prelude.{is_some, filter}
 use Rattle.std.specs.List.{AllByRecursion}
-use Rattle.gho_schema.specs.Names.{same_name}
+use Rattle.gho_values.specs.GhoSchema.Names.{same_name}
 use Rattle.schema_text.specs.declared.written.WrittenKey.{WrittenKey}
-use Rattle.schema_rules.proofs.Lists.{All-append, All-filter}
+use Rattle.gho_values.proofs.SchemaRules.Lists.{All-append, All-filter}
 use Rattle.schema_laws.proofs.RereadLaws.Differ.{Differ}
-use Rattle.schema_rules.proofs.SameNames.{other_name-turned}
+use Rattle.gho_values.proofs.SchemaRules.SameNames.{other_name-turned}
 use Rattle.schema_laws.proofs.RereadLaws.Parted.{IsNamedText, text_names}
 
 module _ {X : Type 0} (R : X → X → Type 0) (turned : (x y : X) → R x y → R y x) where

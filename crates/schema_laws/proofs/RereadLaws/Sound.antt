@@ -15,8 +15,8 @@ use Rattle.sql_words.specs.Front.{begins_comment, begins_bytes, bytes_length, by
 use Rattle.sql_words.specs.Reading.{Reading, with_word, read_on, words_behind, words_of}
 use Rattle.table_words.specs.declared.token.Token.{Token}
 use Rattle.table_words.specs.Tokens.{token_of, words_or_none, cut_at, words_to, text_words}
-use Rattle.schema_rules.proofs.Lists.{All-map}
-use Rattle.schema_rules.proofs.Steps.{ok_is}
+use Rattle.gho_values.proofs.SchemaRules.Lists.{All-map}
+use Rattle.gho_values.proofs.SchemaRules.Steps.{ok_is}
 use Rattle.schema_laws.specs.PrintLaws.Laws.{CanQuote}
 
 abbrev pub AreBytes : List ℕ → Type 0

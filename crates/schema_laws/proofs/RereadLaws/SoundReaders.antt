@@ -19,12 +19,12 @@ use Rattle.table_words.specs.Keys.{key_mismatch, closed, names_at, key_columns_a
 use Rattle.table_words.specs.Kinds.{kind_word, width_behind, width_at, signed_kind, length_of, length_within, length_at, kind_behind, kind_of, kind_at}
 use Rattle.table_words.specs.Listed.{with_others, listed, with_more, gathered}
 use Rattle.table_words.specs.Pieces.{behind_keyword, behind_sign, found_at, keyword_at, sign_at, with_rest, behind_name, name_at, number_of, number_at, text_of, text_at, literal_of, literal_at, any_word_at}
-use Rattle.schema_rules.specs.Results.{◌>>=◌}
+use Rattle.gho_values.specs.SchemaRules.Results.{◌>>=◌}
 use Rattle.table_words.specs.Reads.{Read}
 use Rattle.table_words.specs.Scope.{mismatch}
 use Rattle.table_words.specs.Tokens.{is_keyword, same_sign, is_sign}
-use Rattle.schema_rules.proofs.Lists.{All-append}
-use Rattle.schema_rules.proofs.Steps.{bind_ok, ok_is, there, some_is, some_if}
+use Rattle.gho_values.proofs.SchemaRules.Lists.{All-append}
+use Rattle.gho_values.proofs.SchemaRules.Steps.{bind_ok, ok_is, there, some_is, some_if}
 use Rattle.schema_laws.specs.PrintLaws.Laws.{CanQuote}
 use Rattle.schema_laws.proofs.RereadLaws.Sound.{Sound, AreSound}
 use Rattle.schema_laws.proofs.RereadLaws.SoundValues.{name-sound, SoundValue, literal-sound}

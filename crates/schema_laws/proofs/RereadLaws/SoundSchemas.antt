@@ -11,13 +11,13 @@ use Rattle.gho_values.specs.declared.value.Value.{Value}
 use Rattle.gho_values.specs.declared.value.Value.TheVariants.{Null, Num, Text, Blob}
 use Rattle.gho_values.specs.Laws.{StoresAgain}
 use Rattle.gho_values.specs.Storing.{half, lowest, highest, in_range, text_within, bytes_within, as_number, text_number, stores}
-use Rattle.gho_schema.specs.declared.schema.Column.{Column}
-use Rattle.gho_schema.specs.declared.schema.Index.{Index}
-use Rattle.gho_schema.specs.declared.schema.Schema.{Schema}
-use Rattle.gho_schema.specs.Names.{same_name}
+use Rattle.gho_values.specs.declared.gho_schema.schema.Column.{Column}
+use Rattle.gho_values.specs.declared.gho_schema.schema.Index.{Index}
+use Rattle.gho_values.specs.declared.gho_schema.schema.Schema.{Schema}
+use Rattle.gho_values.specs.GhoSchema.Names.{same_name}
 use Rattle.table_words.specs.declared.code.SchemaCode.{SchemaCode}
 use Rattle.table_words.specs.declared.code.SchemaCode.TheVariants.{NoClusteredKey, BadDefault}
-use Rattle.schema_rules.specs.Results.{◌>>=◌}
+use Rattle.gho_values.specs.SchemaRules.Results.{◌>>=◌}
 use Rattle.table_words.specs.Tokens.{text_words}
 use Rattle.schema_text.specs.declared.keys.NamedKeys.{NamedKeys}
 use Rattle.schema_text.specs.declared.parts.Parts.{Parts}
@@ -25,19 +25,19 @@ use Rattle.schema_text.specs.declared.written.Item.{Item}
 use Rattle.schema_text.specs.declared.written.Item.TheVariants as items
 use Rattle.schema_text.specs.declared.written.WrittenColumn.{WrittenColumn}
 use Rattle.schema_text.specs.declared.written.WrittenKey.{WrittenKey}
-use Rattle.gho_schema.specs.Clustering.{clustered_place}
-use Rattle.schema_rules.specs.Reasons.{first_reason}
+use Rattle.gho_values.specs.GhoSchema.Clustering.{clustered_place}
+use Rattle.gho_values.specs.SchemaRules.Reasons.{first_reason}
 use Rattle.schema_text.specs.Declaring.{column_names, size_reasons, name_reasons, nullable_of, declared_column, declared_columns, primary_index, key_index, schema_of, clustered, built, declared_parts, declared}
-use Rattle.schema_rules.specs.Defaults.{stored, stored_default, defaults_fit, default_or}
-use Rattle.schema_rules.specs.Names.{is_among, spelled, numbered, first_free, first_column}
+use Rattle.gho_values.specs.SchemaRules.Defaults.{stored, stored_default, defaults_fit, default_or}
+use Rattle.gho_values.specs.SchemaRules.Names.{is_among, spelled, numbered, first_free, first_column}
 use Rattle.schema_text.specs.Keys.{key_name, no_keys, with_key, named_keys}
-use Rattle.schema_rules.specs.Lawful.{is_kind, StoresDefault, IsColumn, IsLawful}
+use Rattle.gho_values.specs.SchemaRules.Lawful.{is_kind, StoresDefault, IsColumn, IsLawful}
 use Rattle.schema_text.specs.Parts.{no_parts, own_primary, own_key, with_item, parts_of}
 use Rattle.schema_text.specs.Reading.{schema_at}
 use Rattle.schema_text.specs.Written.{written}
 use Rattle.schema_laws.proofs.Columns.{made}
-use Rattle.schema_rules.proofs.Lists.{All-append, All-filter, All-map, fold-keeps}
-use Rattle.schema_rules.proofs.Steps.{bind_ok, unless_ok, ok_is, there, some_is, default_is}
+use Rattle.gho_values.proofs.SchemaRules.Lists.{All-append, All-filter, All-map, fold-keeps}
+use Rattle.gho_values.proofs.SchemaRules.Steps.{bind_ok, unless_ok, ok_is, there, some_is, default_is}
 use Rattle.schema_laws.proofs.Lawful.{read-lawful}
 use Rattle.schema_laws.specs.PrintLaws.Laws.{CanQuote, CanQuoteKey, CanPrintKind, CanPrintValue, CanPrintDefault, CanPrintColumn, CanPrint}
 use Rattle.schema_laws.specs.RereadLaws.Laws.{ReadSchemasCanPrint, ReadSchemasAreReadAgain}

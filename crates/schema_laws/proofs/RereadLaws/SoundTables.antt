@@ -13,7 +13,7 @@ use Rattle.table_words.specs.Attributes.{attribute_at}
 use Rattle.table_words.specs.Keys.{key_columns_at, key_at}
 use Rattle.table_words.specs.Kinds.{kind_at}
 use Rattle.table_words.specs.Pieces.{behind_keyword, behind_sign, keyword_at, sign_at, name_at}
-use Rattle.schema_rules.specs.Results.{◌>>=◌}
+use Rattle.gho_values.specs.SchemaRules.Results.{◌>>=◌}
 use Rattle.table_words.specs.Reads.{Read}
 use Rattle.table_words.specs.Scope.{is_no_item, mismatch}
 use Rattle.table_words.specs.Tokens.{is_keyword}
@@ -27,7 +27,7 @@ use Rattle.schema_text.specs.declared.written.WrittenTable.{WrittenTable}
 use Rattle.schema_text.specs.Columns.{unwritten_column, with_column_attribute, primary_at, unique_behind, plain_of, plain_at, column_attribute_at, column_attributes_at, column_at}
 use Rattle.schema_text.specs.Options.{options_at}
 use Rattle.schema_text.specs.Written.{primary_item_at, key_item_at, key_word, behind_key_word, column_item_at, item_at, items_at, last_words, alone, table_at, unless_faulty, written}
-use Rattle.schema_rules.proofs.Steps.{bind_ok, ok_is}
+use Rattle.gho_values.proofs.SchemaRules.Steps.{bind_ok, ok_is}
 use Rattle.schema_laws.specs.PrintLaws.Laws.{CanQuote}
 use Rattle.schema_laws.proofs.RereadLaws.Sound.{AreSound}
 use Rattle.schema_laws.proofs.RereadLaws.SoundValues.{SoundValue}

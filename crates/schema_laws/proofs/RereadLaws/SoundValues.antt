@@ -15,8 +15,8 @@ use Rattle.word_laws.specs.ReadBack.{word_value}
 use Rattle.table_words.specs.declared.token.Token.{Token}
 use Rattle.table_words.specs.Pieces.{literal_of}
 use Rattle.table_words.specs.Tokens.{is_keyword}
-use Rattle.schema_rules.proofs.Lists.{All-append}
-use Rattle.schema_rules.proofs.Steps.{there, some_is, some_if}
+use Rattle.gho_values.proofs.SchemaRules.Lists.{All-append}
+use Rattle.gho_values.proofs.SchemaRules.Steps.{there, some_is, some_if}
 use Rattle.schema_laws.specs.PrintLaws.Laws.{CanQuote}
 use Rattle.schema_laws.proofs.RereadLaws.Sound.{AreBytes, SoundText, Sound, All-take, prefix-passes}
 use Rattle.std.proofs.lemmas.Bool.{and_parts}

@@ -6,9 +6,9 @@ use Rattle.gho_values.specs.declared.kind.Kind.{Kind}
 use Rattle.gho_values.specs.declared.kind.Kind.TheVariants.{Int, VarChar, VarBinary}
 use Rattle.gho_values.specs.declared.value.Value.{Value}
 use Rattle.gho_values.specs.declared.value.Value.TheVariants.{Null, Num, Text, Blob}
-use Rattle.gho_schema.specs.declared.schema.Schema.{Schema}
-use Rattle.gho_schema.specs.declared.schema.Column.{Column}
-use Rattle.gho_schema.specs.declared.schema.Index.{Index}
+use Rattle.gho_values.specs.declared.gho_schema.schema.Schema.{Schema}
+use Rattle.gho_values.specs.declared.gho_schema.schema.Column.{Column}
+use Rattle.gho_values.specs.declared.gho_schema.schema.Index.{Index}
 use Rattle.table_words.specs.declared.token.Token.{Token}
 use Rattle.table_words.specs.Tokens.{text_words}
 use Rattle.schema_text.specs.declared.written.WrittenColumn.{WrittenColumn}
@@ -16,7 +16,7 @@ use Rattle.schema_text.specs.Columns.{column_at}
 use Rattle.schema_text.specs.declared.written.Item.{Item}
 use Rattle.schema_text.specs.declared.written.Item.TheVariants as items
 use Rattle.schema_text.specs.declared.written.WrittenTable.{WrittenTable}
-use Rattle.schema_rules.specs.Lawful.{is_kind, IsLawful}
+use Rattle.gho_values.specs.SchemaRules.Lawful.{is_kind, IsLawful}
 use Rattle.schema_text.specs.Written.{written}
 use Rattle.schema_print.specs.Printing.{column_name, printed_schema}
 use Rattle.schema_laws.specs.PrintLaws.Words.{sign_word, column_words, schema_words}

@@ -8,8 +8,8 @@ use Rattle.gho_values.specs.declared.value.Value.{Value}
 use Rattle.gho_values.specs.declared.value.Value.TheVariants.{Null, Num, Text, Blob}
 use Rattle.gho_values.specs.Printing.{printed}
 use Rattle.sql_words.specs.declared.word.WordClass.TheVariants as class
-use Rattle.gho_schema.specs.declared.schema.Schema.{Schema}
-use Rattle.gho_schema.specs.declared.schema.Column.{Column}
+use Rattle.gho_values.specs.declared.gho_schema.schema.Schema.{Schema}
+use Rattle.gho_values.specs.declared.gho_schema.schema.Column.{Column}
 use Rattle.table_words.specs.declared.token.Token.{Token}
 use Rattle.schema_print.specs.Printing.{quoted, integer_name, column_name}
 

@@ -1,13 +1,13 @@
 -- Which schemas the printed text gives again. The functions of the module `laws` prove each.
 use Rattle.std.specs.Prelude.{◌≡◌, ℕ, ◌<◌, ◌≤◌, Bool, true, false, not, ◌||◌, List, [], ◌∷◌, ◌++◌, length, is_some, Ok}
 use Rattle.std.specs.List.{filter_map, list_all, AllByRecursion}
-use Rattle.gho_schema.specs.declared.schema.Column.{Column}
-use Rattle.gho_schema.specs.declared.schema.Index.{Index}
-use Rattle.gho_schema.specs.declared.schema.Schema.{Schema}
-use Rattle.schema_rules.specs.Defaults.{defaults_fit}
-use Rattle.schema_rules.specs.Names.{names_differ}
-use Rattle.schema_rules.specs.Lawful.{IsLawful}
-use Rattle.schema_rules.specs.Limits.{is_column_name, is_tool_name, is_table_name, is_reserved}
+use Rattle.gho_values.specs.declared.gho_schema.schema.Column.{Column}
+use Rattle.gho_values.specs.declared.gho_schema.schema.Index.{Index}
+use Rattle.gho_values.specs.declared.gho_schema.schema.Schema.{Schema}
+use Rattle.gho_values.specs.SchemaRules.Defaults.{defaults_fit}
+use Rattle.gho_values.specs.SchemaRules.Names.{names_differ}
+use Rattle.gho_values.specs.SchemaRules.Lawful.{IsLawful}
+use Rattle.gho_values.specs.SchemaRules.Limits.{is_column_name, is_tool_name, is_table_name, is_reserved}
 use Rattle.schema_print.specs.Printing.{printed_schema}
 use Rattle.schema_text.specs.Reading.{schema_at}
 use Rattle.schema_laws.specs.PrintLaws.Laws.{CanPrint}

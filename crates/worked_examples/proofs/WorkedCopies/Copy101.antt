@@ -8,15 +8,15 @@ use Rattle.gho_values.specs.declared.span.Bound.TheVariants.{Open, Closed}
 use Rattle.gho_values.specs.declared.value.Value.TheVariants.{Null, Num, Text}
 use Rattle.gho_values.specs.Laws.{StoresAgain}
 use Rattle.gho_values.proofs.StoredValues.{keeps}
-use Rattle.gho_schema.specs.declared.schema.Schema.{Schema}
-use Rattle.gho_schema.specs.Clustering.{clustered_place}
-use Rattle.gho_schema.specs.Tables.{IsTable}
-use Rattle.alter_image.specs.declared.clause.Clause.{Clause}
-use Rattle.alter_image.specs.declared.clause.Clause.TheVariants as clauses
-use Rattle.alter_image.specs.declared.clause.Spot.TheVariants.{First, Unsaid}
-use Rattle.alter_image.specs.declared.map.Origin.TheVariants as from
+use Rattle.gho_values.specs.declared.gho_schema.schema.Schema.{Schema}
+use Rattle.gho_values.specs.GhoSchema.Clustering.{clustered_place}
+use Rattle.gho_values.specs.GhoSchema.Tables.{IsTable}
+use Rattle.gho_values.specs.declared.alter_image.clause.Clause.{Clause}
+use Rattle.gho_values.specs.declared.alter_image.clause.Clause.TheVariants as clauses
+use Rattle.gho_values.specs.declared.alter_image.clause.Spot.TheVariants.{First, Unsaid}
+use Rattle.gho_values.specs.declared.alter_image.map.Origin.TheVariants as from
 use Rattle.alter_schema.specs.Altering.{altered}
-use Rattle.schema_rules.specs.Lawful.{IsLawful}
+use Rattle.gho_values.specs.SchemaRules.Lawful.{IsLawful}
 use Rattle.event_codec.specs.declared.event.Change.TheVariants as changes
 use Rattle.row_store.specs.declared.renaming.Pair.{Pair}
 use Rattle.script_text.specs.declared.actor.Actor.TheVariants.{Op, Insp, Copy, Apply, Lock, Ren, Client}
@@ -34,15 +34,15 @@ use Rattle.plain_server.specs.declared.request.Request.TheVariants as requests
 use Rattle.plain_server.specs.declared.session.Limits.{Limits}
 use Rattle.plain_server.specs.declared.session.Session.{Session}
 use Rattle.plain_server.specs.Answers.{ok}
-use Rattle.chunk_copier.specs.declared.copier.Copier.{Copier}
-use Rattle.chunk_copier.specs.declared.copier.CopyStep.{CopyStep}
-use Rattle.chunk_copier.specs.declared.copier.CopyStep.TheVariants.{Choosing, Spanning, Copying}
-use Rattle.chunk_copier.specs.declared.copier.CopyStep.TheVariants as copies
-use Rattle.event_applier.specs.declared.applier.Applier.{Applier}
-use Rattle.event_applier.specs.declared.applier.ApplyStep.{ApplyStep}
-use Rattle.event_applier.specs.declared.applier.ApplyStep.TheVariants.{Reading, Beginning, Applying}
-use Rattle.event_applier.specs.declared.applier.ApplyStep.TheVariants as applies
-use Rattle.event_applier.specs.declared.applier.Part.TheVariants.{Whole}
+use Rattle.migration_program.specs.declared.chunk_copier.copier.Copier.{Copier}
+use Rattle.migration_program.specs.declared.chunk_copier.copier.CopyStep.{CopyStep}
+use Rattle.migration_program.specs.declared.chunk_copier.copier.CopyStep.TheVariants.{Choosing, Spanning, Copying}
+use Rattle.migration_program.specs.declared.chunk_copier.copier.CopyStep.TheVariants as copies
+use Rattle.migration_program.specs.declared.event_applier.applier.Applier.{Applier}
+use Rattle.migration_program.specs.declared.event_applier.applier.ApplyStep.{ApplyStep}
+use Rattle.migration_program.specs.declared.event_applier.applier.ApplyStep.TheVariants.{Reading, Beginning, Applying}
+use Rattle.migration_program.specs.declared.event_applier.applier.ApplyStep.TheVariants as applies
+use Rattle.migration_program.specs.declared.event_applier.applier.Part.TheVariants.{Whole}
 use Rattle.history_laws.specs.Scenes.{Scene}
 use Rattle.history_laws.specs.Holdings.{face_of}
 use Rattle.history_laws.specs.Plans as plans
@@ -50,21 +50,21 @@ use Rattle.history_laws.specs.Plans.{limits_of, scene_of}
 use Rattle.history_laws.specs.Turns.{IsSceneRun, scene_state}
 use Rattle.history_laws.proofs.PlanJournals.{plan_runs_are_scene_runs}
 use Rattle.plan_words.specs.PlanData.{Altered}
-use Rattle.migration_laws.specs.PlanningLaws.Laws.{migration_of}
-use Rattle.migration_laws.proofs.PlanningLaws.Planned.{alters_planned}
-use Rattle.ghost_laws.specs.GhostRows.Moments.{Row}
-use Rattle.ghost_laws.specs.GhostRows.Timelines.{IsPlanned, Migration}
-use Rattle.ghost_laws.specs.Copies.{IsAltered}
-use Rattle.ghost_laws.specs.Holding.{Clustered}
-use Rattle.ghost_laws.specs.Invariant.{NotOf}
-use Rattle.ghost_laws.proofs.Turns.{run_front}
-use Rattle.migration_laws.specs.ApplyLaws.Finding.{FindsRows}
-use Rattle.migration_laws.proofs.ApplyLaws.Stated.{alters_find_rows}
-use Rattle.migration_laws.specs.Away.{KeepsAway, OthersAway}
-use Rattle.migration_laws.specs.Machines.{IsMigrationEnd, IsMigrationStart, Machines, MigrationRun, MigrationTurn, Step, hold_at, journal_behind, machines_behind}
-use Rattle.migration_laws.specs.Machines.MigrationTurn.{copier_turns, applier_turns, others_turn}
-use Rattle.migration_laws.specs.Machines.Step.{Turned}
-use Rattle.migration_laws.proofs.Migrating.{journals_alter}
+use Rattle.revert_laws.specs.MigrationLaws.PlanningLaws.Laws.{migration_of}
+use Rattle.revert_laws.proofs.MigrationLaws.PlanningLaws.Planned.{alters_planned}
+use Rattle.history_laws.specs.GhostLaws.GhostRows.Moments.{Row}
+use Rattle.history_laws.specs.GhostLaws.GhostRows.Timelines.{IsPlanned, Migration}
+use Rattle.history_laws.specs.GhostLaws.Copies.{IsAltered}
+use Rattle.history_laws.specs.GhostLaws.Holding.{Clustered}
+use Rattle.history_laws.specs.GhostLaws.Invariant.{NotOf}
+use Rattle.history_laws.proofs.GhostLaws.Turns.{run_front}
+use Rattle.revert_laws.specs.MigrationLaws.ApplyLaws.Finding.{FindsRows}
+use Rattle.revert_laws.proofs.MigrationLaws.ApplyLaws.Stated.{alters_find_rows}
+use Rattle.revert_laws.specs.MigrationLaws.Away.{KeepsAway, OthersAway}
+use Rattle.revert_laws.specs.MigrationLaws.Machines.{IsMigrationEnd, IsMigrationStart, Machines, MigrationRun, MigrationTurn, Step, hold_at, journal_behind, machines_behind}
+use Rattle.revert_laws.specs.MigrationLaws.Machines.MigrationTurn.{copier_turns, applier_turns, others_turn}
+use Rattle.revert_laws.specs.MigrationLaws.Machines.Step.{Turned}
+use Rattle.revert_laws.proofs.MigrationLaws.Migrating.{journals_alter}
 use Rattle.worked_runs.proofs.Computing.{computing}
 use Rattle.worked_runs.proofs.Plans1.{plan_101, journal_101}
 use Rattle.worked_runs.proofs.SerialRun.{run_101}
@@ -98,7 +98,7 @@ made_101 =
       comment = [];
     }
 
-abbrev map_101 : List Rattle.alter_image.specs.declared.map.MapColumn.MapColumn
+abbrev map_101 : List Rattle.gho_values.specs.declared.alter_image.map.MapColumn.MapColumn
 map_101 = (record { kind = VarChar 4; nullable = true; origin = from.Added (Text (codes "n")) } ∷ record { kind = Int 1 false; nullable = false; origin = from.Old 0 } ∷ record { kind = Int 4 false; nullable = true; origin = from.Old 1 } ∷ record { kind = Int 4 false; nullable = true; origin = from.Old 2 } ∷ [])
 
 abbrev alter_101 : List Clause
@@ -737,7 +737,7 @@ away_101 n no_copier no_applier =
     subst (NotOf (codes "_t_gho")) (sym (quiet_found n (scene_state limits_101 scene_101 journal_18).sessions quiet)) tt
 
 start_101 : IsMigrationStart m_101 rows_101 limits_101 scene_101 journal_18 now_18
-unfolding computing plans.client_names plans.client_tables plans.script_names Rattle.ghost_laws.specs.GhostRows.Moments.LogFits Rattle.ghost_laws.specs.GhostRows.Moments.rows_at
+unfolding computing plans.client_names plans.client_tables plans.script_names Rattle.history_laws.specs.GhostLaws.GhostRows.Moments.LogFits Rattle.history_laws.specs.GhostLaws.GhostRows.Moments.rows_at
 start_101 =
     record {
       start = record {

@@ -5,16 +5,16 @@ use Rattle.std.specs.Fmt.{digits}
 use Rattle.gho_values.specs.declared.value.Value.{Value}
 use Rattle.gho_values.specs.declared.value.Value.TheVariants.{Num, Text}
 use Rattle.gho_values.specs.declared.span.Bound.TheVariants.{Closed}
-use Rattle.gho_schema.specs.declared.schema.Schema.{Schema}
-use Rattle.alter_image.specs.declared.map.MapColumn.{MapColumn}
+use Rattle.gho_values.specs.declared.gho_schema.schema.Schema.{Schema}
+use Rattle.gho_values.specs.declared.alter_image.map.MapColumn.{MapColumn}
 use Rattle.plain_server.specs.declared.request.Request.TheVariants as requests
 use Rattle.changelog_table.specs.Hints.{hint_row, hint_of}
 use Rattle.changelog_table.specs.ToolNames.{log_name}
 use Rattle.changelog_table.specs.ToolTables.{sentry_schema}
-use Rattle.chunk_copier.specs.Copiers as copier
-use Rattle.event_applier.specs.Appliers as applier
-use Rattle.cutover_core.specs.Attempts as cutover
-use Rattle.cutover_core.specs.declared.cutover.Role.TheVariants.{Locker}
+use Rattle.migration_program.specs.ChunkCopier.Copiers as copier
+use Rattle.migration_program.specs.EventApplier.Appliers as applier
+use Rattle.migration_program.specs.CutoverCore.Attempts as cutover
+use Rattle.migration_program.specs.declared.cutover_core.cutover.Role.TheVariants.{Locker}
 
 -- the hint row of the second attempt, and its reading
 second_hint : hint_row 2 ≡ Num (pos 2) ∷ Text (codes "cut-over") ∷ Text (codes "2") ∷ []

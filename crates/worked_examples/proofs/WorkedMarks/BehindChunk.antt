@@ -4,32 +4,32 @@ use Rattle.std.proofs.Common.{pos, true, false, ◌≡◌, List, [], ◌∷◌, 
 use Rattle.std.specs.Prelude.{codes}
 use Rattle.gho_values.specs.declared.kind.Kind.TheVariants.{Int}
 use Rattle.gho_values.specs.declared.value.Value.TheVariants.{Null, Num}
-use Rattle.gho_schema.specs.declared.schema.Schema.{Schema}
-use Rattle.schema_rules.specs.Lawful.{IsLawful}
-use Rattle.alter_image.specs.declared.clause.Clause.{Clause}
-use Rattle.alter_image.specs.declared.clause.Clause.TheVariants as clauses
-use Rattle.alter_image.specs.declared.clause.Spot.TheVariants.{Unsaid}
-use Rattle.alter_image.specs.declared.map.Origin.TheVariants as from
+use Rattle.gho_values.specs.declared.gho_schema.schema.Schema.{Schema}
+use Rattle.gho_values.specs.SchemaRules.Lawful.{IsLawful}
+use Rattle.gho_values.specs.declared.alter_image.clause.Clause.{Clause}
+use Rattle.gho_values.specs.declared.alter_image.clause.Clause.TheVariants as clauses
+use Rattle.gho_values.specs.declared.alter_image.clause.Spot.TheVariants.{Unsaid}
+use Rattle.gho_values.specs.declared.alter_image.map.Origin.TheVariants as from
 use Rattle.alter_schema.specs.Altering.{altered}
-use Rattle.alter_laws.proofs.ImageTables.{clustered_keys_kept}
-use Rattle.alter_laws.proofs.KeepingKeys.{stay_apart}
-use Rattle.alter_laws.proofs.TableNames.{keep_names}
+use Rattle.schema_laws.proofs.AlterLaws.ImageTables.{clustered_keys_kept}
+use Rattle.schema_laws.proofs.AlterLaws.KeepingKeys.{stay_apart}
+use Rattle.schema_laws.proofs.AlterLaws.TableNames.{keep_names}
 use Rattle.row_store.specs.Databases.{TableRows}
 use Rattle.plain_server.specs.declared.entry.Entry.{Entry}
 use Rattle.plan_words.specs.PlanData.{Altered}
-use Rattle.journal_words.specs.Journals.{IsFaithful, state_at}
-use Rattle.journal_words.specs.Keeping.{KeepsPlan}
-use Rattle.journal_words.specs.Sessions.{KeepsSessions}
+use Rattle.migration_program.specs.JournalWords.Journals.{IsFaithful, state_at}
+use Rattle.migration_program.specs.JournalWords.Keeping.{KeepsPlan}
+use Rattle.migration_program.specs.JournalWords.Sessions.{KeepsSessions}
 use Rattle.migration_program.specs.Programs.{Follows}
 use Rattle.migration_program.specs.Tools.{Course, Migrating, Work, moment, new_work}
 use Rattle.history_laws.specs.Plans as plans
 use Rattle.history_laws.specs.Plans.{IsSerialPlan}
-use Rattle.ghost_laws.specs.Copies.{IsAltered}
-use Rattle.migration_laws.specs.PlanningLaws.Laws.{migration_of}
-use Rattle.run_laws.specs.Kept.{IsKept}
-use Rattle.course_laws.specs.RunnableLaws.Laws.{IsAlterable, IsWorded}
-use Rattle.follow_laws.specs.FollowTurns.Laws.{IsMark}
-use Rattle.follow_laws.specs.Laws.{FollowersAlter}
+use Rattle.history_laws.specs.GhostLaws.Copies.{IsAltered}
+use Rattle.revert_laws.specs.MigrationLaws.PlanningLaws.Laws.{migration_of}
+use Rattle.history_laws.specs.RunLaws.Kept.{IsKept}
+use Rattle.revert_laws.specs.CourseLaws.RunnableLaws.Laws.{IsAlterable, IsWorded}
+use Rattle.revert_laws.specs.FollowLaws.FollowTurns.Laws.{IsMark}
+use Rattle.revert_laws.specs.FollowLaws.Laws.{FollowersAlter}
 use Rattle.worked_runs.proofs.Computing.{computing}
 use Rattle.worked_runs.proofs.SmallPlans1.{plan_behind_chunk, journal_behind_chunk}
 

@@ -5,8 +5,8 @@ use Rattle.std.specs.Prelude.{codes}
 use Rattle.std.specs.List.{list_any}
 use Rattle.gho_values.specs.declared.kind.Kind.TheVariants.{Int, VarChar}
 use Rattle.gho_values.specs.declared.value.Value.TheVariants.{Num}
-use Rattle.alter_image.specs.declared.clause.Clause.TheVariants as clauses
-use Rattle.alter_image.specs.declared.clause.Spot.TheVariants.{Unsaid}
+use Rattle.gho_values.specs.declared.alter_image.clause.Clause.TheVariants as clauses
+use Rattle.gho_values.specs.declared.alter_image.clause.Spot.TheVariants.{Unsaid}
 use Rattle.script_text.specs.declared.actor.Actor.TheVariants.{Insp, Client}
 use Rattle.script_text.specs.declared.script.ScriptWord.TheVariants as words
 use Rattle.plain_server.specs.declared.answer.Answer.TheVariants as answers
@@ -14,12 +14,12 @@ use Rattle.plain_server.specs.declared.entry.Asked.TheVariants.{Call}
 use Rattle.plain_server.specs.declared.entry.Entry.{Entry}
 use Rattle.plain_server.specs.declared.request.Request.TheVariants as requests
 use Rattle.plan_words.specs.PlanData.{PlanData}
-use Rattle.journal_words.specs.Journals.{IsFaithful}
+use Rattle.migration_program.specs.JournalWords.Journals.{IsFaithful}
 use Rattle.migration_program.specs.Orders.{actors, is_ready}
 use Rattle.migration_program.specs.Programs.{Follows}
 use Rattle.migration_program.specs.Tools.{moment}
 use Rattle.migration_program.specs.Verdicts.{has_ended}
-use Rattle.course_laws.specs.ReadyLaws.Laws.{IsStuck}
+use Rattle.revert_laws.specs.CourseLaws.ReadyLaws.Laws.{IsStuck}
 use Rattle.worked_runs.proofs.Computing.{computing}
 
 abbrev plan_open_script : PlanData

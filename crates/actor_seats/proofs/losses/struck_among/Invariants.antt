@@ -1,5 +1,5 @@
 use Rattle.std.proofs.Common.{◌≡◌, drop}
-use Rattle.journal_words.specs.Keeping.{struck_among}
+use Rattle.migration_program.specs.JournalWords.Keeping.{struck_among}
 use Rattle.actor_seats.proofs.losses.struck_among.Given as goal
 
 -- none of the losses so far strikes

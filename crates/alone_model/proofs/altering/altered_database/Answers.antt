@@ -1,7 +1,7 @@
 use Rattle.std.proofs.Common.{sym, subst}
 use Rattle.row_store.specs.Databases.{TableRows}
-use Rattle.schema_rules.specs.Lawful.{IsLawful}
-use Rattle.statement_laws.specs.Databases.{WhereFound}
+use Rattle.gho_values.specs.SchemaRules.Lawful.{IsLawful}
+use Rattle.plain_server.specs.StatementLaws.Databases.{WhereFound}
 use Rattle.alone_model.proofs.Lawful.{found_lawful}
 use Rattle.alone_model.proofs.altering.altered_database.Goals as goal
 

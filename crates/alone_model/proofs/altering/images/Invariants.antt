@@ -1,5 +1,5 @@
 use Rattle.std.proofs.Common.{◌≡◌, drop}
-use Rattle.alter_image.specs.Images.{images}
+use Rattle.gho_values.specs.AlterImage.Images.{images}
 use Rattle.alone_model.proofs.Imaged.{with_images}
 use Rattle.alone_model.proofs.altering.images.Given as goal
 

@@ -3,7 +3,7 @@ use Rattle.std.specs.Prelude.{IfOk}
 use Rattle.std.specs.Option.{option_map}
 use Rattle.row_store.specs.Databases.{Database}
 use Rattle.plain_server.specs.Alone.{alone}
-use Rattle.journal_words.specs.Serials.{altered_database}
+use Rattle.migration_program.specs.JournalWords.Serials.{altered_database}
 use Rattle.alone_model.specs.Histories.{AreLawful, IfLawful, alone_in_order, goes_on, with_replies}
 use Rattle.alone_model.specs.declared.histories.Happening.{Happening}
 use Rattle.alone_model.specs.declared.histories.Happening.TheVariants.{Alter}

@@ -1,5 +1,5 @@
 use Rattle.std.proofs.Common.{◌≡◌, drop}
-use Rattle.gho_schema.specs.Tables.{clash}
+use Rattle.gho_values.specs.GhoSchema.Tables.{clash}
 use Rattle.alone_statements.proofs.keys.clash.Given as goal
 
 -- the keys that are left decide

@@ -1,5 +1,5 @@
 use Rattle.std.proofs.Common.{◌≡◌, drop}
-use Rattle.gho_schema.specs.Tables.{no_null}
+use Rattle.gho_values.specs.GhoSchema.Tables.{no_null}
 use Rattle.alone_statements.proofs.keys.has_no_null.Given as goal
 
 -- the values that are left decide

@@ -1,6 +1,6 @@
 use Rattle.std.proofs.Common.{◌≡◌, drop}
 use Rattle.std.specs.List.{list_any}
-use Rattle.gho_schema.specs.Tables.{clash}
+use Rattle.gho_values.specs.GhoSchema.Tables.{clash}
 use Rattle.alone_statements.proofs.meeting.clashes.Given as goal
 
 -- the rows that are left decide

@@ -1,5 +1,5 @@
 use Rattle.std.proofs.Common.{◌≡◌, List, [], ◌∷◌, ◌++◌, Result, Ok, Err, true, false, sym, ap, ◌∙◌}
-use Rattle.gho_schema.specs.Rows.{key_places}
+use Rattle.gho_values.specs.GhoSchema.Rows.{key_places}
 use Rattle.row_store.proofs.Orders.{Row}
 use Rattle.event_codec.specs.declared.event.Change.{Change}
 use Rattle.event_codec.specs.declared.event.Change.TheVariants as changes

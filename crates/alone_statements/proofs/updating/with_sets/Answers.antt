@@ -2,7 +2,7 @@ use Rattle.std.proofs.Common.{◌++◌, sym, ap, ◌∙◌, append-nil}
 use Rattle.std.proofs.lemmas.List.{at_drop_all}
 use Rattle.row_store.proofs.Orders.{Row}
 use Rattle.plain_server.specs.Saying.{with_sets}
-use Rattle.statement_laws.proofs.Sets.{with_sets_none}
+use Rattle.plain_server.proofs.StatementLaws.Sets.{with_sets_none}
 use Rattle.alone_statements.proofs.updating.with_sets.Goals as goal
 
 pub returns : goal.returns

@@ -1,6 +1,6 @@
 use Rattle.std.proofs.Common.{sym}
 use Rattle.alter_schema.specs.Columns.{column_place}
-use Rattle.schema_rules.proofs.Loops.{filter_map-up_to_here}
+use Rattle.gho_values.proofs.SchemaRules.Loops.{filter_map-up_to_here}
 use Rattle.alter_schema.proofs.indexing.places_of.Goals as goal
 
 pub loop-name-preserved : goal.loop-name-preserved

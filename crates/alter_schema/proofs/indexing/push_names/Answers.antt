@@ -1,8 +1,8 @@
 use Rattle.std.proofs.Common.{◌++◌, List, ℕ, sym, ap, ◌∙◌, append_assoc, take}
 use Rattle.std.specs.Prelude.{option_to_list}
 use Rattle.std.specs.List.{filter_map}
-use Rattle.gho_schema.specs.declared.schema.Index.{Index}
-use Rattle.schema_rules.proofs.Loops.{filter_map-up_to_here}
+use Rattle.gho_values.specs.declared.gho_schema.schema.Index.{Index}
+use Rattle.gho_values.proofs.SchemaRules.Loops.{filter_map-up_to_here}
 use Rattle.alter_schema.proofs.indexing.push_names.Goals as goal
 
 pub loop-index-preserved : goal.loop-index-preserved

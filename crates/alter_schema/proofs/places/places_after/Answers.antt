@@ -1,6 +1,6 @@
 use Rattle.std.proofs.Common.{sym}
 use Rattle.alter_schema.specs.Places.{place_after}
-use Rattle.schema_rules.proofs.Loops.{filter_map-take}
+use Rattle.gho_values.proofs.SchemaRules.Loops.{filter_map-take}
 use Rattle.alter_schema.proofs.places.places_after.Goals as goal
 
 pub loop-place-preserved : goal.loop-place-preserved

@@ -1,6 +1,6 @@
 use Rattle.std.proofs.Common.{◌∙◌, ◌-◌, sym, ap, inl, inr, arith}
 use Rattle.std.specs.List.{slice_set}
-use Rattle.journal_words.specs.Clients.{Became}
+use Rattle.migration_program.specs.JournalWords.Clients.{Became}
 use Rattle.client_lines.specs.Walks.{walk_after}
 use Rattle.client_lines.proofs.Passing.{one_passes, others_stay}
 use Rattle.client_lines.proofs.pasts.pass_client.Goals as goal

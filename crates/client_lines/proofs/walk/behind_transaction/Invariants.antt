@@ -1,6 +1,6 @@
 use Rattle.std.proofs.Common.{◌≡◌, ℕ, List, drop}
 use Rattle.script_text.specs.declared.script.ScriptLine.{ScriptLine}
-use Rattle.journal_words.specs.Clients.{behind_transaction}
+use Rattle.migration_program.specs.JournalWords.Clients.{behind_transaction}
 use Rattle.client_lines.proofs.walk.behind_transaction.Given as goal
 
 pub record Passing (lines : List ScriptLine) (place index : ℕ) : Type 0 where

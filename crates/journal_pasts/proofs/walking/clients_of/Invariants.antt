@@ -1,5 +1,5 @@
 use Rattle.std.proofs.Common.{◌≡◌, map, take}
-use Rattle.journal_words.specs.Clients.{new_client}
+use Rattle.migration_program.specs.JournalWords.Clients.{new_client}
 use Rattle.journal_pasts.proofs.walking.clients_of.Given as goal
 
 -- the clients so far

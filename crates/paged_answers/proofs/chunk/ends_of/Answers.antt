@@ -1,5 +1,5 @@
 use Rattle.std.proofs.Common.{◌≡◌, ◌∷◌, sym, ◌∙◌}
-use Rattle.gho_schema.specs.Rows.{key_of, key_places}
+use Rattle.gho_values.specs.GhoSchema.Rows.{key_of, key_places}
 use Rattle.paged_answers.proofs.LastRows.{ends_are}
 use Rattle.paged_answers.proofs.chunk.ends_of.Goals as goal
 

@@ -1,5 +1,5 @@
 use Rattle.std.proofs.Common.{◌≡◌, ◌∙◌, [], sym, ap, take, refl}
-use Rattle.gho_schema.specs.Rows.{key_of}
+use Rattle.gho_values.specs.GhoSchema.Rows.{key_of}
 use Rattle.plain_server.specs.Chunks.{keys_of, last_of}
 use Rattle.paged_answers.proofs.Cuts.{cut_keys, all_keys}
 use Rattle.paged_answers.proofs.chunk.first_keys.Goals as goal

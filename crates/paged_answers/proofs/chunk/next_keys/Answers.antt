@@ -1,4 +1,4 @@
-use Rattle.gho_schema.specs.Rows.{key_of}
+use Rattle.gho_values.specs.GhoSchema.Rows.{key_of}
 use Rattle.paged_answers.proofs.Cuts.{starts, goes_on, runs_out, is_done}
 use Rattle.paged_answers.proofs.chunk.next_keys.Goals as goal
 

@@ -1,4 +1,4 @@
-use Rattle.gho_schema.specs.Rows.{key_of}
+use Rattle.gho_values.specs.GhoSchema.Rows.{key_of}
 use Rattle.paged_answers.proofs.Cuts.{Walked}
 use Rattle.paged_answers.proofs.chunk.next_keys.Given as goal
 

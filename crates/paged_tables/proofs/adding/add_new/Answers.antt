@@ -1,6 +1,6 @@
 use Rattle.std.proofs.Common.{◌≡◌, ◌∙◌, ap}
 use Rattle.std.specs.String.{string_bytes}
-use Rattle.gho_schema.specs.declared.schema.Schema.{Schema}
+use Rattle.gho_values.specs.declared.gho_schema.schema.Schema.{Schema}
 use Rattle.paged_tables.proofs.Paged.{still_named}
 use Rattle.paged_tables.proofs.TableNames.{is_free}
 use Rattle.paged_tables.proofs.adding.add_new.Goals as goal

@@ -1,6 +1,6 @@
 use Rattle.std.proofs.Common.{sym, subst}
 use Rattle.row_store.specs.Databases.{database}
-use Rattle.schema_rules.specs.Lawful.{IsLawful}
+use Rattle.gho_values.specs.SchemaRules.Lawful.{IsLawful}
 use Rattle.plan_document.proofs.Opened.{found_is}
 use Rattle.plan_document.proofs.openings.opening_of.Goals as goal
 

@@ -1,6 +1,6 @@
 use Rattle.std.proofs.Common.{◌≡◌, List, sym, subst, ◌∙◌}
-use Rattle.gho_schema.specs.declared.schema.Column.{Column}
-use Rattle.gho_schema.specs.Tables.{IsRow}
+use Rattle.gho_values.specs.declared.gho_schema.schema.Column.{Column}
+use Rattle.gho_values.specs.GhoSchema.Tables.{IsRow}
 use Rattle.plan_tables.proofs.Putting.{is_new}
 use Rattle.plan_tables.proofs.rows.put_text.Goals as goal
 

@@ -1,5 +1,5 @@
 use Rattle.std.proofs.Common.{◌≡◌, ◌+◌, ◌≤◌, map, drop, length}
-use Rattle.gho_schema.specs.Tables.{IsTable}
+use Rattle.gho_values.specs.GhoSchema.Tables.{IsTable}
 use Rattle.plan_tables.specs.Rows.{put_texts}
 use Rattle.plan_tables.specs.Tables.{of_rows}
 use Rattle.plan_tables.proofs.rows.put_texts.Given as goal

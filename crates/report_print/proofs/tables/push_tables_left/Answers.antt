@@ -1,7 +1,7 @@
 use Rattle.std.proofs.Common.{◌++◌, ◌∙◌, ap, arith}
 use Rattle.std.proofs.lemmas.Bool.Decides.{nat_tests}
 use Rattle.row_store.specs.Databases.{Database, database}
-use Rattle.journal_words.specs.Serials.{tables_left}
+use Rattle.migration_program.specs.JournalWords.Serials.{tables_left}
 use Rattle.report_print.specs.Tables.{tables_text}
 use Rattle.report_print.proofs.Left.{left_by_one, left_in, prints_all, prints_one}
 use Rattle.report_print.proofs.tables.push_tables_left.Goals as goal

@@ -1,6 +1,6 @@
 use Rattle.std.proofs.Common.{◌≡◌, ◌++◌, drop}
 use Rattle.row_store.specs.Databases.{database}
-use Rattle.journal_words.specs.Serials.{tables_left}
+use Rattle.migration_program.specs.JournalWords.Serials.{tables_left}
 use Rattle.report_print.specs.Tables.{tables_text}
 use Rattle.report_print.proofs.Left.{left_in}
 use Rattle.report_print.proofs.tables.push_tables_left.Given as goal

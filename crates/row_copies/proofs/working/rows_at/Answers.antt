@@ -2,7 +2,7 @@ use Rattle.std.proofs.Common.{◌≡◌, List, Some, sym, ap, ◌∙◌}
 use Rattle.std.specs.List.{slice_get}
 use Rattle.std.proofs.lemmas.Result.{IfOk-weaker}
 use Rattle.gho_values.specs.declared.value.Value.{Value}
-use Rattle.gho_schema.specs.Clustering.{clustered_place}
+use Rattle.gho_values.specs.GhoSchema.Clustering.{clustered_place}
 use Rattle.row_copies.proofs.Points.{first_met}
 use Rattle.row_copies.proofs.working.rows_at.Goals as goal
 

@@ -1,6 +1,6 @@
 use Rattle.std.proofs.Common.{◌≡◌, length}
-use Rattle.gho_schema.specs.Rows.{key_of}
-use Rattle.gho_schema.specs.Tables.{no_null}
+use Rattle.gho_values.specs.GhoSchema.Rows.{key_of}
+use Rattle.gho_values.specs.GhoSchema.Tables.{no_null}
 use Rattle.row_store.proofs.comparing.has_no_null.Given as goal
 
 -- the values that are left decide

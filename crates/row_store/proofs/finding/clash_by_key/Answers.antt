@@ -1,6 +1,6 @@
 use Rattle.std.proofs.Common.{◌≡◌, ◌∙◌, ℕ, false, List, Option, refl, sym, ap}
 use Rattle.std.specs.Option.{option_copied}
-use Rattle.gho_schema.specs.Rows.{key_of}
+use Rattle.gho_values.specs.GhoSchema.Rows.{key_of}
 use Rattle.row_store.specs.RowLists.{is_at, clashes_by_key}
 use Rattle.row_store.proofs.Orders.{Row}
 use Rattle.row_store.proofs.FoundRows.{found_some, found_other, found_none}

@@ -2,7 +2,7 @@ use Rattle.std.proofs.Common.{◌≡◌, ◌-◌, ◌∙◌, ℕ, not, List, len
 use Rattle.std.specs.List.{prefix_len}
 use Rattle.std.proofs.lemmas.List.{take_rest}
 use Rattle.gho_values.specs.Spans.{above, below, has}
-use Rattle.gho_schema.specs.Rows.{key_of}
+use Rattle.gho_values.specs.GhoSchema.Rows.{key_of}
 use Rattle.row_store.proofs.Orders.{Row, fails_on, under_fails, below_fails}
 use Rattle.row_store.proofs.RowsBetween.{ascends-drop, start, between}
 use Rattle.row_store.proofs.places.rows_between.Goals as goal

@@ -2,7 +2,7 @@ use Rattle.std.proofs.Common.{rules, List, not}
 use Rattle.std.proofs.lemmas.List.Sorted.{IsPartitionPoint-from_clause}
 use Rattle.gho_values.specs.declared.value.Value.{Value}
 use Rattle.gho_values.specs.Spans.{above}
-use Rattle.gho_schema.specs.Rows.{key_of}
+use Rattle.gho_values.specs.GhoSchema.Rows.{key_of}
 use Rattle.row_store.proofs.Orders.{Row, fails_on, under_fails}
 use Rattle.row_store.proofs.Partitions.{partitioned, point_is}
 use Rattle.row_store.proofs.places.rows_under.Goals as goal

@@ -2,7 +2,7 @@ use Rattle.std.proofs.Common.{rules, List}
 use Rattle.std.proofs.lemmas.List.Sorted.{IsPartitionPoint-from_clause}
 use Rattle.gho_values.specs.declared.value.Value.{Value}
 use Rattle.gho_values.specs.Spans.{below}
-use Rattle.gho_schema.specs.Rows.{key_of}
+use Rattle.gho_values.specs.GhoSchema.Rows.{key_of}
 use Rattle.row_store.proofs.Orders.{Row, fails_on, below_fails}
 use Rattle.row_store.proofs.Partitions.{partitioned, point_is}
 use Rattle.row_store.proofs.places.rows_up_to.Goals as goal

@@ -1,5 +1,5 @@
 use Rattle.std.proofs.Common.{◌≡◌, drop}
-use Rattle.gho_schema.specs.Rows.{key_places}
+use Rattle.gho_values.specs.GhoSchema.Rows.{key_places}
 use Rattle.written_rows.specs.Written.{nothing, wrote_all}
 use Rattle.statement_replies.proofs.changing.written_by.Given as goal
 

@@ -1,5 +1,5 @@
 use Rattle.std.proofs.Common.{List, sym, ◌∙◌, subst}
-use Rattle.gho_schema.specs.Rows.{key_places}
+use Rattle.gho_values.specs.GhoSchema.Rows.{key_places}
 use Rattle.row_store.proofs.Orders.{Row}
 use Rattle.plain_server.specs.Rows.{reaches}
 use Rattle.statement_replies.specs.Updating.{AreMet}

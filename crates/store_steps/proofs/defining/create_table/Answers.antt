@@ -1,8 +1,8 @@
 use Rattle.std.proofs.Common.{List, sym, ◌∙◌, subst}
 use Rattle.row_store.specs.Databases.{StoredTable}
 use Rattle.paged_tables.specs.PagedDatabases.{stored_of}
-use Rattle.kept_txns.specs.Kept.{IsKept}
-use Rattle.kept_txns.proofs.Defined.{creating_keeps}
+use Rattle.store_steps.specs.KeptTxns.Kept.{IsKept}
+use Rattle.store_steps.proofs.KeptTxns.Defined.{creating_keeps}
 use Rattle.store_steps.proofs.defining.create_table.Goals as goal
 
 pub returns-in-Ok-clause-kept : goal.returns-in-Ok-clause-kept

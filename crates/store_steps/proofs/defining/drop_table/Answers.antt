@@ -1,7 +1,7 @@
 use Rattle.std.proofs.Common.{List, sym, ap, ◌∙◌, subst}
 use Rattle.row_store.specs.Databases.{StoredTable, database}
-use Rattle.kept_txns.specs.Kept.{IsKept}
-use Rattle.kept_txns.proofs.Defined.{dropped, dropping_keeps}
+use Rattle.store_steps.specs.KeptTxns.Kept.{IsKept}
+use Rattle.store_steps.proofs.KeptTxns.Defined.{dropped, dropping_keeps}
 use Rattle.store_steps.proofs.defining.drop_table.Goals as goal
 
 pub returns-clause-committed : goal.returns-clause-committed

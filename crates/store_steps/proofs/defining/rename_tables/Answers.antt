@@ -1,7 +1,7 @@
 use Rattle.std.proofs.Common.{List, sym, subst}
 use Rattle.row_store.specs.Databases.{StoredTable}
-use Rattle.kept_txns.specs.Kept.{IsKept}
-use Rattle.kept_txns.proofs.Defined.{renaming_keeps}
+use Rattle.store_steps.specs.KeptTxns.Kept.{IsKept}
+use Rattle.store_steps.proofs.KeptTxns.Defined.{renaming_keeps}
 use Rattle.store_steps.proofs.Outcomes.{either_way}
 use Rattle.store_steps.proofs.defining.rename_tables.Goals as goal
 

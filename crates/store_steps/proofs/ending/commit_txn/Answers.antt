@@ -1,10 +1,10 @@
 use Rattle.std.proofs.Common.{List, [], sym, ap, ◌∙◌, subst}
 use Rattle.row_store.specs.Databases.{database}
 use Rattle.plain_server.specs.Jobs.{after_events}
-use Rattle.open_txns.specs.declared.txns.OpenTxn.{OpenTxn}
-use Rattle.kept_txns.specs.Kept.{IsKeptWith, MayBeCommitted}
-use Rattle.kept_txns.proofs.Each.{none_written, taken_written}
-use Rattle.kept_txns.proofs.Ended.{committing_keeps, kept_may_be_committed, rolling_back_keeps}
+use Rattle.store_steps.specs.declared.open_txns.txns.OpenTxn.{OpenTxn}
+use Rattle.store_steps.specs.KeptTxns.Kept.{IsKeptWith, MayBeCommitted}
+use Rattle.store_steps.proofs.KeptTxns.Each.{none_written, taken_written}
+use Rattle.store_steps.proofs.KeptTxns.Ended.{committing_keeps, kept_may_be_committed, rolling_back_keeps}
 use Rattle.store_steps.proofs.ending.commit_txn.Goals as goal
 
 pub commit-requires : goal.commit-requires

@@ -1,7 +1,7 @@
 use Rattle.std.proofs.Common.{List, [], sym, subst}
-use Rattle.open_txns.specs.declared.txns.OpenTxn.{OpenTxn}
-use Rattle.kept_txns.specs.Kept.{IsKeptWith}
-use Rattle.kept_txns.proofs.Ended.{rolling_back_keeps}
+use Rattle.store_steps.specs.declared.open_txns.txns.OpenTxn.{OpenTxn}
+use Rattle.store_steps.specs.KeptTxns.Kept.{IsKeptWith}
+use Rattle.store_steps.proofs.KeptTxns.Ended.{rolling_back_keeps}
 use Rattle.store_steps.proofs.ending.roll_back_txn.Goals as goal
 
 pub returns : goal.returns

@@ -1,7 +1,7 @@
 use Rattle.std.proofs.Common.{sym, ap, ◌∙◌}
 use Rattle.std.proofs.lemmas.Result.{IfOk-weaker}
-use Rattle.gho_schema.specs.declared.schema.Schema.{Schema}
-use Rattle.gho_schema.specs.Clustering.{clustered_place}
+use Rattle.gho_values.specs.declared.gho_schema.schema.Schema.{Schema}
+use Rattle.gho_values.specs.GhoSchema.Clustering.{clustered_place}
 use Rattle.row_store.specs.Databases.{database}
 use Rattle.plain_server.specs.Locking.{span_lock, span_needs}
 use Rattle.store_steps.proofs.SpanLocks.{span_same}

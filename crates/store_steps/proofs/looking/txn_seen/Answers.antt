@@ -1,10 +1,10 @@
 use Rattle.std.proofs.Common.{ap, ◌∙◌}
 use Rattle.std.specs.Option.{option_map}
 use Rattle.row_store.specs.Databases.{database}
-use Rattle.kept_txns.proofs.TxnLaws.Kept.{begins}
-use Rattle.open_txns.specs.declared.txns.OpenTxn.{OpenTxn}
-use Rattle.open_txns.specs.Open.{written_in}
-use Rattle.kept_txns.proofs.Ended.{kept_may_be_committed}
+use Rattle.store_steps.proofs.KeptTxns.TxnLaws.Kept.{begins}
+use Rattle.store_steps.specs.declared.open_txns.txns.OpenTxn.{OpenTxn}
+use Rattle.store_steps.specs.OpenTxns.Open.{written_in}
+use Rattle.store_steps.proofs.KeptTxns.Ended.{kept_may_be_committed}
 use Rattle.store_steps.proofs.looking.txn_seen.Goals as goal
 
 pub returns-in-Some-clause-of : goal.returns-in-Some-clause-of

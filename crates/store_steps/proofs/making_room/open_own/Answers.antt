@@ -1,8 +1,8 @@
 use Rattle.std.proofs.Common.{◌≡◌, List, None, ap, ◌∙◌}
 use Rattle.std.specs.Prelude.{is_some}
-use Rattle.open_txns.specs.declared.txns.OpenTxn.{OpenTxn}
-use Rattle.open_txns.specs.Open.{txn_of}
-use Rattle.kept_txns.proofs.Grown.{opened_some, opening_keeps}
+use Rattle.store_steps.specs.declared.open_txns.txns.OpenTxn.{OpenTxn}
+use Rattle.store_steps.specs.OpenTxns.Open.{txn_of}
+use Rattle.store_steps.proofs.KeptTxns.Grown.{opened_some, opening_keeps}
 use Rattle.store_steps.proofs.Outcomes.{none_there}
 use Rattle.store_steps.proofs.making_room.open_own.Goals as goal
 

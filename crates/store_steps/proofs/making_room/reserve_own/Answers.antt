@@ -1,4 +1,4 @@
-use Rattle.kept_txns.proofs.Grown.{reserved_some, reserving_keeps}
+use Rattle.store_steps.proofs.KeptTxns.Grown.{reserved_some, reserving_keeps}
 use Rattle.store_steps.proofs.making_room.reserve_own.Goals as goal
 
 pub returns-clause-own : goal.returns-clause-own

@@ -2,8 +2,8 @@ use Rattle.std.proofs.Common.{◌≤◌, ◌+◌, length, sym, subst, arith}
 use Rattle.row_store.specs.Databases.{Database, spare_in}
 use Rattle.txn_session.specs.Premises.{HasSchema}
 use Rattle.txn_session.proofs.WrittenTxns.{ok_then}
-use Rattle.kept_txns.specs.Kept.{IsKept}
-use Rattle.kept_txns.proofs.Grown.{making_room_keeps, room_makes_ready}
+use Rattle.store_steps.specs.KeptTxns.Kept.{IsKept}
+use Rattle.store_steps.proofs.KeptTxns.Grown.{making_room_keeps, room_makes_ready}
 use Rattle.store_steps.proofs.making_room.reserve_table.Goals as goal
 
 pub returns-clause-ready : goal.returns-clause-ready

@@ -1,11 +1,11 @@
 use Rattle.std.proofs.Common.{◌≡◌, Option, Some, ◌∙◌, subst}
 use Rattle.std.specs.Prelude.{IfSome}
-use Rattle.gho_schema.specs.Rows.{key_of, key_places}
-use Rattle.gho_schema.specs.Tables.{Ascends}
+use Rattle.gho_values.specs.GhoSchema.Rows.{key_of, key_places}
+use Rattle.gho_values.specs.GhoSchema.Tables.{Ascends}
 use Rattle.event_codec.specs.declared.event.Change.TheVariants as changes
 use Rattle.row_store.specs.Databases.{TableRows, database, find_table}
 use Rattle.server_data.specs.Fitting.{FitsIn}
-use Rattle.statement_laws.specs.Databases.{WhereFound}
+use Rattle.plain_server.specs.StatementLaws.Databases.{WhereFound}
 use Rattle.txn_session.proofs.DoneEvents.{removal_done}
 use Rattle.txn_session.proofs.FoundTables.{Found, found_of}
 use Rattle.txn_session.proofs.applying.take_out.Goals as goal

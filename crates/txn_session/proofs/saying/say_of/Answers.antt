@@ -1,9 +1,9 @@
 use Rattle.std.proofs.Common.{sym, ap, ◌∙◌, subst}
-use Rattle.gho_schema.specs.declared.schema.Schema.{Schema}
+use Rattle.gho_values.specs.declared.gho_schema.schema.Schema.{Schema}
 use Rattle.plain_server.specs.declared.work.Work.{Work}
 use Rattle.plain_server.specs.Checking.{work_of}
-use Rattle.statement_laws.specs.Covering.{IsSound}
-use Rattle.statement_laws.proofs.Sound.{work_sound}
+use Rattle.plain_server.specs.StatementLaws.Covering.{IsSound}
+use Rattle.plain_server.proofs.StatementLaws.Sound.{work_sound}
 use Rattle.txn_session.proofs.saying.say_of.Goals as goal
 
 pub tell-requires-clause-sound : goal.tell-requires-clause-sound

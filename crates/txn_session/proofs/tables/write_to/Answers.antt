@@ -1,7 +1,7 @@
 use Rattle.std.proofs.Common.{◌≡◌, ◌<◌, ◌≤◌, ◌-◌, List, length, sym, ap, ◌∙◌, arith}
 use Rattle.std.specs.Prelude.{vec_len, vec_capacity}
 use Rattle.std.specs.List.{position_or_len}
-use Rattle.gho_schema.specs.declared.schema.Schema.{Schema}
+use Rattle.gho_values.specs.declared.gho_schema.schema.Schema.{Schema}
 use Rattle.written_rows.specs.Stored.{StoredWrites}
 use Rattle.txn_session.proofs.WrittenTables.{named, IsLaying, laying, laid_there, laid_behind, room_behind}
 use Rattle.txn_session.proofs.tables.write_to.Goals as goal

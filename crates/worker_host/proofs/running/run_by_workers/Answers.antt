@@ -1,6 +1,6 @@
 use Rattle.std.proofs.Common.{ap, ◌∙◌}
-use Rattle.worker_run.specs.declared.worked.Opening.{Opening}
-use Rattle.worker_run.specs.WorkedRuns.{WorkedView}
+use Rattle.worker_host.specs.declared.worker_run.worked.Opening.{Opening}
+use Rattle.worker_host.specs.WorkerRun.WorkedRuns.{WorkedView}
 use Rattle.worker_host.proofs.Ordering.{ran_ordered, ran_over, ran_stopped, ran_stands}
 use Rattle.worker_host.proofs.Passing.{by_passes}
 use Rattle.worker_host.proofs.running.run_by_workers.Goals as goal

@@ -1,7 +1,7 @@
 use Rattle.std.proofs.Common.{◌≡◌, List, filter, ap, ◌∙◌, sym, subst, Some, None}
 use Rattle.std.specs.Prelude.{IfOk}
 use Rattle.std.specs.List.{slice_get}
-use Rattle.gho_schema.specs.Clustering.{clustered_place}
+use Rattle.gho_values.specs.GhoSchema.Clustering.{clustered_place}
 use Rattle.row_store.proofs.Orders.{Row}
 use Rattle.plain_server.specs.Rows.{lies_under}
 use Rattle.written_rows.proofs.MetRows.{none_reached, reached_in}

@@ -1,7 +1,7 @@
 use Rattle.std.proofs.Common.{◌≡◌, ◌≤◌, length, drop}
 use Rattle.std.specs.List.{AllByRecursion}
-use Rattle.gho_schema.specs.Rows.{key_places}
-use Rattle.gho_schema.specs.Tables.{Ascends}
+use Rattle.gho_values.specs.GhoSchema.Rows.{key_places}
+use Rattle.gho_values.specs.GhoSchema.Tables.{Ascends}
 use Rattle.written_rows.specs.Written.{seen, with_keys}
 use Rattle.written_rows.specs.Fitting.{IsWritten}
 use Rattle.written_rows.proofs.moving.lay_over.Given as goal

@@ -1,6 +1,6 @@
 use Rattle.std.proofs.Common.{◌≡◌, ◌+◌, ◌≤◌, length, Some, ap, ◌∙◌, sym, arith, not}
-use Rattle.gho_schema.specs.declared.schema.Schema.{Schema}
-use Rattle.gho_schema.specs.Rows.{key_of, key_places}
+use Rattle.gho_values.specs.declared.gho_schema.schema.Schema.{Schema}
+use Rattle.gho_values.specs.GhoSchema.Rows.{key_of, key_places}
 use Rattle.row_store.specs.RowLists.{is_at, without_key}
 use Rattle.row_store.specs.Databases.{row_at_key}
 use Rattle.row_store.proofs.Orders.{Row}

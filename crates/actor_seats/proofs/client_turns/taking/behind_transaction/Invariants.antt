@@ -1,5 +1,5 @@
 use Rattle.std.proofs.Common.{◌≡◌, drop}
-use Rattle.journal_words.specs.Clients.{behind_transaction}
+use Rattle.migration_program.specs.JournalWords.Clients.{behind_transaction}
 use Rattle.actor_seats.proofs.client_turns.taking.behind_transaction.Given as goal
 
 -- none of the lines so far closes the transaction

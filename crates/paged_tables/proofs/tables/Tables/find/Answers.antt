@@ -1,5 +1,5 @@
 use Rattle.std.proofs.Common.{◌∙◌, ap, option_map, Option}
-use Rattle.row_pages.specs.StoredRows.{PagedTable}
+use Rattle.paged_tables.specs.RowPages.StoredRows.{PagedTable}
 use Rattle.row_store.specs.Databases.{StoredTable, find_stored, find_table, database}
 use Rattle.row_store.proofs.NamedTables.{find-database}
 use Rattle.paged_tables.specs.PagedDatabases.{stored_of, stored}

@@ -1,5 +1,5 @@
 use Rattle.std.proofs.Common.{◌≡◌, length}
-use Rattle.gho_schema.specs.Rows.{key_of}
+use Rattle.gho_values.specs.GhoSchema.Rows.{key_of}
 use Rattle.row_store.proofs.key_values.KeyValuesIterator.next.Given as goal
 
 -- the places that are passed over had no value

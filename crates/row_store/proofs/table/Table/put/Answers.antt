@@ -1,6 +1,6 @@
 use Rattle.std.proofs.Common.{◌≡◌, ◌∙◌, subst, sym}
-use Rattle.gho_schema.specs.Rows.{key_places, with_row}
-use Rattle.gho_schema.specs.Tables.{Ascends}
+use Rattle.gho_values.specs.GhoSchema.Rows.{key_places, with_row}
+use Rattle.gho_values.specs.GhoSchema.Tables.{Ascends}
 use Rattle.row_store.proofs.Ascending.{ascends-with_row}
 use Rattle.row_store.proofs.FoundRows.{put_is}
 use Rattle.row_store.proofs.table.Table.put.Goals as goal

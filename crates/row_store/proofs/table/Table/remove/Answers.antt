@@ -1,7 +1,7 @@
 use Rattle.std.proofs.Common.{◌≡◌, ◌∙◌, not, find, None, length, refl, subst, sym}
 use Rattle.std.proofs.lemmas.Option.{slice_get_read}
-use Rattle.gho_schema.specs.Rows.{key_places}
-use Rattle.gho_schema.specs.Tables.{Ascends}
+use Rattle.gho_values.specs.GhoSchema.Rows.{key_places}
+use Rattle.gho_values.specs.GhoSchema.Tables.{Ascends}
 use Rattle.row_store.specs.RowLists.{is_at, StandsAt}
 use Rattle.row_store.proofs.Orders.{Row}
 use Rattle.row_store.proofs.Ascending.{ascends-filter}

@@ -1,7 +1,7 @@
 use Rattle.std.proofs.Common.{rules, ◌≡◌, ◌-◌, ◌<◌, length, Some, sym, ap, ◌∙◌}
 use Rattle.std.specs.List.{slice_get}
 use Rattle.std.proofs.lemmas.Option.{slice_get-get_or}
-use Rattle.journal_words.specs.Clients.{Reached, script_of, client_at, client_asks}
+use Rattle.migration_program.specs.JournalWords.Clients.{Reached, script_of, client_at, client_asks}
 use Rattle.actor_seats.specs.ClientTurns.Seats.{IsReached, asks_so}
 use Rattle.turn_book.proofs.Clients.{seat_within, client_reached, asks_is}
 use Rattle.turn_book.proofs.Results.{if_ok}

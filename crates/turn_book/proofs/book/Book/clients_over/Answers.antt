@@ -2,7 +2,7 @@ use Rattle.std.proofs.Common.{rules, ◌≡◌, ◌+◌, ◌<◌, List, length, 
 use Rattle.std.specs.List.{slice_get}
 use Rattle.std.proofs.lemmas.Option.{slice_get-get_or}
 use Rattle.script_text.specs.declared.script.ScriptLine.{ScriptLine}
-use Rattle.journal_words.specs.Clients.{client_at, client_over}
+use Rattle.migration_program.specs.JournalWords.Clients.{client_at, client_over}
 use Rattle.actor_seats.specs.ClientTurns.Seats.{IsReached}
 use Rattle.turn_book.proofs.Clients.{same_count, reached_here, over_stops, over_goes}
 use Rattle.turn_book.proofs.book.Book.clients_over.Goals as goal

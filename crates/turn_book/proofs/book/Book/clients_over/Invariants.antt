@@ -1,5 +1,5 @@
 use Rattle.std.proofs.Common.{◌≡◌, ℕ, ◌+◌, List, drop}
-use Rattle.journal_words.specs.Clients.{all_over, clients_over}
+use Rattle.migration_program.specs.JournalWords.Clients.{all_over, clients_over}
 use Rattle.turn_book.proofs.book.Book.clients_over.Given as goal
 
 -- the clients from here on decide

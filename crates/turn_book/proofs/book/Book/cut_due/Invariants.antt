@@ -1,5 +1,5 @@
 use Rattle.std.proofs.Common.{◌≡◌, drop}
-use Rattle.journal_words.specs.Keeping.{cut_among, cut_due}
+use Rattle.migration_program.specs.JournalWords.Keeping.{cut_among, cut_due}
 use Rattle.turn_book.proofs.book.Book.cut_due.Given as goal
 
 -- none of the losses so far can be taken

@@ -2,7 +2,7 @@ use Rattle.std.proofs.Common.{rules, ◌≡◌, ◌-◌, ◌<◌, length, Some, 
 use Rattle.std.specs.Prelude.{is_some}
 use Rattle.std.specs.List.{slice_get}
 use Rattle.std.proofs.lemmas.Option.{slice_get-get_or}
-use Rattle.journal_words.specs.Clients.{script_of, client_at}
+use Rattle.migration_program.specs.JournalWords.Clients.{script_of, client_at}
 use Rattle.turn_book.proofs.Clients.{seat_within, client_reached, asks_is}
 use Rattle.turn_book.proofs.book.Book.is_client_ready.Goals as goal
 

@@ -1,7 +1,7 @@
 use Rattle.std.proofs.Common.{rules, ◌≡◌, ◌≤◌, ℕ, ◌+◌, ◌∙◌, ap, length, List, arith}
 use Rattle.actor_seats.specs.declared.seat.ActorSeat.{ActorSeat}
-use Rattle.journal_words.specs.Journals.{turns_of}
-use Rattle.journal_words.specs.Keeping.{struck_among}
+use Rattle.migration_program.specs.JournalWords.Journals.{turns_of}
+use Rattle.migration_program.specs.JournalWords.Keeping.{struck_among}
 use Rattle.turn_book.specs.Books.{seat_in, turns_in}
 use Rattle.turn_book.proofs.Seats.{planned_seat, turns_few}
 use Rattle.turn_book.proofs.book.Book.side_due.Goals as goal

@@ -1,8 +1,8 @@
 use Rattle.std.proofs.Common.{List, sym, subst}
 use Rattle.plain_server.specs.declared.entry.Entry.{Entry}
 use Rattle.plan_words.specs.PlanData.{PlanData}
-use Rattle.run_turns.specs.Running.{IsRun}
-use Rattle.run_turns.proofs.Served.{run_begin}
+use Rattle.whole_run.specs.RunTurns.Running.{IsRun}
+use Rattle.whole_run.proofs.RunTurns.Served.{run_begin}
 use Rattle.whole_run.proofs.run.Run.open.Goals as goal
 
 pub invariant_of-result : goal.invariant_of-result

@@ -1,4 +1,4 @@
-use Rattle.gho_schema.specs.Rows.{key_places}
+use Rattle.gho_values.specs.GhoSchema.Rows.{key_places}
 use Rattle.written_rows.proofs.KeyTables.{are_keys, ascend_keys}
 use Rattle.written_rows.proofs.keys.KeySet.keys.Goals as goal
 

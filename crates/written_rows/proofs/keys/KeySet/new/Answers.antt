@@ -1,5 +1,5 @@
 use Rattle.std.proofs.Common.{length, ap, ◌∙◌}
-use Rattle.gho_schema.specs.Rows.{key_places}
+use Rattle.gho_values.specs.GhoSchema.Rows.{key_places}
 use Rattle.written_rows.proofs.KeyTables.{new_key_table, length-counted}
 use Rattle.written_rows.proofs.keys.KeySet.new.Goals as goal
 

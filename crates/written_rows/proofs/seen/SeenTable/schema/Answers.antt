@@ -1,4 +1,4 @@
-use Rattle.gho_schema.specs.Rows.{key_places}
+use Rattle.gho_values.specs.GhoSchema.Rows.{key_places}
 use Rattle.written_rows.proofs.SeenRows.{ascends-seen}
 use Rattle.written_rows.proofs.seen.SeenTable.schema.Goals as goal
 

@@ -1,5 +1,5 @@
 use Rattle.written_rows.specs.Written.{Written, written_over}
-use Rattle.gho_schema.specs.Rows.{key_places}
+use Rattle.gho_values.specs.GhoSchema.Rows.{key_places}
 use Rattle.written_rows.proofs.StoredWrites.{stored_as, laid_over}
 use Rattle.written_rows.proofs.written.WrittenRows.lay_over.Goals as goal
 

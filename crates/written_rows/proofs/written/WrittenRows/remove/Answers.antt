@@ -1,4 +1,4 @@
-use Rattle.gho_schema.specs.Rows.{key_places}
+use Rattle.gho_values.specs.GhoSchema.Rows.{key_places}
 use Rattle.written_rows.specs.Written.{Written, removed}
 use Rattle.written_rows.proofs.SeenChanges.{is_removed}
 use Rattle.written_rows.proofs.StoredWrites.{stored_as, removed_rows}

@@ -1,5 +1,5 @@
 use Rattle.std.proofs.Common.{◌≤◌, ◌∙◌, ℕ, length, sym, subst}
-use Rattle.gho_schema.specs.Rows.{key_places}
+use Rattle.gho_values.specs.GhoSchema.Rows.{key_places}
 use Rattle.row_store.proofs.Orders.{Row}
 use Rattle.written_rows.specs.Written.{Written, stored}
 use Rattle.written_rows.proofs.KeyTables.{length_key}

@@ -1,9 +1,0 @@
-//! What every accepted plan has, so that the laws over journals speak of it.
-#![tactic(auto)]
-
-pub mod laws;
-pub mod option_laws;
-pub mod plan_laws;
-mod reading;
-
-pub use reading::read_accepted_plan;

@@ -1,0 +1,8 @@
+//! What every accepted plan has, so that the laws over journals speak of it.
+
+pub mod laws;
+pub mod option_laws;
+pub mod plan_laws;
+mod reading;
+
+pub use reading::read_accepted_plan;

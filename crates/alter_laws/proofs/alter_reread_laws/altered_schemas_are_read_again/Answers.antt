@@ -1,5 +1,0 @@
-use Rattle.alter_laws.proofs.AlterRereadLaws.Whole.{altered-again}
-use Rattle.alter_laws.proofs.alter_reread_laws.altered_schemas_are_read_again.Goals as goal
-
-pub returns : goal.returns
-returns c = altered-again c.stored_values_store_again.ensures

@@ -1,2 +1,0 @@
-pub mod Copiers
-pub mod Walking

@@ -1,0 +1,30 @@
+//! What an actor asks in its turn.
+
+ghost use Rattle.std.specs.Prelude.{◌≡◌};
+ghost use Rattle.due_turns.specs.MigrationRun.Turning.{is_lost_in};
+
+use plain_server::Asked;
+use script_text::{Actor, Side};
+
+/// What an actor asks in its turn, and where its session is lost in it.
+#[derive(Debug, Drop)]
+pub struct Turn {
+    /// Whose turn it is.
+    pub actor: Actor,
+    /// Where the session is lost: before the call is done, or after.
+    pub side: Option<Side>,
+    /// What is asked.
+    pub asked: Asked,
+}
+
+impl Turn {
+    /// Whether the session is lost in the turn, in a call or between calls. It takes no memory.
+    pub fn is_lost(&self) -> bool
+        ensures { result ≡ is_lost_in self.now.side self.now.asked }
+    {
+        match (self.side, &self.asked) {
+            (None, Asked::Cut) | (Some(_), _) => true,
+            (None, _) => false,
+        }
+    }
+}

@@ -1,2 +1,0 @@
-pub mod Appliers
-pub mod Planning

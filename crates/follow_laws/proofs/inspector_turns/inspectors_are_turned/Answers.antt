@@ -1,5 +1,0 @@
-use Rattle.follow_laws.proofs.InspectorTurns.Inspectors.{inspectors_turned}
-use Rattle.follow_laws.proofs.inspector_turns.inspectors_are_turned.Goals as goal
-
-pub returns : goal.returns
-returns c = inspectors_turned c.entries_are_turns.ensures c.hints_are_known.ensures

@@ -1,7 +1,0 @@
-pub mod Clustering
-pub mod KeyedRows
-pub mod Laws
-pub mod Names
-pub mod Options
-pub mod Rows
-pub mod Tables

@@ -1,0 +1,61 @@
+-- What an ALTER makes of rows: *image of a row* (MySQL's manual, "ALTER TABLE Statement", as one mapping of the whole
+-- table).
+use Rattle.std.specs.Prelude.{◌≡◌, ℕ, ◌+◌, List, [], ◌∷◌, unwrap_or, Option, Some, Result, Ok, Err}
+use Rattle.std.specs.List.{slice_get}
+use Rattle.std.specs.Result.{result_ok}
+use Rattle.gho_values.specs.declared.value.Value.{Value}
+use Rattle.gho_values.specs.declared.value.Value.TheVariants.{Null}
+use Rattle.gho_values.specs.declared.fault.Unfit.{Unfit}
+use Rattle.gho_values.specs.Storing.{stores}
+use Rattle.gho_values.specs.GhoSchema.Options.{◌>>=◌}
+use Rattle.gho_values.specs.declared.alter_image.map.MapColumn.{MapColumn}
+use Rattle.gho_values.specs.declared.alter_image.map.Origin.{Origin}
+use Rattle.gho_values.specs.declared.alter_image.map.Origin.TheVariants.{Old, Added}
+use Rattle.gho_values.specs.declared.alter_image.image_fault.UnfitAt.{UnfitAt}
+use Rattle.gho_values.specs.declared.alter_image.image_fault.ImageFault.{ImageFault}
+use Rattle.gho_values.specs.declared.alter_image.image_fault.ImageFault.TheVariants as faults
+
+-- What a new column gets from a row before it stores it: the old value, or the added default. A row without the old
+-- place has no value there, which is null.
+abbrev pub source : Origin → List Value → Value
+source (Old place) row = unwrap_or (slice_get row place) Null
+source (Added value) row = value
+
+-- a column's stored value before the others
+abbrev pub before : Value → Result (List Value) UnfitAt → Result (List Value) UnfitAt
+before value (Ok values) = Ok (value ∷ values)
+before value (Err unfit) = Err unfit
+
+-- the column's value, or that it is the first that refuses
+abbrev pub value_first : ℕ → Result Value Unfit → Result (List Value) UnfitAt → Result (List Value) UnfitAt
+value_first column (Ok value) others = before value others
+value_first column (Err reason) others = Err (record { column = column; unfit = reason })
+
+-- the image of a row in the new columns from this place on
+unfoldable pub image_from : ℕ → List MapColumn → List Value → Result (List Value) UnfitAt
+image_from column [] row = Ok []
+image_from column (new ∷ others) row = value_first column (stores (source new.origin row) new.kind new.nullable) (image_from (column + 1) others row)
+
+-- *Image of a row*: what each new column stores, or the first new column that refuses and why.
+abbrev pub image : List MapColumn → List Value → Result (List Value) UnfitAt
+image map row = image_from 0 map row
+
+-- What the code answers is the image, unless memory ran out.
+abbrev pub Images : Result (List Value) ImageFault → Result (List Value) UnfitAt → Type 0
+Images (Ok row) said = said ≡ Ok row
+Images (Err faults.Memory) said = Unit {0}
+Images (Err (faults.Unfit unfit)) said = said ≡ Err unfit
+
+-- What the code answers for one column is what it stores, unless memory ran out.
+abbrev pub Fits : ℕ → Result Value ImageFault → Result Value Unfit → Type 0
+Fits column (Ok value) said = said ≡ Ok value
+Fits column (Err faults.Memory) said = Unit {0}
+Fits column (Err (faults.Unfit unfit)) said = (said ≡ Err unfit.unfit) × (unfit.column ≡ column)
+
+-- the image of every row, where each has one
+unfoldable pub images : List MapColumn → List (List Value) → Option (List (List Value))
+images map [] = Some []
+images map (row ∷ rows) = do
+  first ← result_ok (image map row)
+  others ← images map rows
+  Some (first ∷ others)

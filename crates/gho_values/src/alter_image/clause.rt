@@ -1,0 +1,69 @@
+//! The clauses of ALTER TABLE.
+
+use crate::{Kind, Name, Names, Sequence, Value};
+
+/// One clause of ALTER TABLE (MySQL's manual, "ALTER TABLE Statement").
+#[derive(Debug, Drop)]
+pub enum Clause {
+    /// ADD COLUMN.
+    Add {
+        /// The added column.
+        column: NewColumn,
+        /// Where it stands.
+        spot: Spot,
+    },
+    /// DROP COLUMN.
+    Drop(Name),
+    /// RENAME COLUMN.
+    Rename {
+        /// The column's name before.
+        old: Name,
+        /// Its name afterwards.
+        new: Name,
+    },
+    /// CHANGE COLUMN, and MODIFY COLUMN with one name.
+    Change {
+        /// The column's name before.
+        old: Name,
+        /// What it is afterwards.
+        column: NewColumn,
+        /// Where it stands.
+        spot: Spot,
+    },
+    /// ADD INDEX.
+    AddIndex {
+        /// The index's name, where one is written.
+        name: Option<Name>,
+        /// The names of its columns, in order.
+        columns: Names,
+    },
+    /// DROP INDEX.
+    DropIndex(Name),
+}
+
+/// A column as a clause writes it.
+#[derive(Debug, Drop)]
+pub struct NewColumn {
+    /// Its name.
+    pub name: Name,
+    /// The kind of its values.
+    pub kind: Kind,
+    /// NULL or NOT NULL, where one is written.
+    pub nullable: Option<bool>,
+    /// The DEFAULT, where one is written.
+    pub default: Option<Value>,
+}
+
+/// Where a clause puts its column.
+#[derive(Debug, Drop)]
+pub enum Spot {
+    /// Nothing is written.
+    Unsaid,
+    /// FIRST.
+    First,
+    /// AFTER the column of this name.
+    After(Name),
+}
+
+/// Clauses in order.
+pub type Clauses = Sequence<Clause>;

@@ -1,0 +1,48 @@
+//! Where the values of an altered table's columns come from.
+
+ghost use Rattle.std.specs.Prelude.{◌≡◌, IfOk};
+
+use crate::{Duplicate, Kind, Sequence, Value};
+use std::alloc::AllocError;
+
+/// A new column: what it stores, and of what.
+#[derive(Debug, Drop)]
+pub struct MapColumn {
+    /// The kind of its values.
+    pub kind: Kind,
+    /// Whether it may be null.
+    pub nullable: bool,
+    /// Where its values come from.
+    pub origin: Origin,
+}
+
+/// Where a new column's values come from.
+#[derive(Debug, Drop)]
+pub enum Origin {
+    /// The old column at this place, from 0.
+    Old(u32),
+    /// Nowhere: the column was added, and gets this default.
+    Added(Value),
+}
+
+/// The new columns in order.
+pub type ColumnMap = Sequence<MapColumn>;
+
+impl Duplicate for Origin {
+    fn copy(&self) -> Result<Origin, AllocError> {
+        Ok(match self {
+            Origin::Old(place) => Origin::Old(*place),
+            Origin::Added(value) => Origin::Added(value.copy()?),
+        })
+    }
+}
+
+impl Duplicate for MapColumn {
+    fn copy(&self) -> Result<MapColumn, AllocError> {
+        Ok(MapColumn {
+            kind: self.kind,
+            nullable: self.nullable,
+            origin: self.origin.copy()?,
+        })
+    }
+}

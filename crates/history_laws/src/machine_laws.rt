@@ -1,0 +1,3 @@
+//! What holds of the tool's machines and their sessions: laws over journals, as contracts of functions that do nothing.
+
+pub mod laws;

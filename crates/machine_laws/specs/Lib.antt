@@ -1,8 +1,0 @@
-pub mod Standings
-pub mod Machines
-pub mod Scripts
-pub mod Tabling
-pub mod Forming
-pub mod Keying
-pub mod Runnable
-pub mod Laws

@@ -1,4 +1,0 @@
-pub mod Connecting
-pub mod Counted
-pub mod Results
-pub mod Weights

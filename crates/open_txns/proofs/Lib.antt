@@ -1,3 +1,0 @@
-pub mod OpenRows
-pub mod OpenTxns
-pub mod Changed

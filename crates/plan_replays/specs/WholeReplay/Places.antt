@@ -1,0 +1,29 @@
+-- *Place*: what is left of a replay's order, as the code keeps it, and the queue that it stands for. (This project's rule.)
+use Rattle.std.specs.Prelude.{ℕ, ◌-◌, List, [], ◌∷◌, ◌++◌, drop, Option, Some, None}
+use Rattle.std.specs.List.{flat_map, repeat}
+use Rattle.script_text.specs.declared.actor.Actor.{Actor}
+use Rattle.plan_words.specs.PlanData.{PlanData}
+use Rattle.plan_words.specs.declared.runs.ActorRun.{ActorRun}
+use Rattle.migration_program.specs.Orders.{actors, Queue, Choice, Found}
+use Rattle.plan_replays.specs.declared.whole_replay.place.Place.{Place}
+use Rattle.plan_replays.specs.declared.whole_replay.place.NextTurn.{NextTurn}
+
+-- the words of runs, each as often as it stands
+abbrev pub words_of_runs : List ActorRun → List Actor
+words_of_runs runs = flat_map (λ run. repeat run.times (run.actor ∷ [])) runs
+
+-- the same, where so many words of the first run are behind
+unfoldable pub words_from : ℕ → List ActorRun → List Actor
+words_from used [] = []
+words_from used (run ∷ runs) = repeat (run.times - used) (run.actor ∷ []) ++ words_of_runs runs
+
+abbrev pub queue_of : PlanData → Place → Queue
+queue_of plan place = record { words = words_from place.used (drop place.run plan.turns); round = drop place.actor (actors plan) }
+
+abbrev pub choice_of : PlanData → NextTurn → Choice
+choice_of plan next = record { actor = next.actor; queue = queue_of plan next.behind }
+
+-- the choice by a word, with the pass as it was
+abbrev pub by_word : List Actor → Option Found → Option Choice
+by_word round None = None
+by_word round (Some found) = Some (record { actor = found.actor; queue = record { words = found.behind; round = round } })

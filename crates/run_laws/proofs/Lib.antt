@@ -1,7 +1,0 @@
-pub mod Numbering
-pub mod Tallies
-pub mod Turns
-pub mod Living
-pub mod Waits
-pub mod Taking
-pub mod Keeping

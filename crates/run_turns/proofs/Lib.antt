@@ -1,4 +1,0 @@
-pub mod Planned
-mod Ranging
-pub mod Results
-pub mod Served

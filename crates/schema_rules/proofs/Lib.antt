@@ -1,5 +1,0 @@
-pub mod FreeNames
-pub mod Lists
-pub mod Loops
-pub mod SameNames
-pub mod Steps

@@ -1,4 +1,0 @@
-pub mod Laws
-pub mod Sentries
-pub mod Turning
-pub mod Turns

@@ -1,0 +1,2 @@
+-- The row locks that a statement's work needs, of a table as a transaction sees it.
+pub mod Pieces

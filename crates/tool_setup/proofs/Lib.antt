@@ -1,2 +1,0 @@
-pub mod Altered
-pub mod Commands

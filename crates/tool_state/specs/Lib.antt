@@ -1,3 +1,0 @@
-pub mod TryTurns
-pub mod Meanings
-pub mod Sound

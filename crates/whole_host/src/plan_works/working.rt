@@ -1,0 +1,77 @@
+//! The run of a plan by workers.
+
+ghost use Rattle.std.specs.Prelude.{◌≡◌, ◌≤◌, Some, IfSome, IfOk};
+ghost use Rattle.migration_program.specs.JournalWords.Journals.{opening};
+ghost use Rattle.migration_program.specs.Verdicts.{verdict_of};
+ghost use Rattle.accepted_runs.specs.AcceptedLaws.Laws.{WasRead};
+ghost use Rattle.desk_workers.specs.declared.ending.Ending.TheVariants as endings;
+ghost use Rattle.plan_replays.specs.Replays.{IsEnd};
+ghost use Rattle.whole_host.specs.PlanWorks.Works.{IsWholeRun};
+
+use crate::worker_laws::laws::read_plans_go;
+use accepted_runs::accepted_laws::laws::read_plans_are_runnable;
+use gho_edges::Gate;
+use plain_server::{Journal, Verdict};
+use plan_replays::laws::kept_runs_are_sound;
+use plan_replays::{End, end_with};
+use plan_words::Plan;
+use serving::Serve;
+use std::alloc::{AllocError, Global};
+use std::sync::Wait;
+use std::thread::Threads;
+use whole_run::Run;
+use worker_host::worker_run::Turns;
+use worker_host::{Ending, run_by_workers};
+
+/// What a run by workers leaves.
+#[derive(Drop)]
+pub struct Left<V: Serve> {
+    /// The turns that were taken.
+    pub journal: Journal,
+    /// Which worker took each of them, and whose it was.
+    pub turns: Turns,
+    /// How it ended; none where memory ran out before.
+    pub end: Option<End<V>>,
+}
+
+/// The verdict of a run, unless memory ran out.
+fn verdict_after<V: Serve>(run: &Run<'_, V>, ending: Ending) -> Option<Verdict>
+    ensures verdict { IfSome result (λ verdict. verdict ≡ verdict_of run.now.plan run.now.journal) }
+    ensures over { IfSome result (λ verdict. ending ≡ endings.Over) }
+{
+    match ending {
+        Ending::NoMemory => None,
+        Ending::Over => run.verdict().ok(),
+    }
+}
+
+/// Runs a plan that was read by so many worker threads, on a server at its opening, until the run is over. Where there is no memory
+/// for a turn, those before it are left. Workers wait for each other's turns.
+pub fn work_plan<V: Serve + Send, R: Threads + Wait + Sync, G: Gate + Sync>(
+    rt: &R,
+    alloc: Global,
+    plan: &Plan,
+    server: V,
+    workers: u32,
+    gate: &G,
+) -> Result<Left<V>, AllocError>
+    requires some { 1 ≤ workers }
+    requires few { workers ≤ 16 }
+    requires read { WasRead plan.now }
+    requires server { V.state server ≡ opening plan.now }
+    ensures run { IfOk result (λ left. IsWholeRun plan.now left.journal left.turns.items workers) }
+    ensures end { IfOk result (λ left. IfSome left.end (λ end. IsEnd plan.now left.journal end.verdict (V.state end.server))) }
+{
+    kept_runs_are_sound();
+    read_plans_are_runnable();
+    read_plans_go();
+    let opened = Run::open(alloc, plan, server)?;
+    let ran = run_by_workers(rt, alloc, opened, workers, gate)?;
+    let verdict = verdict_after(&ran.run, ran.ending);
+    let (server, journal) = ran.run.stop();
+    Ok(Left {
+        journal,
+        turns: ran.turns,
+        end: end_with(verdict, server),
+    })
+}

@@ -1,0 +1,64 @@
+use Rattle.std.proofs.Common.{rules, ◌≡◌, ◌<◌, ℕ, Option, true, false, refl, sym, ap, ◌∙◌}
+use Rattle.plain_server.specs.Entries.{is_command}
+use Rattle.plain_server.specs.States.{has_work}
+use Rattle.migration_program.specs.JournalWords.Journals.{after_entry}
+use Rattle.migration_program.specs.JournalWords.Sessions.{live_session}
+use Rattle.due_turns.specs.declared.migration_run.turning.Taken.{Taken}
+use Rattle.due_turns.specs.MigrationRun.Turning.{session_for, entry_on}
+use Rattle.turn_book.proofs.Results.{if_ok}
+use Rattle.due_turns.specs.Due.{session_at, next_entry}
+use Rattle.whole_run.proofs.RunTurns.Results.{ok_then}
+use Rattle.whole_run.proofs.RunTurns.Served.{session_is, command_session, command_still, command_side, book_counts, may_turn, entry_of_command, entry_of_session, session_of_entry}
+use Rattle.whole_run.proofs.run_turns.answering.serve_turn.Goals as goal
+
+pub command_turn-requires-clause-side : goal.command_turn-requires-clause-side
+command_turn-requires-clause-side g c = command_side c.args.book.now.plan.now c.args.book.now.journal.items c.args.turn c.requires.due (sym c.is_command.ensures ∙ c.if-is_command.true)
+
+pub command_turn-requires-clause-counts : goal.command_turn-requires-clause-counts
+command_turn-requires-clause-counts g c =
+    book_counts c.args.book.now.plan.now c.args.book.now.journal.items c.args.book.now c.args.sessions.now (g.V.Serve.state c.args.server.now) (record { load = c.args.book.now.load; busy = c.args.book.now.busy }) c.requires.run refl refl
+
+pub returns-then-is_command-clause-work : goal.returns-then-is_command-clause-work
+returns-then-is_command-clause-work g c =
+    let command : is_command c.args.turn.asked ≡ true = sym c.is_command.ensures ∙ c.if-is_command.true in
+    let own = live_session c.args.book.now.journal.items c.args.turn.actor in
+    let made = (g.V.Serve.state c.args.server.now).made in
+    c.command_turn.ensures.work
+    ∙ ap (has_work (g.V.Serve.state c.args.server.now)) (sym (session_of_entry (g.V.Serve.state c.args.server.now) (session_at c.args.turn.asked own made) c.args.turn ∙ command_session c.args.turn.asked own made command))
+
+pub returns-then-is_command-clause-ok : goal.returns-then-is_command-clause-ok
+returns-then-is_command-clause-ok g c =
+    let command : is_command c.args.turn.asked ≡ true = sym c.is_command.ensures ∙ c.if-is_command.true in
+    sym
+    (ap (after_entry (g.V.Serve.state c.args.server.now)) (sym (entry_of_command c.args.book.now.journal.items (g.V.Serve.state c.args.server.now) c.args.turn command))
+    ∙ command_still (g.V.Serve.state c.args.server.now) c.args.turn command (command_side c.args.book.now.plan.now c.args.book.now.journal.items c.args.turn c.requires.due command))
+
+pub take_turn-requires-clause-may : goal.take_turn-requires-clause-may
+take_turn-requires-clause-may g c =
+    let less : c.args.sessions.now < 4294967295 = search rules in
+    rw c.session-session.ensures
+    (may_turn c.args.book.now.plan.now c.args.book.now.journal.items c.args.book.now c.args.sessions.now (g.V.Serve.state c.args.server.now) c.args.turn c.requires.run c.requires.due (sym c.is_command.ensures ∙ c.if-is_command.false) less)
+
+pub take_turn-requires-clause-counts : goal.take_turn-requires-clause-counts
+take_turn-requires-clause-counts g c =
+    book_counts c.args.book.now.plan.now c.args.book.now.journal.items c.args.book.now c.args.sessions.now (g.V.Serve.state c.args.server.now) (record { load = c.args.book.now.load; busy = c.args.book.now.busy }) c.requires.run refl refl
+
+pub returns-clause-work : goal.returns-clause-work
+returns-clause-work g c =
+    let called : is_command c.args.turn.asked ≡ false = sym c.is_command.ensures ∙ c.if-is_command.false in
+    let state = g.V.Serve.state c.args.server.now in
+    let own = live_session c.args.book.now.journal.items c.args.turn.actor in
+    if_ok c.take_turn.result (λ (taken : Taken). taken.had_work ≡ has_work state (session_for c.session-session.result state.made)) (λ (taken : Taken). taken.had_work ≡ has_work state (next_entry c.args.book.now.journal.items state c.args.turn).session) c.take_turn.ensures.work
+    (λ taken is.
+    is ∙ ap (λ (session : Option ℕ). has_work state (session_for session state.made)) c.session-session.ensures
+    ∙ ap (has_work state) (sym (session_of_entry state (session_at c.args.turn.asked own state.made) c.args.turn ∙ session_is c.args.turn.asked own state.made called)))
+
+pub returns-clause-ok : goal.returns-clause-ok
+returns-clause-ok g c =
+    let called : is_command c.args.turn.asked ≡ false = sym c.is_command.ensures ∙ c.if-is_command.false in
+    let state = g.V.Serve.state c.args.server.now in
+    ok_then c.take_turn.result (g.V.Serve.state c.take_turn.new.server ≡ after_entry state (entry_on state (session_for c.session-session.result state.made) c.args.turn))
+    (g.V.Serve.state c.take_turn.new.server ≡ after_entry state (next_entry c.args.book.now.journal.items state c.args.turn)) c.take_turn.ensures.ok
+    (λ is.
+    is ∙ ap (λ (session : Option ℕ). after_entry state (entry_on state (session_for session state.made) c.args.turn)) c.session-session.ensures
+    ∙ ap (after_entry state) (entry_of_session c.args.book.now.journal.items state c.args.turn called))
