@@ -1,4 +1,5 @@
-//! What is promised of every run of every accepted plan: each function's contract is a law.
+//! What is promised of every run of every accepted plan: each function's contract is a law. In `accepted_laws` what every
+//! accepted plan has.
 #![tactic(auto)]
 
 pub mod accepted_laws;

@@ -1,4 +1,6 @@
-//! The values of MySQL's columns, and the lists, names and texts that every layer above is made of.
+//! The values of MySQL's columns, and the lists, names and texts that every layer above is made of. In its modules: schemas
+//! (`gho_schema`), the clauses of ALTER TABLE and what they leave of a row (`alter_image`), and what is asked of names, keys,
+//! defaults and whole schemas (`schema_rules`).
 #![tactic(auto)]
 
 pub mod alter_image;

@@ -1,5 +1,6 @@
-//! The tool's program: what each actor asks next as a function of the journal so far, how a run ends and why, and the
-//! orders of turns.
+//! The tool's program: what each actor asks next as a function of the journal so far, how a run ends and why, and the orders
+//! of turns. In its modules the words of journals (`journal_words`), the tool's three machines (`chunk_copier`,
+//! `event_applier`, `cutover_core`), and its setup and operator in code (`tool_setup`).
 #![tactic(auto)]
 
 pub mod chunk_copier;

@@ -1,4 +1,5 @@
-//! The database of the program: tables in pages, kept by name, by the contracts of `row_store`'s plain list.
+//! The database of the program: tables in pages, kept by name, by the contracts of `row_store`'s plain list. One such table is
+//! in the module `row_pages`.
 #![tactic(auto)]
 
 mod adding;

@@ -1,5 +1,6 @@
-//! The replay of a plan that was read, on any server: its journal, with all that is promised of it, and how it ended; and the final
-//! server at its opening.
+//! The replay of a plan that was read, on any server: its journal, with all that is promised of it, and how it ended; and the
+//! final server at its opening. In `whole_replay` the turns of a replay on any server; in `final_server` the server over
+//! tables in pages.
 #![tactic(auto)]
 
 pub mod final_server;

@@ -1,4 +1,7 @@
-//! Whatever is reverted, the RENAME that is done finds the altered table, so kept journals are serial: each function's contract is a law.
+//! Whatever is reverted, the RENAME that is done finds the altered table, so kept journals are serial: each function's
+//! contract is a law. In its modules what it stands on: that the migration goes on (`migration_laws`), the tool's course
+//! (`course_laws`), the attempts of the cut-over (`attempt_laws`), and that the program is followed to the mark
+//! (`follow_laws`).
 #![tactic(auto)]
 
 pub mod attempt_laws;

@@ -1,4 +1,5 @@
-//! What holds of all schemas that are read: each function's contract is a law, and its body is empty.
+//! What holds of all schemas that are read: each function's contract is a law, and its body is empty. In `alter_laws` the same
+//! of schemas that an ALTER leaves.
 #![tactic(auto)]
 
 pub mod alter_laws;

@@ -1,4 +1,5 @@
-//! What a statement says of its table, as a transaction sees it, and what it writes there.
+//! What a statement says of its table, as a transaction sees it, and what it writes there. In `statement_work` the locks that
+//! it needs.
 #![tactic(auto)]
 
 mod changing;

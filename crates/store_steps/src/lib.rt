@@ -1,4 +1,5 @@
-//! What the final server's data do, step by step: over the committed tables, and the open transactions over them.
+//! What the final server's data do, step by step: over the committed tables, and the open transactions over them. In
+//! `open_txns` those of all sessions, and in `kept_txns` the laws of what stays so of them.
 #![tactic(auto)]
 
 mod defining;

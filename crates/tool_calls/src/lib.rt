@@ -1,4 +1,5 @@
-//! What the tool asks next, when it is over and how it ended, read off its record, its turns so far and the server.
+//! What the tool asks next, when it is over and how it ended, read off its record, its turns so far and the server. The record
+//! is that of the module `tool_state`.
 #![tactic(auto)]
 
 mod calling;

@@ -1,4 +1,4 @@
-//! The journal of a run, with what is kept of it so that no turn reads it anew.
+//! The journal of a run, with what is kept of it so that no turn reads it anew. In `book_turns` what one turn makes of it.
 #![tactic(auto)]
 
 mod book;

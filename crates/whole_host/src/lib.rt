@@ -1,4 +1,5 @@
-//! The whole program from end to end: a plan's bytes in, a report's bytes out.
+//! The whole program from end to end: a plan's bytes in, a report's bytes out. In `plan_works` the run of a plan by workers,
+//! and in `worker_laws` that every plan that was read may be run so.
 #![tactic(auto)]
 
 mod outcome;

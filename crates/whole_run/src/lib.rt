@@ -1,4 +1,5 @@
-//! A run of a plan on any server: its turns are taken one by one, and each of them is written into the journal.
+//! A run of a plan on any server: its turns are taken one by one, and each of them is written into the journal. In `run_turns`
+//! one turn of it.
 #![tactic(auto)]
 
 mod due;

@@ -1,4 +1,4 @@
-//! A run whose turns are taken by worker threads, at one desk.
+//! A run whose turns are taken by worker threads, at one desk. In `worker_run` the run as the book of that desk.
 #![tactic(auto)]
 
 mod running;
