@@ -3,6 +3,7 @@
 use crate::altered::{is_plan_told, is_report_told};
 use crate::cases::Case;
 use crate::edges::{end_at_sinks, end_at_sources};
+use crate::lines::has_lines;
 use crate::program::Program;
 use crate::runs::run;
 use std::alloc::{AllocError, Global};
@@ -12,6 +13,8 @@ use std::alloc::{AllocError, Global};
 pub enum Asked {
     /// That the call ends with the case's status and prints what stands there, and that one at a time gives the same.
     Prints,
+    /// That the run is as one at a time, and that the lines that stand there stand among those that it prints, in their order.
+    HasLines,
     /// That what stands there, a report altered by hand, isn't what one at a time gives.
     TellsReport,
     /// That the run isn't one of the plan that stands there in place of a report.
@@ -39,6 +42,7 @@ pub(crate) fn is_as_expected(
 ) -> Result<bool, AllocError> {
     let is_so = match asked {
         Asked::Prints => is_printed(alloc, program, case)?,
+        Asked::HasLines => has_lines(alloc, program, case)?,
         Asked::TellsReport => is_report_told(alloc, program, case)?,
         Asked::TellsPlan => is_plan_told(alloc, program, case)?,
         Asked::EndsAtEdges => {

@@ -8,6 +8,7 @@ mod case_files;
 mod cases;
 mod edges;
 mod folder;
+mod lines;
 mod losses;
 mod meeting;
 mod orders;

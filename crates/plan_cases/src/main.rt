@@ -11,6 +11,9 @@
 //! reports are the same. Those of `meetings` are run by two workers, at a gate that keeps each before its turn until the other has
 //! come as far: that they take turn about shows that they are threads.
 //!
+//! `meeting_clients` has plans of clients whose transactions meet, with lines that the report must have: the clients', which an
+//! independent model gave. Here too each run must be as one transaction at a time.
+//!
 //! `altered_reports` and `other_plans` show that the comparison with one at a time can say no: a report that was altered by
 //! hand isn't that of the run, and the run of a plan isn't one of another plan. `edges` has plans that are also run between
 //! sources which fail at each byte of the plan and sinks which fail behind each byte of the report.
@@ -47,6 +50,7 @@ fn main(rt: HostRuntime) -> io::Result<()> {
     run_loss_files(&rt, &program)?;
     run_worker_files(&rt, &program)?;
     run_meeting_files(&rt, &program)?;
+    run_case_files(&rt, &program, "meeting_clients", Asked::HasLines)?;
     run_case_files(&rt, &program, "altered_reports", Asked::TellsReport)?;
     run_case_files(&rt, &program, "other_plans", Asked::TellsPlan)?;
     run_case_files(&rt, &program, "edges", Asked::EndsAtEdges)
