@@ -1,22 +1,20 @@
-//! Calls on the final server, with semicolons between them. `CREATE TABLE ..` makes a table, and is told nothing of.
+//! Calls on a server, with semicolons between them. `CREATE TABLE ..` makes a table, and is told nothing of.
 //! `1 BEGIN`, `2 INSERT INTO t VALUES (1)` and the like are what the sessions 1 to 3 ask, whose waits are never polled, and so
 //! is `1 log 0 2 t`: the first two events of the table at the position 0 or behind it, told behind the position that
 //! follows them. `unread 0 t` tells how many events there are, and `rows t` the table's committed rows. What may not come
 //! now is told so.
 
 use crate::asking::{ask, create, names_of};
-use crate::opening::open;
 use crate::telling::{say_asked, say_number};
 use case_lines::{CallFault, place_of, say};
 use gho_values::{Name, Text, print_row};
-use plan_replays::final_server::FinalServer;
 use serving::Serve;
 use std::alloc::{AllocError, Global};
 
 /// Says the committed rows of the table of this name.
-fn say_table(
+fn say_table<V: Serve>(
     alloc: Global,
-    server: &FinalServer,
+    server: &V,
     name: &str,
     told: &mut Text,
 ) -> Result<(), AllocError> {
@@ -32,9 +30,9 @@ fn say_table(
 }
 
 /// Says how many events stand at a position or behind it, as `0 t` asks.
-fn say_unread(
+fn say_unread<V: Serve>(
     alloc: Global,
-    server: &FinalServer,
+    server: &V,
     input: &str,
     told: &mut Text,
 ) -> Result<(), CallFault> {
@@ -46,9 +44,9 @@ fn say_unread(
 }
 
 /// Takes one call.
-fn take(
+fn take<V: Serve>(
     alloc: Global,
-    server: &mut FinalServer,
+    server: &mut V,
     call: &str,
     told: &mut Text,
 ) -> Result<(), CallFault> {
@@ -65,12 +63,11 @@ fn take(
     Ok(())
 }
 
-/// What the calls say, on a server whose log counts the events of `t`.
-pub fn answers(alloc: Global, input: &str) -> Result<Text, CallFault> {
-    let mut server = open(alloc, names_of(alloc, "t")?)?;
+/// What the calls say, on this server.
+pub fn answers<V: Serve>(alloc: Global, server: &mut V, input: &str) -> Result<Text, CallFault> {
     let mut told = Text::new(alloc);
     for call in input.split("; ") {
-        take(alloc, &mut server, call, &mut told)?;
+        take(alloc, server, call, &mut told)?;
     }
     Ok(told)
 }

@@ -9,7 +9,6 @@ use gho_values::gho_schema::Schema;
 use gho_values::schema_rules::is_column_name;
 use gho_values::{Name, Names, Sequence};
 use plain_server::{Answer, Request};
-use plan_replays::final_server::FinalServer;
 use schema_laws::read_schemas_are_lawful;
 use schema_text::read_schema;
 use script_reader::{StatementFault, read_statement};
@@ -28,7 +27,7 @@ pub fn names_of(alloc: Global, text: &str) -> Result<Names, AllocError> {
 }
 
 /// BEGIN.
-fn begin(server: &mut FinalServer, session: u32) -> Result<Option<Answer>, AllocError> {
+fn begin<V: Serve>(server: &mut V, session: u32) -> Result<Option<Answer>, AllocError> {
     if !server.live(session)
         || server.waits(session)
         || server.in_transaction(session)
@@ -40,7 +39,7 @@ fn begin(server: &mut FinalServer, session: u32) -> Result<Option<Answer>, Alloc
 }
 
 /// COMMIT.
-fn commit(server: &mut FinalServer, session: u32) -> Result<Option<Answer>, AllocError> {
+fn commit<V: Serve>(server: &mut V, session: u32) -> Result<Option<Answer>, AllocError> {
     if !server.live(session) || server.waits(session) || !server.in_transaction(session) {
         return Ok(None);
     }
@@ -48,7 +47,7 @@ fn commit(server: &mut FinalServer, session: u32) -> Result<Option<Answer>, Allo
 }
 
 /// ROLLBACK.
-fn roll_back(server: &mut FinalServer, session: u32) -> Result<Option<Answer>, AllocError> {
+fn roll_back<V: Serve>(server: &mut V, session: u32) -> Result<Option<Answer>, AllocError> {
     if !server.live(session) || server.waits(session) || !server.in_transaction(session) {
         return Ok(None);
     }
@@ -56,8 +55,8 @@ fn roll_back(server: &mut FinalServer, session: u32) -> Result<Option<Answer>, A
 }
 
 /// The first events of these tables at the position or behind it.
-fn read_log(
-    server: &mut FinalServer,
+fn read_log<V: Serve>(
+    server: &mut V,
     session: u32,
     position: u32,
     limit: u32,
@@ -75,9 +74,9 @@ fn read_log(
 }
 
 /// The first events of tables, as `0 2 t` asks: at the position 0 or behind it, two at most.
-fn look_at_log(
+fn look_at_log<V: Serve>(
     alloc: Global,
-    server: &mut FinalServer,
+    server: &mut V,
     session: u32,
     text: &str,
 ) -> Result<Option<Answer>, CallFault> {
@@ -106,9 +105,9 @@ fn statement_of(alloc: Global, text: &str) -> Result<Statement, CallFault> {
 }
 
 /// A statement.
-fn do_statement(
+fn do_statement<V: Serve>(
     alloc: Global,
-    server: &mut FinalServer,
+    server: &mut V,
     session: u32,
     text: &str,
 ) -> Result<Option<Answer>, CallFault> {
@@ -121,9 +120,9 @@ fn do_statement(
 
 /// What the session is answered to BEGIN, COMMIT, ROLLBACK, `log 0 2 t` or a statement; nothing where it may not ask for
 /// that now.
-pub fn ask(
+pub fn ask<V: Serve>(
     alloc: Global,
-    server: &mut FinalServer,
+    server: &mut V,
     session: u32,
     text: &str,
 ) -> Result<Option<Answer>, CallFault> {
@@ -160,7 +159,7 @@ fn schema_of(alloc: Global, text: &str) -> Result<Schema, CallFault>
 }
 
 /// Makes the table of a text of CREATE TABLE, as the first session asks.
-pub fn create(alloc: Global, server: &mut FinalServer, text: &str) -> Result<(), CallFault> {
+pub fn create<V: Serve>(alloc: Global, server: &mut V, text: &str) -> Result<(), CallFault> {
     let schema = schema_of(alloc, text)?;
     if !server.live(1) || server.waits(1) || !is_table_name(&schema.name) {
         return Err(CallFault::Unread);
