@@ -1,6 +1,6 @@
 //! The replay of a plan.
 
-ghost use Rattle.std.specs.Prelude.{◌≡◌, ◌≢◌, Some, IfSome, IfOk};
+ghost use Rattle.std.specs.Prelude.{◌≡◌, ◌≢◌, is_some, Some, IfSome, IfOk};
 ghost use Rattle.migration_program.specs.JournalWords.Journals.{opening};
 ghost use Rattle.migration_program.specs.Verdicts.{verdict_of};
 ghost use Rattle.accepted_runs.specs.AcceptedLaws.Laws.{WasRead};
@@ -49,7 +49,8 @@ fn verdict_after<V: Serve>(run: &Run<'_, V>, replayed: Replayed) -> Option<Verdi
 
 /// How a run ended, where there is a verdict.
 pub fn end_with<V: Serve>(verdict: Option<Verdict>, server: V) -> Option<End<V>>
-    ensures { IfSome result (λ end. (verdict ≡ Some end.verdict) × (V.state end.server ≡ V.state server)) }
+    ensures some { is_some result ≡ is_some verdict }
+    ensures end { IfSome result (λ end. (verdict ≡ Some end.verdict) × (V.state end.server ≡ V.state server)) }
 {
     match verdict {
         Some(verdict) => Some(End { verdict, server }),

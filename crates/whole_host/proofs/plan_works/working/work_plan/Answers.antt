@@ -18,7 +18,7 @@ returns-clause-run g c =
 
 pub returns-clause-end : goal.returns-clause-end
 returns-clause-end g c =
-    with_end c.end_with.result (λ end. end.verdict) (λ end. g.V.Serve.state end.server) c.verdict_after-verdict.result (g.V.Serve.state c.stop-server.result.0) (λ (verdict : Verdict) (state : State). IsEnd c.args.plan.now c.stop-server.result.1 verdict state) c.end_with.ensures
+    with_end c.end_with.result (λ end. end.verdict) (λ end. g.V.Serve.state end.server) c.verdict_after-verdict.result (g.V.Serve.state c.stop-server.result.0) (λ (verdict : Verdict) (state : State). IsEnd c.args.plan.now c.stop-server.result.1 verdict state) c.end_with.ensures.end
     (told_end c.args.plan.now c.in_ok-opened.opened.plan c.in_ok-ran.ran.run c.stop-server.result.1 (ap (λ (run : RunView). run.plan) c.in_ok-opened.ensures) c.in_ok-ran.ensures.plan c.stop-server.ensures.turns
     c.in_ok-ran.ran.ending c.verdict_after-verdict.result (g.V.Serve.state c.stop-server.result.0) c.verdict_after-verdict.ensures.verdict c.verdict_after-verdict.ensures.over c.in_ok-ran.ensures.over c.in_ok-ran.ensures.server
     c.stop-server.ensures.server)
