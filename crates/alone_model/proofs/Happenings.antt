@@ -2,7 +2,7 @@
 use Rattle.std.proofs.Common.{◌≡◌, List, [], ◌∷◌, ◌++◌, Option, Some, None, refl, sym, ap, ◌∙◌, subst, append_assoc, append-nil}
 use Rattle.std.specs.List.{AllByRecursion}
 use Rattle.std.specs.Option.{option_and_then, option_map}
-use Rattle.schema_laws.specs.AlterLaws.Laws.{AlteredSchemasAreLawful, IsClause}
+use Rattle.schema_facts.specs.AlterLaws.Laws.{AlteredSchemasAreLawful, IsClause}
 use Rattle.row_store.specs.Databases.{Database}
 use Rattle.plain_server.specs.Alone.{alone}
 use Rattle.plain_server.specs.declared.transaction.Reply.{Reply}

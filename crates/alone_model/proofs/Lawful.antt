@@ -6,7 +6,7 @@ use Rattle.std.specs.Result.{result_ok}
 use Rattle.gho_values.specs.declared.gho_schema.schema.Schema.{Schema}
 use Rattle.gho_values.specs.AlterImage.Images.{images}
 use Rattle.gho_values.specs.declared.alter_image.clause.Clause.{Clause}
-use Rattle.schema_laws.specs.AlterLaws.Laws.{AlteredSchemasAreLawful, IsClause}
+use Rattle.schema_facts.specs.AlterLaws.Laws.{AlteredSchemasAreLawful, IsClause}
 use Rattle.alter_schema.specs.Altering.{altered}
 use Rattle.alter_schema.specs.declared.code.AlterCode.{AlterCode}
 use Rattle.event_codec.specs.declared.event.RowEvent.{RowEvent}

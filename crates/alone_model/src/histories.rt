@@ -5,7 +5,7 @@ ghost use Rattle.std.specs.Option.{option_map};
 ghost use Rattle.plain_server.specs.Alone.{alone};
 ghost use Rattle.migration_program.specs.JournalWords.Serials.{altered_database};
 ghost use Rattle.std.specs.List.{AllByRecursion};
-ghost use Rattle.schema_laws.specs.AlterLaws.Laws.{IsClause};
+ghost use Rattle.schema_facts.specs.AlterLaws.Laws.{IsClause};
 ghost use Rattle.alone_model.specs.Histories.{with_replies, alone_in_order, goes_on, AreLawful, IfLawful};
 ghost use Rattle.alone_model.specs.declared.histories.Happening.{Happening};
 
@@ -15,7 +15,6 @@ use alone_statements::PlainTables;
 use gho_values::{Duplicate, Sequence};
 use plain_server::{Replies, TxnLines};
 use plan_words::Plan;
-use schema_laws::alter_laws::altered_schemas_are_lawful;
 use std::alloc::{AllocError, Global};
 
 /// What happened to the clients' tables.
@@ -76,7 +75,6 @@ fn step(
     ensures goes { IfOk result (λ next. (rest : List Happening) → goes_on plan.now rest next ≡ with_replies so_far.replies (alone_in_order plan.now so_far.tables (happening.now ∷ rest))) }
     ensures lawful { IfOk result IfLawful }
 {
-    altered_schemas_are_lawful();
     match happening {
         Happening::Txn(lines) => Ok(Some(with_txn(alloc, so_far, lines)?)),
         Happening::Alter => with_alter(alloc, plan, so_far),

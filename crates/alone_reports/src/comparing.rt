@@ -1,7 +1,7 @@
 //! The comparison.
 
 ghost use Rattle.std.specs.Prelude.{◌≡◌, map, IfOk};
-ghost use Rattle.accepted_runs.specs.AcceptedLaws.Laws.{WasRead};
+ghost use Rattle.accepted_plans.specs.AcceptedLaws.Laws.{WasRead};
 ghost use Rattle.alone_model.specs.Histories.{alone_in_order, happening_of};
 ghost use Rattle.journal_pasts.specs.Walks.{item_as};
 
@@ -10,9 +10,7 @@ use crate::history::{has_alter, push_history};
 use crate::replies::are_the_same;
 use crate::saying::{Said, says};
 use crate::tables::push_tables;
-use accepted_runs::accepted_laws::laws::read_plans_are_worded;
-use accepted_runs::accepted_laws::plan_laws::read_plans_are_accepted;
-use accepted_runs::accepted_laws::read_accepted_plan;
+use accepted_plans::read_accepted_plan;
 use alone_model::{InOrder, alone, run_in_order, tables_left};
 use alone_statements::{PlainTables, plain_tables};
 use gho_values::{Sequence, Text};
@@ -126,8 +124,6 @@ fn run_alone(alloc: Global, plan: &Plan, items: &[PastItem]) -> Result<Option<In
     requires { WasRead plan.now }
     ensures { IfOk result (λ ran. ran ≡ alone_in_order plan.now plan.now.tables (map happening_of (map item_as items.now))) }
 {
-    read_plans_are_accepted();
-    read_plans_are_worded();
     let happenings = happenings_of(alloc, items)?;
     let opening = plain_tables(alloc, plan.tables())?;
     run_in_order(alloc, plan, opening, happenings.as_slice())

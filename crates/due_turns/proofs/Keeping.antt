@@ -15,12 +15,12 @@ use Rattle.migration_program.specs.JournalWords.Journals.{opening, state_at, aft
 use Rattle.migration_program.specs.JournalWords.Keeping.{side_due, TakesNext, IsStruck, IsPlanned}
 use Rattle.migration_program.specs.JournalWords.Sessions.{live_session, sessions_named, IsInSession, IsNumbered, NumbersSessions}
 use Rattle.migration_program.specs.Programs.{given, IsGiven, IsFollowed}
-use Rattle.history_laws.specs.RunLaws.Counting.{IsBehind}
-use Rattle.history_laws.specs.RunLaws.Kept.{IsKept}
-use Rattle.history_laws.specs.RunLaws.Laws.{Living}
-use Rattle.history_laws.proofs.RunLaws.Keeping.{kept_more, next_of}
-use Rattle.history_laws.proofs.Journals.{state_more}
-use Rattle.history_laws.proofs.RunLaws.Living.{all_living}
+use Rattle.journal_facts.specs.RunLaws.Counting.{IsBehind}
+use Rattle.journal_facts.specs.RunLaws.Kept.{IsKept}
+use Rattle.journal_facts.specs.RunLaws.Laws.{Living}
+use Rattle.journal_facts.proofs.RunLaws.Keeping.{kept_more, next_of}
+use Rattle.journal_facts.proofs.Journals.{state_more}
+use Rattle.journal_facts.proofs.RunLaws.Living.{all_living}
 use Rattle.due_turns.specs.declared.migration_run.turn.Turn.{Turn}
 use Rattle.due_turns.specs.MigrationRun.Turning.{answer_on, entry_on}
 use Rattle.due_turns.specs.Due.{session_at, next_entry}

@@ -7,9 +7,9 @@ use Rattle.plain_server.specs.Entries.{is_client, is_command}
 use Rattle.plain_server.specs.States.{State, session_of, connected}
 use Rattle.plain_server.specs.Serving.{Served, serves, leaves}
 use Rattle.migration_program.specs.JournalWords.Journals.{opens_if, opens, after_entry}
-use Rattle.history_laws.specs.RunLaws.Counting.{numbered, IsBehind}
-use Rattle.history_laws.proofs.RunLaws.Numbering.{serves_numbered, leaves_numbered}
-use Rattle.history_laws.proofs.RunLaws.Turns.{turn_leaves, opened}
+use Rattle.journal_facts.specs.RunLaws.Counting.{numbered, IsBehind}
+use Rattle.journal_facts.proofs.RunLaws.Numbering.{serves_numbered, leaves_numbered}
+use Rattle.journal_facts.proofs.RunLaws.Turns.{turn_leaves, opened}
 
 -- the greatest number behind the opening of a session
 abbrev pub made_behind : Bool → ℕ → ℕ → ℕ

@@ -6,8 +6,8 @@ use Rattle.plain_server.specs.States.{State}
 use Rattle.plan_words.specs.PlanData.{PlanData}
 use Rattle.migration_program.specs.JournalWords.Journals.{after_entry, state_at}
 use Rattle.migration_program.specs.JournalWords.Sessions.{NumbersSessions}
-use Rattle.history_laws.specs.RunLaws.Counting.{IsBehind}
-use Rattle.history_laws.specs.RunLaws.Kept.{IsKept}
+use Rattle.journal_facts.specs.RunLaws.Counting.{IsBehind}
+use Rattle.journal_facts.specs.RunLaws.Kept.{IsKept}
 use Rattle.due_turns.specs.declared.migration_run.turn.Turn.{Turn}
 use Rattle.due_turns.specs.Due.{due, next_entry}
 

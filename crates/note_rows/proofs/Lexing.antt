@@ -18,8 +18,8 @@ use Rattle.sql_words.specs.Reading.{Reading, with_word, words_behind}
 use Rattle.sql_words.proofs.Behind.{words_behind-gap, words_behind-end}
 use Rattle.sql_words.proofs.NumberWords.{front_at-number_value, number_value-unsigned, number_value-minus}
 use Rattle.sql_words.proofs.Reprinted.{words_behind-append, front_at-printed_text, text_value-printed_text, front_at-printed_bytes, bytes_value-printed_bytes}
-use Rattle.word_laws.proofs.ReadBack.{decimal_digits, decimal_value}
-use Rattle.word_laws.specs.ReadBack.{word_value, IsLiteral}
+use Rattle.word_values.proofs.ReadBack.{decimal_digits, decimal_value}
+use Rattle.word_values.specs.ReadBack.{word_value, IsLiteral}
 use Rattle.note_rows.specs.Readings.{literals_among, literals_read, literals}
 
 -- the literals of these bytes, wherever they stand

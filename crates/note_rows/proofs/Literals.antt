@@ -7,7 +7,7 @@ use Rattle.std.proofs.lemmas.List.{take_all}
 use Rattle.gho_values.specs.declared.value.Value.{Value}
 use Rattle.sql_words.specs.declared.word.Word.{Word}
 use Rattle.sql_words.specs.Reading.{view, views}
-use Rattle.word_laws.specs.ReadBack.{word_value}
+use Rattle.word_values.specs.ReadBack.{word_value}
 use Rattle.note_rows.specs.Readings.{literals_among}
 
 pub viewed : (words : List Word) → literals_among (views words) ≡ flat_map (λ (word : Word). option_to_list (word_value word.class word.text.now)) words

@@ -16,7 +16,7 @@ use Rattle.gho_values.specs.declared.value.Value.{Value}
 use Rattle.gho_values.specs.declared.value.Value.TheVariants.{Null, Num, Text, Blob}
 use Rattle.gho_values.specs.Printing.{printed_row}
 use Rattle.gho_values.specs.Storing.{character_count}
-use Rattle.word_laws.proofs.ReadBack.{decimal_digits}
+use Rattle.word_values.proofs.ReadBack.{decimal_digits}
 use Rattle.note_rows.specs.declared.checkpoint.Reach.{Reach}
 use Rattle.note_rows.specs.declared.checkpoint.Reach.TheVariants.{Nothing, To, All}
 use Rattle.note_rows.specs.declared.checkpoint.Checkpoint.{Checkpoint}

@@ -2,7 +2,7 @@
 use Rattle.std.specs.Prelude.{◌≡◌, ℕ, ◌<◌, ◌^◌, List, Some}
 use Rattle.std.specs.List.{AllByRecursion}
 use Rattle.gho_values.specs.declared.value.Value.{Value}
-use Rattle.word_laws.specs.ReadBack.{IsLiteral}
+use Rattle.word_values.specs.ReadBack.{IsLiteral}
 use Rattle.note_rows.specs.declared.checkpoint.Reach.{Reach}
 use Rattle.note_rows.specs.declared.checkpoint.Reach.TheVariants.{Nothing, To, All}
 use Rattle.note_rows.specs.declared.checkpoint.Checkpoint.{Checkpoint}

@@ -8,7 +8,7 @@ use Rattle.gho_values.specs.declared.value.Value.{Value}
 use Rattle.gho_values.specs.declared.value.Value.TheVariants.{Num, Text}
 use Rattle.sql_words.specs.declared.word.WordFault.{WordFault}
 use Rattle.sql_words.specs.Reading.{Reading, words_of}
-use Rattle.word_laws.specs.ReadBack.{word_value}
+use Rattle.word_values.specs.ReadBack.{word_value}
 use Rattle.note_rows.specs.declared.checkpoint.Reach.{Reach}
 use Rattle.note_rows.specs.declared.checkpoint.Reach.TheVariants.{Nothing, To, All}
 use Rattle.note_rows.specs.declared.checkpoint.Checkpoint.{Checkpoint}

@@ -9,7 +9,7 @@ use crate::checkpoint::{Checkpoint, HINT, Reach, checkpoint_value};
 use gho_values::{Row, Sequence, Value};
 use sql_words::{Word, WordFault, words};
 use std::alloc::{AllocError, Global};
-use word_laws::literal;
+use word_values::literal;
 
 fn literals_among(alloc: Global, words: &[Word<'_>]) -> Result<Row, AllocError>
     ensures { IfOk result (λ values. values ≡ literals_among (views words.now)) }

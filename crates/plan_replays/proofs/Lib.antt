@@ -1,4 +1,1 @@
-mod AtOpening
-mod SoundRuns
-pub mod WholeRuns
 pub mod WholeReplay

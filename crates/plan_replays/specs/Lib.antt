@@ -1,4 +1,2 @@
-pub mod Replays
-pub mod SoundRuns
 pub mod FinalServer
 pub mod WholeReplay

@@ -18,7 +18,7 @@ use Rattle.plain_server.specs.Saying.{tells}
 use Rattle.plain_server.specs.Jobs.{after_events, copy_from, copy_job, job_needs, job_says, needs_in, result_in, result_of}
 use Rattle.plain_server.specs.StatementLaws.Covering.{IsOrderlyTable, IsSound}
 use Rattle.plain_server.specs.StatementLaws.Databases.{WhereFound}
-use Rattle.history_laws.proofs.Tooling.{copies_sound}
+use Rattle.journal_facts.proofs.Tooling.{copies_sound}
 use Rattle.written_rows.specs.Written.{Written, nothing}
 use Rattle.written_rows.specs.Stored.{StoredWrites}
 use Rattle.txn_session.specs.Events.{changes_in}

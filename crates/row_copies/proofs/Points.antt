@@ -15,7 +15,7 @@ use Rattle.row_store.specs.Databases.{TableRows, row_at_key}
 use Rattle.row_store.specs.RowLists.{is_at}
 use Rattle.plain_server.specs.Rows.{rows_met}
 use Rattle.plain_server.specs.StatementLaws.Covering.{IsOrderlyTable}
-use Rattle.history_laws.proofs.ServerLaws.Spans.{rows_of_span}
+use Rattle.journal_facts.proofs.ServerLaws.Spans.{rows_of_span}
 
 has_point : (key other : List Value) → has (point key) other ≡ is_eq (compare_keys key other)
 unfolding has

@@ -1,6 +1,6 @@
 //! What holds of the printed text of schemas: each function's contract is a law, and its body is empty.
 
-ghost use Rattle.schema_laws.specs.PrintLaws.Laws.{PrintedSchemasHaveWords, PrintedColumnsAreRead, PrintedSchemasAreWritten};
+ghost use Rattle.schema_facts.specs.PrintLaws.Laws.{PrintedSchemasHaveWords, PrintedColumnsAreRead, PrintedSchemasAreWritten};
 
 /// The words of a schema's printed text are those of its columns and keys, and it has no fault.
 pub fn printed_schemas_have_words()

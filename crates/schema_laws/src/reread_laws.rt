@@ -1,6 +1,6 @@
 //! That the printed text of a schema is read as that schema: each function's contract is a law, and its body does nothing.
 
-ghost use Rattle.schema_laws.specs.RereadLaws.Laws.{PrintedSchemasAreReadAgain, ReadSchemasAreDeclared, ReadSchemasCanPrint, ReadSchemasAreReadAgain};
+ghost use Rattle.schema_facts.specs.RereadLaws.Laws.{PrintedSchemasAreReadAgain, ReadSchemasAreDeclared, ReadSchemasCanPrint, ReadSchemasAreReadAgain};
 
 use gho_values::laws::stored_values_store_again;
 

@@ -21,19 +21,19 @@ use Rattle.plain_server.specs.StatementLaws.Databases.{IsOrderly, WhereFound}
 use Rattle.plain_server.proofs.StatementLaws.OneRow.{same_removal}
 use Rattle.plain_server.proofs.StatementLaws.Orderly.{nulls}
 use Rattle.plain_server.proofs.StatementLaws.Stables.{after_events-append, others_agree}
-use Rattle.history_laws.specs.GhostLaws.GhostRows.Moments.{Fits}
-use Rattle.history_laws.proofs.GhostLaws.GhostRows.TimelineLaws.{none_clashing}
-use Rattle.history_laws.specs.GhostLaws.Fitting as ghost
-use Rattle.history_laws.proofs.GhostLaws.Changing.{found_stands}
-use Rattle.history_laws.proofs.GhostLaws.Fitting.{fitting_end, orderly_event}
-use Rattle.history_laws.specs.Holdings.{Face}
+use Rattle.journal_facts.specs.GhostLaws.GhostRows.Moments.{Fits}
+use Rattle.journal_facts.proofs.GhostLaws.GhostRows.TimelineLaws.{none_clashing}
+use Rattle.journal_facts.specs.GhostLaws.Fitting as ghost
+use Rattle.journal_facts.proofs.GhostLaws.Changing.{found_stands}
+use Rattle.journal_facts.proofs.GhostLaws.Fitting.{fitting_end, orderly_event}
+use Rattle.journal_facts.specs.Holdings.{Face}
 use Rattle.written_rows.specs.Fitting.{FitsRows, IsNewAmong}
 use Rattle.server_data.specs.Fitting.{EventsFit, FitsIn}
-use Rattle.state_laws.specs.Keeping.{AllStand, OwnFits}
-use Rattle.state_laws.specs.Granting.{grown, GrowsWell}
-use Rattle.state_laws.proofs.Kept.{Keeps, own_others}
-use Rattle.state_laws.proofs.Granted.{seen_orderly, stands_after}
-use Rattle.state_laws.proofs.Deeds.{grown_apart, grown_orderly}
+use Rattle.server_facts.specs.Keeping.{AllStand, OwnFits}
+use Rattle.server_facts.specs.Granting.{grown, GrowsWell}
+use Rattle.server_facts.proofs.Kept.{Keeps, own_others}
+use Rattle.server_facts.proofs.Granted.{seen_orderly, stands_after}
+use Rattle.server_facts.proofs.Deeds.{grown_apart, grown_orderly}
 
 -- a change that fits a table fits its rows by their keys
 change_fits : (schema : Schema) (rows : List Row) (change : Change) → HasClusteredKey schema → IsTable schema rows → Fits schema rows change → FitsRows (key_places schema) rows change

@@ -7,9 +7,9 @@ use Rattle.plain_server.specs.declared.session.Session.{Session}
 use Rattle.plain_server.specs.Serving.{at_rest, holding}
 use Rattle.plain_server.specs.States.{new_session, session_of, with_session, writes_of}
 use Rattle.plain_server.proofs.StatementLaws.Tests.{are_one}
-use Rattle.history_laws.specs.Holdings.{Face}
-use Rattle.history_laws.proofs.Faces.{changed_here, changed_there, faces_without, gone_there, writes_face}
-use Rattle.state_laws.proofs.Calls.{Live}
+use Rattle.journal_facts.specs.Holdings.{Face}
+use Rattle.journal_facts.proofs.Faces.{changed_here, changed_there, faces_without, gone_there, writes_face}
+use Rattle.server_facts.proofs.Calls.{Live}
 
 -- the data have what each of the sessions wrote
 abbrev pub HaveIn : (ℕ → List RowEvent) → List Session → Type 0

@@ -12,8 +12,8 @@ use Rattle.plain_server.specs.Jobs.{after_events}
 use Rattle.plain_server.specs.Locking.{blocker, row_locks_of}
 use Rattle.plain_server.specs.Serving.{polled_over}
 use Rattle.plain_server.specs.States.{State, names_in, waiting_of}
-use Rattle.state_laws.specs.Keeping.{IsServing}
-use Rattle.state_laws.proofs.Calls.{comes_of, names_of}
+use Rattle.server_facts.specs.Keeping.{IsServing}
+use Rattle.server_facts.proofs.Calls.{comes_of, names_of}
 use Rattle.server_desk.specs.Parts.{needed, state_of, GoTogether, HaveWritten, MayDo}
 use Rattle.server_desk.proofs.Steps.{seen_so}
 use Rattle.server_desk.proofs.Requests.{blocker_so}

@@ -26,13 +26,13 @@ use Rattle.plain_server.specs.Serving.{calls, commits, counting, does, done, exc
 use Rattle.plain_server.specs.States.{State, is_exclusive, is_in_transaction, locked_names, names_held, names_in, pair_names, session_of, tables_named, view, waiting_of, with_session}
 use Rattle.plain_server.specs.StatementLaws.Databases.{EventsCovered}
 use Rattle.plain_server.proofs.StatementLaws.Tests.{are_one}
-use Rattle.history_laws.specs.Holdings.{face_of}
-use Rattle.history_laws.proofs.Names.{Free, names_granted}
-use Rattle.history_laws.proofs.Faces.{writes_face, busy_face}
+use Rattle.journal_facts.specs.Holdings.{face_of}
+use Rattle.journal_facts.proofs.Names.{Free, names_granted}
+use Rattle.journal_facts.proofs.Faces.{writes_face, busy_face}
 use Rattle.server_data.specs.Fitting.{NoneOf}
-use Rattle.state_laws.specs.Granting.{GrowsWell}
-use Rattle.state_laws.proofs.Deeds.{AtWork, within_fits}
-use Rattle.state_laws.proofs.Waits.{nothing_blocks}
+use Rattle.server_facts.specs.Granting.{GrowsWell}
+use Rattle.server_facts.proofs.Deeds.{AtWork, within_fits}
+use Rattle.server_facts.proofs.Waits.{nothing_blocks}
 use Rattle.server_desk.specs.Parts.{needed, state_of, GoTogether, HaveWritten, MayDo}
 use Rattle.server_desk.proofs.Steps.{at_work, need_so, seen_so}
 

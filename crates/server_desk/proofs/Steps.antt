@@ -16,16 +16,16 @@ use Rattle.plain_server.specs.declared.session.Limits.{Limits}
 use Rattle.plain_server.specs.declared.session.Waiting.{Waiting}
 use Rattle.plain_server.specs.States.{State, connected, is_live, opened, polls_of, session_of, unread, view, with_session, writes_of}
 use Rattle.plain_server.specs.StatementLaws.Databases.{IsOrderly}
-use Rattle.history_laws.specs.Holdings.{face_of}
-use Rattle.history_laws.proofs.Serves.{granted}
-use Rattle.history_laws.proofs.Faces.{writes_face}
+use Rattle.journal_facts.specs.Holdings.{face_of}
+use Rattle.journal_facts.proofs.Serves.{granted}
+use Rattle.journal_facts.proofs.Faces.{writes_face}
 use Rattle.server_data.specs.Fitting.{EventsFit}
 use Rattle.desk_calls.specs.Rooms.{logs}
-use Rattle.state_laws.specs.Granting.{GrowsWell}
-use Rattle.state_laws.specs.Keeping.{IsServing}
-use Rattle.state_laws.proofs.Calls.{connected_serves, kept_in, live_found, opened_serves}
-use Rattle.state_laws.proofs.Deeds.{AtWork}
-use Rattle.state_laws.proofs.Granted.{quiet_own}
+use Rattle.server_facts.specs.Granting.{GrowsWell}
+use Rattle.server_facts.specs.Keeping.{IsServing}
+use Rattle.server_facts.proofs.Calls.{connected_serves, kept_in, live_found, opened_serves}
+use Rattle.server_facts.proofs.Deeds.{AtWork}
+use Rattle.server_facts.proofs.Granted.{quiet_own}
 use Rattle.server_desk.specs.Parts.{needed, state_of, GoTogether, HaveWritten, MayDo}
 use Rattle.server_desk.proofs.Fits.{own_fit, own_orderly, others_fit, others_orderly}
 use Rattle.server_desk.proofs.Having.{OthersSame, have_grows, have_joined, have_lost, have_rests, have_same}

@@ -13,7 +13,7 @@ use Rattle.plain_server.specs.Conditions.{ComesWell, IsWellFormed}
 use Rattle.plain_server.specs.Locking.{blocker, need, row_locks_of}
 use Rattle.plain_server.specs.Serving.{serves}
 use Rattle.plain_server.specs.States.{State, holds_tables, is_exclusive, is_in_transaction, is_live, names_in, session_of, view, writes_of}
-use Rattle.state_laws.specs.Keeping.{IsServing}
+use Rattle.server_facts.specs.Keeping.{IsServing}
 
 -- *The server's state*: what its desk keeps, with the committed tables
 abbrev pub state_of : Database → State → State

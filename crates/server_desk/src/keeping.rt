@@ -4,8 +4,8 @@ ghost use Rattle.std.specs.Prelude.{◌≡◌, IfOk, OnOk, OnErr, true};
 ghost use Rattle.plain_server.specs.Deeds.{result_deed};
 ghost use Rattle.plain_server.specs.Serving.{commits, does, goes_on};
 ghost use Rattle.plain_server.specs.States.{is_in_transaction, is_live, session_of};
-ghost use Rattle.history_laws.specs.Holdings.{face_of};
-ghost use Rattle.state_laws.specs.Granting.{GrowsWell};
+ghost use Rattle.journal_facts.specs.Holdings.{face_of};
+ghost use Rattle.server_facts.specs.Granting.{GrowsWell};
 ghost use Rattle.server_desk.specs.Parts.{needed, state_of, HaveWritten, GoTogether};
 
 use desk_calls::Desk;

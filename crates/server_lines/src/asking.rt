@@ -9,7 +9,6 @@ use gho_values::gho_schema::Schema;
 use gho_values::schema_rules::is_column_name;
 use gho_values::{Name, Names, Sequence};
 use plain_server::{Answer, Request};
-use schema_laws::read_schemas_are_lawful;
 use schema_text::read_schema;
 use script_reader::{StatementFault, read_statement};
 use script_text::{ScriptWord, Statement};
@@ -147,10 +146,10 @@ fn is_table_name(name: &Name) -> bool
 }
 
 /// The lawful schema of a text of CREATE TABLE.
+#[tactic(auto, using(schema_facts::proofs::Stored::schemas_lawful))]
 fn schema_of(alloc: Global, text: &str) -> Result<Schema, CallFault>
     ensures { IfOk result IsLawful }
 {
-    read_schemas_are_lawful();
     match read_schema(alloc, text, "") {
         Ok(schema) => Ok(schema),
         Err(SchemaFault::Refused(_)) => Err(CallFault::Unread),

@@ -5,7 +5,7 @@ use Rattle.gho_values.specs.declared.value.Value.TheVariants.{Null}
 use Rattle.sql_words.specs.declared.word.WordClass.{WordClass}
 use Rattle.sql_words.specs.declared.word.WordClass.TheVariants as class
 use Rattle.sql_words.specs.Meaning.{name_of, text_value, number_value}
-use Rattle.word_laws.specs.ReadBack.{word_value}
+use Rattle.word_values.specs.ReadBack.{word_value}
 use Rattle.table_words.specs.declared.code.SchemaCode.{SchemaCode}
 use Rattle.table_words.specs.declared.token.Token.{Token}
 use Rattle.table_words.specs.Reads.{Read}

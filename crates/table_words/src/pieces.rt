@@ -10,7 +10,7 @@ use crate::token::Token;
 use gho_values::{Chars, Name, Value};
 use sql_words::WordClass;
 use std::alloc::{AllocError, Global};
-use word_laws::literal;
+use word_values::literal;
 
 /// What stands behind this keyword, where it is the first word.
 #[tactic(auto, unfolding(crate::specs::Pieces::behind_keyword))]

@@ -10,7 +10,7 @@ use Rattle.plan_words.specs.PlanData.{PlanData}
 use Rattle.migration_program.specs.JournalWords.Sessions.{live_session}
 use Rattle.migration_program.specs.Tools.{Work, Course, SettingUp, Migrating, Tool, Moment, is_reverting, moment}
 use Rattle.migration_program.specs.Programs.{waits, in_transaction, rolls_back, copy_call, tool_call, calls, tool_asks, given}
-use Rattle.history_laws.specs.RunLaws.Counting.{numbered, IsBehind}
+use Rattle.journal_facts.specs.RunLaws.Counting.{numbered, IsBehind}
 
 pub waits_same : (made : ℕ) (state : State) (session : Option ℕ) → waits (numbered made state) session ≡ waits state session
 waits_same made state None = refl

@@ -27,9 +27,9 @@ use Rattle.tool_calls.specs.ToolState.Meanings.{tool_of}
 use Rattle.tool_calls.specs.ToolState.Sound.{IsSound}
 use Rattle.actor_seats.specs.Seats.{seat_at, seat_after}
 use Rattle.actor_seats.proofs.More.{live_more, seats_more}
-use Rattle.history_laws.proofs.Actors.{same_actor_is}
-use Rattle.history_laws.specs.RunLaws.Counting.{busy_count}
-use Rattle.history_laws.proofs.RunLaws.Taking.{moment_more, turns_are}
+use Rattle.journal_facts.proofs.Actors.{same_actor_is}
+use Rattle.journal_facts.specs.RunLaws.Counting.{busy_count}
+use Rattle.journal_facts.proofs.RunLaws.Taking.{moment_more, turns_are}
 use Rattle.turn_book.specs.declared.book.Book.{Book}
 use Rattle.turn_book.specs.Books.{is_planned, free_seat, free_client, AreReached, IsBook}
 use Rattle.turn_book.proofs.Clients.{clients_begin}

@@ -13,7 +13,7 @@ use Rattle.tool_calls.specs.declared.tool_state.tool.Tool.{Tool}
 use Rattle.tool_calls.specs.ToolState.Meanings.{work_of, course_in, course_of, tool_of}
 use Rattle.tool_calls.specs.ToolState.Sound.{IsSound, IsFresh}
 use Rattle.tool_calls.specs.Seen.{IsSeen}
-use Rattle.history_laws.specs.RunLaws.Counting.{numbered, IsBehind}
+use Rattle.journal_facts.specs.RunLaws.Counting.{numbered, IsBehind}
 use Rattle.turn_book.specs.declared.book.Book.{Book}
 use Rattle.turn_book.specs.Books.{IsBook}
 

@@ -20,7 +20,7 @@ use Rattle.actor_seats.specs.declared.seat.ActorSeat.{ActorSeat}
 use Rattle.actor_seats.specs.Seats.{seat_at}
 use Rattle.actor_seats.specs.declared.client_turns.seat.ClientSeat.{ClientSeat}
 use Rattle.actor_seats.specs.ClientTurns.Seats.{IsReached}
-use Rattle.history_laws.specs.RunLaws.Counting.{busy_count}
+use Rattle.journal_facts.specs.RunLaws.Counting.{busy_count}
 use Rattle.turn_book.specs.declared.book.Book.{Book}
 
 -- the actor's place in the fixed order

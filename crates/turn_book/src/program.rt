@@ -7,7 +7,7 @@ ghost use Rattle.migration_program.specs.Tools.{moment};
 ghost use Rattle.migration_program.specs.Programs.{tool_asks, given};
 ghost use Rattle.migration_program.specs.Orders.{is_ready};
 ghost use Rattle.migration_program.specs.Verdicts.{is_over, has_ended, verdict_of};
-ghost use Rattle.history_laws.specs.RunLaws.Counting.{IsBehind};
+ghost use Rattle.journal_facts.specs.RunLaws.Counting.{IsBehind};
 ghost use Rattle.turn_book.specs.Books.{IsBook};
 
 use crate::book::Book;
@@ -112,7 +112,7 @@ impl Book<'_> {
     }
 
     /// Whether the run has ended: the tool is over, and every client. It takes no memory.
-    #[tactic(auto, using(history_laws::proofs::RunLaws::Tallies::busy_counted), unfolding(migration_program::specs::Verdicts::has_ended))]
+    #[tactic(auto, using(journal_facts::proofs::RunLaws::Tallies::busy_counted), unfolding(migration_program::specs::Verdicts::has_ended))]
     pub fn has_ended(&self) -> bool
         requires { IsBook self.now.plan.now self.now.journal.items self.now }
         ensures { result ≡ has_ended self.now.plan.now self.now.journal.items }

@@ -22,7 +22,7 @@ use Rattle.call_endings.specs.declared.turn.Turn.{Turn}
 use Rattle.call_endings.specs.Endings.{Taking, Giving, IsReadFault, IsUsage, IsWorkload, Gives, asked, reads_plan}
 use Rattle.call_endings.specs.Checks.{IsSchema}
 use Rattle.call_endings.specs.Texts.{IsRefusal}
-use Rattle.plan_replays.specs.SoundRuns.{IsSoundRun}
+use Rattle.whole_host.specs.WholeReplays.SoundRuns.{IsSoundRun}
 use Rattle.whole_host.specs.Comings.{IsRead, TellsPlan, ComesTo, Does}
 use Rattle.whole_host.specs.Outcomes.{IsTaken, TakesNone, Comes, status_of}
 use Rattle.whole_host.specs.Promises.{Ends, EndsUnder, PrintsDone, PrintsReport}

@@ -7,3 +7,4 @@ mod Untaken
 mod Words
 mod Worked
 mod PlanWorks
+pub mod WholeReplays

@@ -13,11 +13,11 @@ use Rattle.migration_program.specs.JournalWords.Journals.{IsFaithful}
 use Rattle.migration_program.specs.Programs.{Follows}
 use Rattle.migration_program.specs.Tools.{moment}
 use Rattle.migration_program.specs.Verdicts.{has_ended, ended_so, verdict_of}
-use Rattle.history_laws.specs.RunLaws.Kept.{IsKept}
-use Rattle.history_laws.specs.MachineLaws.Laws.{TellsAlter}
-use Rattle.accepted_runs.specs.AcceptedLaws.Laws.{WasRead}
+use Rattle.journal_facts.specs.RunLaws.Kept.{IsKept}
+use Rattle.journal_facts.specs.MachineLaws.Laws.{TellsAlter}
+use Rattle.accepted_plans.specs.AcceptedLaws.Laws.{WasRead}
 use Rattle.whole_run.specs.Runs.{is_over}
-use Rattle.plan_replays.specs.SoundRuns.{IsSoundRun}
+use Rattle.whole_host.specs.WholeReplays.SoundRuns.{IsSoundRun}
 use Rattle.call_endings.specs.declared.command.PlanCommand.{PlanCommand}
 use Rattle.call_endings.specs.declared.command.PlanCommand.TheVariants.{Check, Replay, Run}
 use Rattle.call_endings.specs.declared.turn.Turn.{Turn}

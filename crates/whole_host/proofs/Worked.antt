@@ -4,7 +4,7 @@ use Rattle.std.proofs.lemmas.List.{append_assoc, drop_more, length-map, map-appe
 use Rattle.plain_server.specs.declared.entry.Entry.{Entry}
 use Rattle.plan_words.specs.PlanData.{PlanData}
 use Rattle.migration_program.specs.Orders.{WorkerTurn}
-use Rattle.accepted_runs.specs.AcceptedLaws.Laws.{WasRead}
+use Rattle.accepted_plans.specs.AcceptedLaws.Laws.{WasRead}
 use Rattle.call_endings.specs.declared.command.PlanCommand.TheVariants.{Run}
 use Rattle.call_endings.specs.declared.printed.Printed.{Printed}
 use Rattle.call_endings.specs.declared.turn.Turn.{Turn}

@@ -4,3 +4,4 @@ pub mod Promises
 pub mod Standing
 pub mod WorkerLaws
 pub mod PlanWorks
+pub mod WholeReplays

@@ -9,7 +9,7 @@ use Rattle.plan_document.specs.declared.fault.PlanRefusal.{PlanRefusal}
 use Rattle.migration_program.specs.JournalWords.Journals.{state_at}
 use Rattle.migration_program.specs.Orders.{WorkerTurn}
 use Rattle.migration_program.specs.Verdicts.{verdict_of}
-use Rattle.accepted_runs.specs.AcceptedLaws.Laws.{WasRead}
+use Rattle.accepted_plans.specs.AcceptedLaws.Laws.{WasRead}
 use Rattle.report_print.specs.Reports.{report}
 use Rattle.whole_run.specs.Runs.{is_over}
 use Rattle.call_endings.specs.declared.command.PlanCommand.{PlanCommand}
@@ -20,7 +20,7 @@ use Rattle.call_endings.specs.declared.status.Status.TheVariants as statuses
 use Rattle.call_endings.specs.declared.turn.Turn.{Turn}
 use Rattle.call_endings.specs.Checks.{IsSchema}
 use Rattle.call_endings.specs.Texts.{IsRefusal}
-use Rattle.plan_replays.specs.Replays.{IsWholeReplay}
+use Rattle.whole_host.specs.WholeReplays.Replays.{IsWholeReplay}
 use Rattle.whole_host.specs.PlanWorks.Works.{IsWholeRun}
 
 -- the status of a report

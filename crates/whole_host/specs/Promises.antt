@@ -14,8 +14,8 @@ use Rattle.plan_document.specs.Plans.{read}
 use Rattle.migration_program.specs.JournalWords.Journals.{state_at}
 use Rattle.migration_program.specs.Failures.{Stands}
 use Rattle.migration_program.specs.Verdicts.{has_ended, verdict_of}
-use Rattle.history_laws.specs.MachineLaws.Laws.{TellsAlter}
-use Rattle.accepted_runs.specs.CompleteLaws.Quiet.{IsQuiet, RowsHaveImages, IsWithinLimits}
+use Rattle.journal_facts.specs.MachineLaws.Laws.{TellsAlter}
+use Rattle.accepted_plans.specs.CompleteLaws.Quiet.{IsQuiet, RowsHaveImages, IsWithinLimits}
 use Rattle.report_print.specs.Reports.{report}
 use Rattle.command_words.specs.Commands.{command}
 use Rattle.command_words.specs.declared.command.Command.{Command}

@@ -1,8 +1,8 @@
 -- The laws that the top call stands on. (This project's rule.)
-use Rattle.history_laws.specs.MachineLaws.Laws.{VerdictsTellTheAlter}
-use Rattle.accepted_runs.specs.AcceptedLaws.Laws.{ReadPlansAreRunnable, ReadPlansAreSerial}
-use Rattle.accepted_runs.specs.CompleteLaws.Quiet.{QuietRunsAreDone}
-use Rattle.accepted_runs.specs.AcceptedLaws.OptionLaws.Laws.{ReadOptionsAllow}
+use Rattle.journal_facts.specs.MachineLaws.Laws.{VerdictsTellTheAlter}
+use Rattle.accepted_plans.specs.AcceptedLaws.Laws.{ReadPlansAreRunnable, ReadPlansAreSerial}
+use Rattle.accepted_plans.specs.CompleteLaws.Quiet.{QuietRunsAreDone}
+use Rattle.accepted_plans.specs.AcceptedLaws.OptionLaws.Laws.{ReadOptionsAllow}
 
 -- *The laws*: of verdicts, of what every plan that was read is, of quiet runs, and of options
 pub record Laws : Type 0 where

@@ -1,5 +1,5 @@
-//! The whole program from end to end: a plan's bytes in, a report's bytes out. In `plan_works` the run of a plan by workers,
-//! and in `worker_laws` that every plan that was read may be run so.
+//! The whole program from end to end: a plan's bytes in, a report's bytes out. In `whole_replays` the replay of a plan, in
+//! `plan_works` its run by workers, and in `worker_laws` that every plan that was read may be run so.
 #![tactic(auto)]
 
 mod outcome;
@@ -7,6 +7,7 @@ pub mod plan_works;
 mod status;
 mod top;
 mod turns;
+pub mod whole_replays;
 pub mod worker_laws;
 
 pub use call_endings::{PlanCommand, Status, Turn, Turns};

@@ -2,22 +2,22 @@
 
 ghost use Rattle.std.specs.Prelude.{◌≡◌, ◌≤◌, [], IfSome, IfOk};
 ghost use Rattle.plan_document.specs.Plans.{read};
-ghost use Rattle.accepted_runs.specs.AcceptedLaws.Laws.{WasRead};
+ghost use Rattle.accepted_plans.specs.AcceptedLaws.Laws.{WasRead};
 ghost use Rattle.call_endings.specs.declared.command.PlanCommand.TheVariants as plans;
 ghost use Rattle.call_endings.specs.Endings.{asked, HasWorkers};
-ghost use Rattle.plan_replays.specs.Replays.{IsEnd};
+ghost use Rattle.whole_host.specs.WholeReplays.Replays.{IsEnd};
 ghost use Rattle.whole_host.specs.Outcomes.{Comes, IsReport, IsTaken};
 
 use crate::plan_works::work_plan;
 use crate::status::status_of;
 use crate::turns::{turns_in, turns_of_workers};
-use accepted_runs::accepted_laws::read_accepted_plan;
+use crate::whole_replays::{End, open_plan, replay_plan};
+use accepted_plans::read_accepted_plan;
 use call_endings::{PlanCommand, Printed, Turns, plan_checked, refused};
 use gho_edges::Gate;
 use gho_values::Sequence;
 use plain_server::Journal;
 use plan_document::PlanFault;
-use plan_replays::{End, open_plan, replay_plan};
 use plan_words::Plan;
 use report_print::report;
 use serving::Serve;

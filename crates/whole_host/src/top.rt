@@ -11,13 +11,15 @@ ghost use Rattle.whole_host.specs.Promises.{Ends, RunsBy, PrintsReport, PrintsSc
 ghost use Rattle.whole_host.specs.Standing.{Laws};
 
 use crate::outcome::{Outcome, outcome_of, untaken};
-use accepted_runs::accepted_laws::laws::{read_plans_are_runnable, read_plans_are_serial};
-use accepted_runs::accepted_laws::option_laws::read_options_allow;
-use accepted_runs::complete_laws::quiet_runs_are_done;
 use call_endings::{PlanCommand, Turns, give, read_fault_shown, usage_shown, workload_shown};
 use command_words::{Command, Line};
 use gho_edges::{Gate, ReadFault, Sink, Source, read_whole};
-use history_laws::machine_laws::laws::verdicts_tell_the_alter;
+use journal_laws::accepted_runs::accepted_laws::laws::{
+    read_plans_are_runnable, read_plans_are_serial,
+};
+use journal_laws::accepted_runs::accepted_laws::option_laws::read_options_allow;
+use journal_laws::accepted_runs::complete_laws::quiet_runs_are_done;
+use journal_laws::history_laws::machine_laws::laws::verdicts_tell_the_alter;
 use plain_server::Journal;
 use plan_document::PLAN_LIMIT;
 use std::alloc::Global;

@@ -10,8 +10,8 @@ use Rattle.migration_program.specs.JournalWords.Journals.{state_at, after_entry}
 use Rattle.migration_program.specs.Programs.{waits}
 use Rattle.migration_program.specs.Tools.{moment}
 use Rattle.migration_program.specs.Verdicts.{has_ended}
-use Rattle.history_laws.specs.RunLaws.Counting.{IsBehind}
-use Rattle.history_laws.proofs.RunLaws.Taking.{server_is}
+use Rattle.journal_facts.specs.RunLaws.Counting.{IsBehind}
+use Rattle.journal_facts.proofs.RunLaws.Taking.{server_is}
 use Rattle.due_turns.specs.declared.migration_run.turn.Turn.{Turn}
 use Rattle.due_turns.specs.Due.{due, next_entry}
 use Rattle.turn_book.proofs.Givens.{waits_same}

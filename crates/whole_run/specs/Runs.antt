@@ -7,7 +7,7 @@ use Rattle.plain_server.specs.States.{State}
 use Rattle.plan_words.specs.PlanData.{PlanData}
 use Rattle.migration_program.specs.JournalWords.Journals.{after_entry}
 use Rattle.migration_program.specs.Verdicts.{has_ended}
-use Rattle.history_laws.specs.RunLaws.Counting.{IsBehind}
+use Rattle.journal_facts.specs.RunLaws.Counting.{IsBehind}
 use Rattle.due_turns.specs.declared.migration_run.turn.Turn.{Turn}
 use Rattle.due_turns.specs.Due.{due, next_entry}
 use Rattle.whole_run.specs.declared.run.Stepped.{Stepped}

@@ -2,7 +2,7 @@
 
 ghost use Rattle.std.specs.Prelude.{◌≡◌, is_some, IfOk};
 ghost use Rattle.migration_program.specs.Tools.{moment};
-ghost use Rattle.history_laws.specs.RunLaws.Counting.{IsBehind};
+ghost use Rattle.journal_facts.specs.RunLaws.Counting.{IsBehind};
 ghost use Rattle.turn_book.specs.Books.{IsBook};
 ghost use Rattle.due_turns.specs.Due.{due};
 

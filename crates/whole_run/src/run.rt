@@ -7,8 +7,8 @@ ghost use Rattle.migration_program.specs.JournalWords.Sessions.{live_session, Ke
 ghost use Rattle.migration_program.specs.Orders.{is_ready};
 ghost use Rattle.migration_program.specs.Programs.{waits, Follows};
 ghost use Rattle.migration_program.specs.Verdicts.{has_ended, verdict_of};
-ghost use Rattle.history_laws.specs.MachineLaws.Runnable.{IsRunnable};
-ghost use Rattle.history_laws.specs.RunLaws.Counting.{IsBehind};
+ghost use Rattle.journal_facts.specs.MachineLaws.Runnable.{IsRunnable};
+ghost use Rattle.journal_facts.specs.RunLaws.Counting.{IsBehind};
 ghost use Rattle.due_turns.specs.Due.{due};
 ghost use Rattle.whole_run.specs.Runs.{is_over, TakesTurn, IsUnmoved, Steps};
 

@@ -22,10 +22,10 @@ use Rattle.migration_program.specs.Orders.{ReplayOrder, IsReplay}
 use Rattle.migration_program.specs.JournalWords.Histories.{history, is_alter}
 use Rattle.migration_program.specs.JournalWords.Serials.{IsSerial}
 use Rattle.plain_server.specs.StatementLaws.Covering.{StoresDefault, IsOrderlyTable}
-use Rattle.history_laws.specs.Plans as plans
-use Rattle.history_laws.specs.Plans.{scene_of, KeepsAway, IsSerialPlan, IsPlanRun}
-use Rattle.history_laws.proofs.PlanJournals.{journals_are_serial}
-use Rattle.history_laws.proofs.Exchanging.{exchange_alters}
+use Rattle.journal_facts.specs.Plans as plans
+use Rattle.journal_facts.specs.Plans.{scene_of, KeepsAway, IsSerialPlan, IsPlanRun}
+use Rattle.journal_facts.proofs.PlanJournals.{journals_are_serial}
+use Rattle.journal_facts.proofs.Exchanging.{exchange_alters}
 use Rattle.worked_runs.proofs.Computing.{computing}
 use Rattle.worked_runs.proofs.Plans1.{plan_101, journal_101}
 

@@ -5,7 +5,7 @@ ghost use Rattle.desk_workers.specs.declared.ending.Ending.TheVariants.{Over};
 ghost use Rattle.migration_program.specs.JournalWords.Journals.{opening, state_at};
 ghost use Rattle.migration_program.specs.JournalWords.Sessions.{NumbersSessions};
 ghost use Rattle.migration_program.specs.Orders.{RunOrder};
-ghost use Rattle.history_laws.specs.RunLaws.Kept.{IsKept};
+ghost use Rattle.journal_facts.specs.RunLaws.Kept.{IsKept};
 ghost use Rattle.whole_run.specs.Runs.{is_over, Stops};
 ghost use Rattle.worker_host.specs.WorkerRun.Workers.{IsGoing};
 ghost use Rattle.worker_host.specs.Passes.{IsByPasses};

@@ -15,11 +15,11 @@ use Rattle.sql_words.proofs.NumberWords.{front_at-number_value}
 use Rattle.sql_words.proofs.Reprinted.{front_at-printed_text}
 use Rattle.table_words.specs.declared.token.Token.{Token}
 use Rattle.table_words.specs.Tokens.{text_words}
-use Rattle.schema_laws.specs.PrintLaws.Words.{keyword, sign_word, number_word}
-use Rattle.schema_laws.proofs.PrintLaws.Lexing.{Lexes, lex-end, lex-gap, lex-word, IsEnd}
-use Rattle.schema_laws.proofs.PrintLaws.Numbers.{number_value-decimal}
-use Rattle.schema_laws.proofs.PrintLaws.Pieces.{end-digit, end-quote}
-use Rattle.schema_laws.proofs.PrintLaws.Tables.{lexes-words}
+use Rattle.schema_facts.specs.PrintLaws.Words.{keyword, sign_word, number_word}
+use Rattle.schema_facts.proofs.PrintLaws.Lexing.{Lexes, lex-end, lex-gap, lex-word, IsEnd}
+use Rattle.schema_facts.proofs.PrintLaws.Numbers.{number_value-decimal}
+use Rattle.schema_facts.proofs.PrintLaws.Pieces.{end-digit, end-quote}
+use Rattle.schema_facts.proofs.PrintLaws.Tables.{lexes-words}
 use Rattle.workload_laws.proofs.WorkloadDocument.Digits.{are_digits}
 use Rattle.workload_laws.proofs.WorkloadDocument.Texts.{values_text, where_sql, delete_sql, set_sql, change_sql, move_sql, insert_sql}
 

@@ -9,8 +9,8 @@ use Rattle.sql_words.proofs.Reprinted.{text_value-printed_text}
 use Rattle.table_words.specs.declared.token.Token.{Token}
 use Rattle.table_words.specs.Pieces.{found_at, with_rest, literal_of, literal_at}
 use Rattle.table_words.specs.Tokens.{is_keyword}
-use Rattle.schema_laws.specs.PrintLaws.Words.{number_word}
-use Rattle.schema_laws.proofs.PrintLaws.Numbers.{number_value-decimal}
+use Rattle.schema_facts.specs.PrintLaws.Words.{number_word}
+use Rattle.schema_facts.proofs.PrintLaws.Numbers.{number_value-decimal}
 use Rattle.workload_laws.proofs.Lexed.{short, text_word}
 
 pub number_literal : (n : ℕ) → n < 2 ^ 64 → literal_of (number_word (decimal n)) ≡ Some (Num (pos n))

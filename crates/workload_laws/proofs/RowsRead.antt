@@ -12,7 +12,7 @@ use Rattle.gho_values.specs.declared.gho_schema.schema.Column.{Column}
 use Rattle.table_words.specs.declared.token.Token.{Token}
 use Rattle.table_words.specs.Pieces.{behind_sign, literal_of}
 use Rattle.table_words.specs.Tokens.{same_sign}
-use Rattle.schema_laws.specs.PrintLaws.Words.{sign_word, number_word}
+use Rattle.schema_facts.specs.PrintLaws.Words.{sign_word, number_word}
 use Rattle.plan_tables.specs.RowTexts.{value_at, values_at, row_of, row_at}
 use Rattle.workload_laws.specs.Rows.{table_schema, row_values}
 use Rattle.workload_laws.proofs.Lexed.{text_word, values_words, values_have_words}

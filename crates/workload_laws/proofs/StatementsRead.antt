@@ -9,7 +9,7 @@ use Rattle.table_words.specs.Keys as keys
 use Rattle.table_words.specs.Listed.{listed, gathered}
 use Rattle.table_words.specs.Pieces as pieces
 use Rattle.table_words.specs.Tokens.{is_keyword, same_sign, text_words}
-use Rattle.schema_laws.specs.PrintLaws.Words.{sign_word, number_word}
+use Rattle.schema_facts.specs.PrintLaws.Words.{sign_word, number_word}
 use Rattle.script_text.specs.declared.script.ScriptWord.TheVariants.{Do}
 use Rattle.script_reader.specs.Conditions.{equality_at, and_equality_at, more_equalities_at, equalities_at, form_at, condition_at}
 use Rattle.script_reader.specs.Lines.{line_of}

@@ -4,7 +4,6 @@ ghost use Rattle.workload_laws.specs.Laws.{AltersAreTaken, TablesAreRead, Tables
 
 use gho_values::laws::stored_values_store_again;
 use row_store::laws::put_keeps_tables;
-use schema_laws::read_schemas_are_lawful;
 
 /// A workload's CREATE TABLE and its ALTER are read, and both schemas are lawful.
 pub fn workload_alters_are_taken()
@@ -18,7 +17,6 @@ pub fn workload_tables_are_read()
 {
     stored_values_store_again();
     put_keeps_tables();
-    read_schemas_are_lawful();
 }
 
 /// Its clients' scripts are read, statement by statement.

@@ -14,15 +14,15 @@ use Rattle.plan_words.specs.PlanData.{PlanData}
 use Rattle.migration_program.specs.JournalWords.Journals.{opens_if, state_at}
 use Rattle.migration_program.specs.JournalWords.Sessions.{live_session, sessions_named}
 use Rattle.migration_program.specs.Programs.{given}
-use Rattle.history_laws.specs.MachineLaws.Laws.{MayLoseAny}
-use Rattle.history_laws.specs.MachineLaws.Runnable.{IsRunnable}
-use Rattle.history_laws.specs.MachineLaws.Standings.{MayTake, opened_for}
-use Rattle.history_laws.proofs.MachineLaws.Whole.{given_called, given_polled, losses as losses_may}
-use Rattle.history_laws.specs.RunLaws.Counting.{numbered, IsBehind, AreApart}
-use Rattle.history_laws.specs.RunLaws.Kept.{IsKept}
-use Rattle.history_laws.specs.RunLaws.Laws.{Living, NoneWaits}
-use Rattle.history_laws.proofs.RunLaws.Living.{all_living}
-use Rattle.history_laws.proofs.RunLaws.Waits.{all_waits}
+use Rattle.journal_facts.specs.MachineLaws.Laws.{MayLoseAny}
+use Rattle.journal_facts.specs.MachineLaws.Runnable.{IsRunnable}
+use Rattle.journal_facts.specs.MachineLaws.Standings.{MayTake, opened_for}
+use Rattle.journal_facts.proofs.MachineLaws.Whole.{given_called, given_polled, losses as losses_may}
+use Rattle.journal_facts.specs.RunLaws.Counting.{numbered, IsBehind, AreApart}
+use Rattle.journal_facts.specs.RunLaws.Kept.{IsKept}
+use Rattle.journal_facts.specs.RunLaws.Laws.{Living, NoneWaits}
+use Rattle.journal_facts.proofs.RunLaws.Living.{all_living}
+use Rattle.journal_facts.proofs.RunLaws.Waits.{all_waits}
 use Rattle.due_turns.specs.declared.migration_run.turn.Turn.{Turn}
 use Rattle.due_turns.specs.MigrationRun.Asking.{MayAsk}
 use Rattle.due_turns.specs.MigrationRun.Sessions.{IsSessionOf}

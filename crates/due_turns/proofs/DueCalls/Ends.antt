@@ -38,13 +38,13 @@ use Rattle.migration_program.specs.Operators.{is_throttled}
 use Rattle.migration_program.specs.Setups.{Setup, Listing, Clearing, MakingLog, MakingGhost, Marking, Reaching, Ready, setup_call}
 use Rattle.migration_program.specs.Programs.{in_transaction, rolls_back, copy_call, apply_call, may_begin, tool_call, tool_asks, given}
 use Rattle.migration_program.specs.Tools.{Course, SettingUp, Migrating, is_reverting, Moment, moment}
-use Rattle.history_laws.specs.MachineLaws.Machines.{copier_asks}
-use Rattle.history_laws.proofs.MachineLaws.Asking.{some_request, unless_called, copier_next, renamer_next}
-use Rattle.history_laws.proofs.MachineLaws.Calling.{reverting_or}
-use Rattle.history_laws.proofs.MachineLaws.Clients.{Next, calls_line, polls_line, client_next}
-use Rattle.history_laws.proofs.MachineLaws.Forming.{next_call}
-use Rattle.history_laws.proofs.MachineLaws.Journals.{Asking, calls_so, polls_so, asking, apply_called}
-use Rattle.history_laws.proofs.MachineLaws.Polling.{AllTogether, no_word}
+use Rattle.journal_facts.specs.MachineLaws.Machines.{copier_asks}
+use Rattle.journal_facts.proofs.MachineLaws.Asking.{some_request, unless_called, copier_next, renamer_next}
+use Rattle.journal_facts.proofs.MachineLaws.Calling.{reverting_or}
+use Rattle.journal_facts.proofs.MachineLaws.Clients.{Next, calls_line, polls_line, client_next}
+use Rattle.journal_facts.proofs.MachineLaws.Forming.{next_call}
+use Rattle.journal_facts.proofs.MachineLaws.Journals.{Asking, calls_so, polls_so, asking, apply_called}
+use Rattle.journal_facts.proofs.MachineLaws.Polling.{AllTogether, no_word}
 
 -- who may ask for the range of this table
 abbrev pub EndsBy : PlanData → Actor → List ℕ → Type 0

@@ -24,15 +24,15 @@ use Rattle.plain_server.specs.Serving.{does, done, called_unless, calls, is_over
 use Rattle.plan_words.specs.PlanData.{PlanData}
 use Rattle.migration_program.specs.JournalWords.Journals.{opens, state_at, inner_answer, heard, IsFaithful}
 use Rattle.migration_program.specs.Programs.{IsGiven, Follows}
-use Rattle.history_laws.specs.Scenes.{Stored}
-use Rattle.history_laws.specs.Turns.{request_of}
-use Rattle.history_laws.proofs.Journals.{stored_opened, opened_waits}
-use Rattle.history_laws.specs.MachineLaws.Forming.{IsFitting}
-use Rattle.history_laws.specs.MachineLaws.Standings.{standing_of, serves_to, IsAbout, is_called, is_polled}
-use Rattle.history_laws.proofs.MachineLaws.Asking.{WaitsWith}
-use Rattle.history_laws.proofs.MachineLaws.Journals.{IsRun, all_runs}
-use Rattle.history_laws.proofs.MachineLaws.Polling.{AllTogether, AllWaits, waits_more, waits_begin, together_more_all, together_begins_all, given_idle, given_waits}
-use Rattle.history_laws.proofs.MachineLaws.Seated.{IsServed, own_heard, own_given, own_missed, own_waiting}
+use Rattle.journal_facts.specs.Scenes.{Stored}
+use Rattle.journal_facts.specs.Turns.{request_of}
+use Rattle.journal_facts.proofs.Journals.{stored_opened, opened_waits}
+use Rattle.journal_facts.specs.MachineLaws.Forming.{IsFitting}
+use Rattle.journal_facts.specs.MachineLaws.Standings.{standing_of, serves_to, IsAbout, is_called, is_polled}
+use Rattle.journal_facts.proofs.MachineLaws.Asking.{WaitsWith}
+use Rattle.journal_facts.proofs.MachineLaws.Journals.{IsRun, all_runs}
+use Rattle.journal_facts.proofs.MachineLaws.Polling.{AllTogether, AllWaits, waits_more, waits_begin, together_more_all, together_begins_all, given_idle, given_waits}
+use Rattle.journal_facts.proofs.MachineLaws.Seated.{IsServed, own_heard, own_given, own_missed, own_waiting}
 use Rattle.due_turns.specs.DueCalls.Ranges.{range_of, keys_in, range_of_table, range_in, ahead_of, IsTold}
 use Rattle.due_turns.specs.DueCalls.Laws.{RangesAreAhead}
 use Rattle.due_turns.proofs.DueCalls.Ends.{EndsBy, AsksEnds, given_ends}

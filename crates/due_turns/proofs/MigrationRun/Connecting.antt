@@ -11,10 +11,10 @@ use Rattle.plain_server.specs.States.{State, session_of, is_live, is_waiting, ne
 use Rattle.plain_server.specs.Serving.{loses}
 use Rattle.plain_server.specs.Conditions.{MayLose}
 use Rattle.migration_program.specs.JournalWords.Journals.{opens_if}
-use Rattle.history_laws.specs.RunLaws.Counting.{numbered, IsBehind, kind_of}
+use Rattle.journal_facts.specs.RunLaws.Counting.{numbered, IsBehind, kind_of}
 use Rattle.due_turns.specs.MigrationRun.Sessions.{IsSessionOf}
-use Rattle.history_laws.proofs.RunLaws.Numbering.{loses_numbered}
-use Rattle.history_laws.proofs.RunLaws.Waits.{lost_at_once}
+use Rattle.journal_facts.proofs.RunLaws.Numbering.{loses_numbered}
+use Rattle.journal_facts.proofs.RunLaws.Waits.{lost_at_once}
 
 pub kind_live : (found : Option Session) (kind : Bool) → option_map (λ (s : Session). s.is_tool) found ≡ Some kind → is_some found ≡ true
 kind_live None kind is = absurd (cc)

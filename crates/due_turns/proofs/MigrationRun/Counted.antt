@@ -11,9 +11,9 @@ use Rattle.plain_server.specs.Entries.{is_client}
 use Rattle.plain_server.specs.States.{State, session_of, is_waiting, is_in_transaction, holds_tables, new_session, connected, has_work, load}
 use Rattle.plain_server.specs.Serving.{serves, leaves, given_at}
 use Rattle.migration_program.specs.JournalWords.Journals.{opens_if, after_entry, heard, missed}
-use Rattle.history_laws.specs.RunLaws.Counting.{IsBehind, kind_of, is_open, is_busy, busy_count, weight, weigh, others}
-use Rattle.history_laws.proofs.RunLaws.Turns.{is_lost, kind_left, Leaves, turn_leaves, opened_kind, opened, entry_turned}
-use Rattle.history_laws.proofs.RunLaws.Tallies.{tally, tally_is, tally_parts, load_turns, busy_turns}
+use Rattle.journal_facts.specs.RunLaws.Counting.{IsBehind, kind_of, is_open, is_busy, busy_count, weight, weigh, others}
+use Rattle.journal_facts.proofs.RunLaws.Turns.{is_lost, kind_left, Leaves, turn_leaves, opened_kind, opened, entry_turned}
+use Rattle.journal_facts.proofs.RunLaws.Tallies.{tally, tally_is, tally_parts, load_turns, busy_turns}
 use Rattle.due_turns.specs.declared.migration_run.turn.Turn.{Turn}
 use Rattle.due_turns.specs.declared.migration_run.counting.Counts.{Counts}
 use Rattle.due_turns.specs.MigrationRun.Sessions.{IsSessionOf}

@@ -7,7 +7,7 @@ use Rattle.plain_server.specs.Entries.{is_client}
 use Rattle.plain_server.specs.declared.session.Session.{Session}
 use Rattle.plain_server.specs.declared.session.Waiting.{Waiting}
 use Rattle.plain_server.specs.States.{State, session_of, is_in_transaction, is_waiting}
-use Rattle.history_laws.specs.RunLaws.Counting.{is_open, is_busy, weight, weigh, kind_of}
+use Rattle.journal_facts.specs.RunLaws.Counting.{is_open, is_busy, weight, weigh, kind_of}
 use Rattle.plain_server.proofs.StatementLaws.Tests.{are_one}
 
 not_not : (tool client : Bool) → tool ≡ not client → not tool ≡ client

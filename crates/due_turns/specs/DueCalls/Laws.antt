@@ -8,10 +8,10 @@ use Rattle.plan_words.specs.PlanData.{PlanData}
 use Rattle.migration_program.specs.JournalWords.Journals.{state_at, IsAnswered, IsFaithful}
 use Rattle.migration_program.specs.JournalWords.Sessions.{live_session}
 use Rattle.migration_program.specs.Programs.{IsFollowed, Follows}
-use Rattle.history_laws.specs.MachineLaws.Forming.{IsFitting}
-use Rattle.history_laws.specs.MachineLaws.Runnable.{IsRunnable}
-use Rattle.history_laws.specs.RunLaws.Counting.{IsBehind}
-use Rattle.history_laws.specs.RunLaws.Kept.{IsKept}
+use Rattle.journal_facts.specs.MachineLaws.Forming.{IsFitting}
+use Rattle.journal_facts.specs.MachineLaws.Runnable.{IsRunnable}
+use Rattle.journal_facts.specs.RunLaws.Counting.{IsBehind}
+use Rattle.journal_facts.specs.RunLaws.Kept.{IsKept}
 use Rattle.due_turns.specs.declared.migration_run.turn.Turn.{Turn}
 use Rattle.due_turns.specs.MigrationRun.Turning.{MayTurn}
 use Rattle.due_turns.specs.Due.{due}

@@ -3,7 +3,7 @@ use Rattle.std.specs.Prelude.{◌≡◌, ◌<◌, ℕ, not, Option, Some, None}
 use Rattle.script_text.specs.declared.actor.Actor.{Actor}
 use Rattle.plain_server.specs.Entries.{is_client}
 use Rattle.plain_server.specs.States.{State}
-use Rattle.history_laws.specs.RunLaws.Counting.{kind_of}
+use Rattle.journal_facts.specs.RunLaws.Counting.{kind_of}
 
 -- the session that the actor has is live, the tool's or a client's as the actor is; a session above those that were made
 -- isn't

@@ -9,8 +9,8 @@ use Rattle.plain_server.specs.Entries.{is_client, is_command}
 use Rattle.plain_server.specs.States.{State, load}
 use Rattle.plain_server.specs.Serving.{serves, given_at}
 use Rattle.migration_program.specs.JournalWords.Journals.{opens_if, heard, missed}
-use Rattle.history_laws.specs.RunLaws.Counting.{busy_count, AreApart}
-use Rattle.history_laws.specs.RunLaws.Laws.{NoneWaits}
+use Rattle.journal_facts.specs.RunLaws.Counting.{busy_count, AreApart}
+use Rattle.journal_facts.specs.RunLaws.Laws.{NoneWaits}
 use Rattle.due_turns.specs.declared.migration_run.turn.Turn.{Turn}
 use Rattle.due_turns.specs.declared.migration_run.counting.Counts.{Counts}
 use Rattle.due_turns.specs.MigrationRun.Asking.{MayAsk}

@@ -3,7 +3,7 @@
 ghost use Rattle.std.specs.Prelude.{◌≡◌, ◌+◌, ◌<◌, ◌≤◌, ◌^◌, true, false, not, Some, None};
 ghost use Rattle.plain_server.specs.Entries.{is_client};
 ghost use Rattle.plain_server.specs.States.{session_of, has_work};
-ghost use Rattle.history_laws.specs.RunLaws.Counting.{is_open, is_busy, weight, weigh, kind_of};
+ghost use Rattle.journal_facts.specs.RunLaws.Counting.{is_open, is_busy, weight, weigh, kind_of};
 ghost use Rattle.due_turns.specs.MigrationRun.Turning.{is_lost_in};
 
 use crate::migration_run::turn::Turn;

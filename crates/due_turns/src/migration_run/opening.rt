@@ -4,7 +4,7 @@ ghost use Rattle.std.specs.Prelude.{◌≡◌, ◌+◌, ◌<◌, ℕ, Bool, not,
 ghost use Rattle.plain_server.specs.Entries.{is_client};
 ghost use Rattle.plain_server.specs.States.{State, connected, is_live, is_waiting};
 ghost use Rattle.migration_program.specs.JournalWords.Journals.{opens_if};
-ghost use Rattle.history_laws.specs.RunLaws.Counting.{IsBehind, kind_of};
+ghost use Rattle.journal_facts.specs.RunLaws.Counting.{IsBehind, kind_of};
 ghost use Rattle.due_turns.specs.MigrationRun.Sessions.{IsSessionOf};
 ghost use Rattle.due_turns.specs.MigrationRun.Turning.{session_for};
 

@@ -4,7 +4,7 @@ ghost use Rattle.std.specs.Prelude.{◌≡◌, ◌≤◌, ℕ, Bool, true, false
 ghost use Rattle.plain_server.specs.States.{State, connected, is_live, is_waiting, has_work};
 ghost use Rattle.plain_server.specs.Serving.{serves, leaves, given_at};
 ghost use Rattle.migration_program.specs.JournalWords.Journals.{after_entry, heard, missed};
-ghost use Rattle.history_laws.specs.RunLaws.Counting.{IsBehind, kind_of};
+ghost use Rattle.journal_facts.specs.RunLaws.Counting.{IsBehind, kind_of};
 ghost use Rattle.due_turns.specs.MigrationRun.Asking.{MayAsk};
 ghost use Rattle.due_turns.specs.MigrationRun.Turning.{session_for, made_for, entry_on, counts_of, MayTurn};
 

@@ -15,11 +15,11 @@ use Rattle.plan_words.specs.PlanData.{PlanData}
 use Rattle.migration_program.specs.JournalWords.Journals.{opening, state_behind, state_at, after_entry}
 use Rattle.migration_program.specs.JournalWords.Keeping.{cut_due}
 use Rattle.migration_program.specs.JournalWords.Sessions.{NumbersSessions}
-use Rattle.history_laws.proofs.Journals.{state_more}
+use Rattle.journal_facts.proofs.Journals.{state_more}
 use Rattle.migration_program.specs.Orders.{actors, Queue, Choice, Walk, words_in, chosen, queue_left, queue_after, walked, queue_at, actor_of, next_actor, IsNext, ReplayOrder, IsReplay}
-use Rattle.history_laws.specs.RunLaws.Counting.{IsBehind}
-use Rattle.history_laws.specs.RunLaws.Kept.{IsKept}
-use Rattle.history_laws.proofs.RunLaws.Keeping.{kept_none}
+use Rattle.journal_facts.specs.RunLaws.Counting.{IsBehind}
+use Rattle.journal_facts.specs.RunLaws.Kept.{IsKept}
+use Rattle.journal_facts.proofs.RunLaws.Keeping.{kept_none}
 use Rattle.due_turns.specs.declared.migration_run.turn.Turn.{Turn}
 use Rattle.due_turns.specs.MigrationRun.Turning.{entry_on}
 use Rattle.due_turns.specs.Due.{due, next_entry}

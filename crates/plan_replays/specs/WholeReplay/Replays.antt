@@ -6,7 +6,7 @@ use Rattle.migration_program.specs.JournalWords.Journals.{opening, state_at}
 use Rattle.migration_program.specs.JournalWords.Keeping.{cut_due}
 use Rattle.migration_program.specs.JournalWords.Sessions.{NumbersSessions}
 use Rattle.migration_program.specs.Orders.{queue_at, next_actor, ReplayOrder}
-use Rattle.history_laws.specs.RunLaws.Kept.{IsKept}
+use Rattle.journal_facts.specs.RunLaws.Kept.{IsKept}
 use Rattle.whole_run.specs.declared.run.Stepped.{Stepped}
 use Rattle.whole_run.specs.declared.run.Stepped.TheVariants.{Took, Idle, Over, NoMemory}
 use Rattle.whole_run.specs.Runs.{RunView, is_over, IsUnmoved, Stops}

@@ -1,6 +1,6 @@
 //! That the printed text of an altered schema is read as that schema: each function's contract is a law, and its body does nothing.
 
-ghost use Rattle.schema_laws.specs.AlterLaws.AlterRereadLaws.Laws.{AlteredSchemasAreDeclared, AlteredSchemasAreReadAgain};
+ghost use Rattle.schema_facts.specs.AlterLaws.AlterRereadLaws.Laws.{AlteredSchemasAreDeclared, AlteredSchemasAreReadAgain};
 
 use gho_values::laws::stored_values_store_again;
 

@@ -1,6 +1,6 @@
 //! The laws.
 
-ghost use Rattle.schema_laws.specs.AlterLaws.Laws.{ImagesKeepKeys, ImagesStayApart, ClusteredKeysStay, ImagesKeepClusteredKeys, AlteredTablesKeepNames, AlteredSchemasAreLawful, ReadClausesWriteKinds, ImagesAreRows, MapsFit, AlteredTablesAreTables};
+ghost use Rattle.schema_facts.specs.AlterLaws.Laws.{ImagesKeepKeys, ImagesStayApart, ClusteredKeysStay, ImagesKeepClusteredKeys, AlteredTablesKeepNames, AlteredSchemasAreLawful, ReadClausesWriteKinds, ImagesAreRows, MapsFit, AlteredTablesAreTables};
 
 use gho_values::laws::stored_values_store_again;
 

@@ -15,7 +15,7 @@ use Rattle.plain_server.specs.States.{pair_names}
 use Rattle.plain_server.specs.StatementLaws.Covering.{IsOrderlyTable}
 use Rattle.plain_server.specs.StatementLaws.Databases.{IsOrderly}
 use Rattle.plain_server.proofs.StatementLaws.Tests.{are_same, turned_bytes, nor_left, nor_right}
-use Rattle.history_laws.proofs.Moves.{create_moves, drop_moves, rename_moves}
+use Rattle.journal_facts.proofs.Moves.{create_moves, drop_moves, rename_moves}
 use Rattle.server_data.specs.Fitting.{NoneOf}
 use Rattle.txn_session.specs.Premises.{IsOf}
 use Rattle.txn_session.specs.Rooms.{puts_of, puts_in}

@@ -7,7 +7,7 @@ ghost use Rattle.migration_program.specs.JournalWords.Journals.{after_entry};
 ghost use Rattle.migration_program.specs.Tools.{moment};
 ghost use Rattle.migration_program.specs.ToolSetup.Meanings.{range_told};
 ghost use Rattle.tool_calls.specs.ToolState.Sound.{HasRoom};
-ghost use Rattle.history_laws.specs.RunLaws.Counting.{busy_count};
+ghost use Rattle.journal_facts.specs.RunLaws.Counting.{busy_count};
 ghost use Rattle.turn_book.specs.Books.{is_planned, seat_in, renames_of, AreReached, HasRoomFor, IsBook};
 
 use crate::{Book, script_of};

@@ -8,14 +8,14 @@ use Rattle.migration_program.specs.JournalWords.Journals.{state_at}
 use Rattle.migration_program.specs.JournalWords.Sessions.{NumbersSessions}
 use Rattle.migration_program.specs.Orders.{WorkerTurn, RunOrder}
 use Rattle.migration_program.specs.Verdicts.{verdict_of}
-use Rattle.history_laws.specs.RunLaws.Kept.{IsKept}
-use Rattle.accepted_runs.specs.AcceptedLaws.Laws.{WasRead}
+use Rattle.journal_facts.specs.RunLaws.Kept.{IsKept}
+use Rattle.accepted_plans.specs.AcceptedLaws.Laws.{WasRead}
 use Rattle.desk_workers.specs.declared.ending.Ending.{Ending}
 use Rattle.desk_workers.specs.declared.ending.Ending.TheVariants.{Over}
 use Rattle.whole_run.specs.Runs.{RunView, is_over, Stops}
 use Rattle.worker_host.specs.Passes.{IsByPasses}
-use Rattle.plan_replays.specs.SoundRuns.{KeptRunsAreSound}
-use Rattle.plan_replays.specs.Replays.{IsEnd}
+use Rattle.whole_host.specs.WholeReplays.SoundRuns.{KeptRunsAreSound}
+use Rattle.whole_host.specs.WholeReplays.Replays.{IsEnd}
 use Rattle.whole_host.specs.PlanWorks.Works.{IsWholeRun}
 
 -- *Whole run*

@@ -5,7 +5,7 @@ use Rattle.plan_words.specs.PlanData.{PlanData}
 use Rattle.migration_program.specs.JournalWords.Sessions.{NumbersSessions}
 use Rattle.migration_program.specs.Orders.{WorkerTurn, RunOrder}
 use Rattle.worker_host.specs.Passes.{IsByPasses}
-use Rattle.plan_replays.specs.SoundRuns.{IsSoundRun}
+use Rattle.whole_host.specs.WholeReplays.SoundRuns.{IsSoundRun}
 
 -- *Whole run*: a sound run whose sessions are numbered one by one. Each turn is of one of so many workers, and of the actor that
 -- the rule gives that worker; and the turns are those of the workers' passes.

@@ -3,17 +3,16 @@
 ghost use Rattle.std.specs.Prelude.{◌≡◌, ◌≤◌, Some, IfSome, IfOk};
 ghost use Rattle.migration_program.specs.JournalWords.Journals.{opening};
 ghost use Rattle.migration_program.specs.Verdicts.{verdict_of};
-ghost use Rattle.accepted_runs.specs.AcceptedLaws.Laws.{WasRead};
+ghost use Rattle.accepted_plans.specs.AcceptedLaws.Laws.{WasRead};
 ghost use Rattle.desk_workers.specs.declared.ending.Ending.TheVariants as endings;
-ghost use Rattle.plan_replays.specs.Replays.{IsEnd};
+ghost use Rattle.whole_host.specs.WholeReplays.Replays.{IsEnd};
 ghost use Rattle.whole_host.specs.PlanWorks.Works.{IsWholeRun};
 
+use crate::whole_replays::{End, end_with, kept_runs_are_sound};
 use crate::worker_laws::laws::read_plans_go;
-use accepted_runs::accepted_laws::laws::read_plans_are_runnable;
 use gho_edges::Gate;
+use journal_laws::accepted_runs::accepted_laws::laws::read_plans_are_runnable;
 use plain_server::{Journal, Verdict};
-use plan_replays::laws::kept_runs_are_sound;
-use plan_replays::{End, end_with};
 use plan_words::Plan;
 use serving::Serve;
 use std::alloc::{AllocError, Global};

@@ -2,8 +2,8 @@
 
 ghost use Rattle.whole_host.specs.WorkerLaws.Laws.{ReadPlansGo};
 
-use accepted_runs::accepted_laws::laws::read_plans_are_runnable;
-use accepted_runs::laws::accepted_runs_go_on;
+use journal_laws::accepted_runs::accepted_laws::laws::read_plans_are_runnable;
+use journal_laws::accepted_runs::laws::accepted_runs_go_on;
 
 /// Every plan that was read is runnable, and someone is ready until a run of it has ended.
 pub fn read_plans_go()

@@ -19,11 +19,11 @@ use Rattle.migration_program.specs.JournalWords.Keeping.{side_due}
 use Rattle.migration_program.specs.JournalWords.Sessions.{live_session}
 use Rattle.migration_program.specs.Programs.{IsFollowed, Follows}
 use Rattle.migration_program.specs.Tools.{moment}
-use Rattle.history_laws.specs.RunLaws.Counting.{numbered, IsBehind, busy_count}
-use Rattle.history_laws.proofs.RunLaws.Keeping.{kept_none}
-use Rattle.history_laws.proofs.RunLaws.Taking.{server_is}
-use Rattle.history_laws.proofs.RunLaws.Living.{never_lost}
-use Rattle.history_laws.specs.MachineLaws.Runnable.{IsRunnable}
+use Rattle.journal_facts.specs.RunLaws.Counting.{numbered, IsBehind, busy_count}
+use Rattle.journal_facts.proofs.RunLaws.Keeping.{kept_none}
+use Rattle.journal_facts.proofs.RunLaws.Taking.{server_is}
+use Rattle.journal_facts.proofs.RunLaws.Living.{never_lost}
+use Rattle.journal_facts.specs.MachineLaws.Runnable.{IsRunnable}
 use Rattle.due_turns.specs.declared.migration_run.counting.Counts.{Counts}
 use Rattle.due_turns.specs.declared.migration_run.turn.Turn.{Turn}
 use Rattle.due_turns.specs.MigrationRun.Turning.{session_for, made_for, opened_on, entry_on, counts_of, MayTurn}

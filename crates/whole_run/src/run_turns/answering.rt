@@ -4,7 +4,7 @@ ghost use Rattle.std.specs.Prelude.{◌≡◌, ◌≤◌, ◌<◌, true, None, I
 ghost use Rattle.plain_server.specs.Entries.{is_command};
 ghost use Rattle.plain_server.specs.States.{State, has_work};
 ghost use Rattle.migration_program.specs.JournalWords.Journals.{after_entry};
-ghost use Rattle.history_laws.specs.RunLaws.Counting.{IsBehind};
+ghost use Rattle.journal_facts.specs.RunLaws.Counting.{IsBehind};
 ghost use Rattle.due_turns.specs.MigrationRun.Turning.{entry_on, made_for, counts_of};
 ghost use Rattle.due_turns.specs.Due.{next_entry};
 ghost use Rattle.whole_run.specs.RunTurns.Running.{IsDue, IsRun};

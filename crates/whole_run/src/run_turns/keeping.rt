@@ -4,7 +4,7 @@ ghost use Rattle.std.specs.Prelude.{◌≡◌, ◌+◌, ◌<◌, ◌^◌, [], �
 ghost use Rattle.plain_server.specs.States.{has_work, load};
 ghost use Rattle.migration_program.specs.JournalWords.Journals.{after_entry};
 ghost use Rattle.migration_program.specs.Tools.{moment};
-ghost use Rattle.history_laws.specs.RunLaws.Counting.{busy_count};
+ghost use Rattle.journal_facts.specs.RunLaws.Counting.{busy_count};
 ghost use Rattle.turn_book.specs.Books.{is_planned, HasRoomFor, IsBook};
 ghost use Rattle.due_turns.specs.DueCalls.Ranges.{IsTold};
 

@@ -2,7 +2,7 @@
 
 ghost use Rattle.std.specs.Prelude.{◌≡◌, ◌+◌, ◌<◌, ◌^◌, [], ◌∷◌, ◌++◌, length, OnOk, OnErr};
 ghost use Rattle.migration_program.specs.JournalWords.Journals.{after_entry};
-ghost use Rattle.history_laws.specs.RunLaws.Counting.{IsBehind};
+ghost use Rattle.journal_facts.specs.RunLaws.Counting.{IsBehind};
 ghost use Rattle.due_turns.specs.Due.{next_entry};
 ghost use Rattle.whole_run.specs.RunTurns.Running.{IsDue, IsRun};
 

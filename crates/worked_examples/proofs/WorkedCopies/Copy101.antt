@@ -43,28 +43,28 @@ use Rattle.migration_program.specs.declared.event_applier.applier.ApplyStep.{App
 use Rattle.migration_program.specs.declared.event_applier.applier.ApplyStep.TheVariants.{Reading, Beginning, Applying}
 use Rattle.migration_program.specs.declared.event_applier.applier.ApplyStep.TheVariants as applies
 use Rattle.migration_program.specs.declared.event_applier.applier.Part.TheVariants.{Whole}
-use Rattle.history_laws.specs.Scenes.{Scene}
-use Rattle.history_laws.specs.Holdings.{face_of}
-use Rattle.history_laws.specs.Plans as plans
-use Rattle.history_laws.specs.Plans.{limits_of, scene_of}
-use Rattle.history_laws.specs.Turns.{IsSceneRun, scene_state}
-use Rattle.history_laws.proofs.PlanJournals.{plan_runs_are_scene_runs}
+use Rattle.journal_facts.specs.Scenes.{Scene}
+use Rattle.journal_facts.specs.Holdings.{face_of}
+use Rattle.journal_facts.specs.Plans as plans
+use Rattle.journal_facts.specs.Plans.{limits_of, scene_of}
+use Rattle.journal_facts.specs.Turns.{IsSceneRun, scene_state}
+use Rattle.journal_facts.proofs.PlanJournals.{plan_runs_are_scene_runs}
 use Rattle.plan_words.specs.PlanData.{Altered}
-use Rattle.revert_laws.specs.MigrationLaws.PlanningLaws.Laws.{migration_of}
-use Rattle.revert_laws.proofs.MigrationLaws.PlanningLaws.Planned.{alters_planned}
-use Rattle.history_laws.specs.GhostLaws.GhostRows.Moments.{Row}
-use Rattle.history_laws.specs.GhostLaws.GhostRows.Timelines.{IsPlanned, Migration}
-use Rattle.history_laws.specs.GhostLaws.Copies.{IsAltered}
-use Rattle.history_laws.specs.GhostLaws.Holding.{Clustered}
-use Rattle.history_laws.specs.GhostLaws.Invariant.{NotOf}
-use Rattle.history_laws.proofs.GhostLaws.Turns.{run_front}
-use Rattle.revert_laws.specs.MigrationLaws.ApplyLaws.Finding.{FindsRows}
-use Rattle.revert_laws.proofs.MigrationLaws.ApplyLaws.Stated.{alters_find_rows}
-use Rattle.revert_laws.specs.MigrationLaws.Away.{KeepsAway, OthersAway}
-use Rattle.revert_laws.specs.MigrationLaws.Machines.{IsMigrationEnd, IsMigrationStart, Machines, MigrationRun, MigrationTurn, Step, hold_at, journal_behind, machines_behind}
-use Rattle.revert_laws.specs.MigrationLaws.Machines.MigrationTurn.{copier_turns, applier_turns, others_turn}
-use Rattle.revert_laws.specs.MigrationLaws.Machines.Step.{Turned}
-use Rattle.revert_laws.proofs.MigrationLaws.Migrating.{journals_alter}
+use Rattle.migration_facts.specs.MigrationLaws.PlanningLaws.Laws.{migration_of}
+use Rattle.migration_facts.proofs.MigrationLaws.PlanningLaws.Planned.{alters_planned}
+use Rattle.journal_facts.specs.GhostLaws.GhostRows.Moments.{Row}
+use Rattle.journal_facts.specs.GhostLaws.GhostRows.Timelines.{IsPlanned, Migration}
+use Rattle.journal_facts.specs.GhostLaws.Copies.{IsAltered}
+use Rattle.journal_facts.specs.GhostLaws.Holding.{Clustered}
+use Rattle.journal_facts.specs.GhostLaws.Invariant.{NotOf}
+use Rattle.journal_facts.proofs.GhostLaws.Turns.{run_front}
+use Rattle.migration_facts.specs.MigrationLaws.ApplyLaws.Finding.{FindsRows}
+use Rattle.migration_facts.proofs.MigrationLaws.ApplyLaws.Stated.{alters_find_rows}
+use Rattle.migration_facts.specs.MigrationLaws.Away.{KeepsAway, OthersAway}
+use Rattle.migration_facts.specs.MigrationLaws.Machines.{IsMigrationEnd, IsMigrationStart, Machines, MigrationRun, MigrationTurn, Step, hold_at, journal_behind, machines_behind}
+use Rattle.migration_facts.specs.MigrationLaws.Machines.MigrationTurn.{copier_turns, applier_turns, others_turn}
+use Rattle.migration_facts.specs.MigrationLaws.Machines.Step.{Turned}
+use Rattle.migration_facts.proofs.MigrationLaws.Migrating.{journals_alter}
 use Rattle.worked_runs.proofs.Computing.{computing}
 use Rattle.worked_runs.proofs.Plans1.{plan_101, journal_101}
 use Rattle.worked_runs.proofs.SerialRun.{run_101}
@@ -726,7 +726,7 @@ quiet_found : (number : ℕ) (sessions : List Session) → AllByRecursion (λ (s
 quiet_found number [] all = refl
 quiet_found number (first ∷ sessions) all = by (first.number == number) refl (quiet_found number sessions all.1)
   where
-    by : (b : Bool) → (first.number == number) ≡ b → (face_of sessions number).hold.writes ≡ [] → (Rattle.history_laws.specs.Holdings.face_in (cond b (Some first) (Rattle.plain_server.specs.States.session_of number sessions))).hold.writes ≡ []
+    by : (b : Bool) → (first.number == number) ≡ b → (face_of sessions number).hold.writes ≡ [] → (Rattle.journal_facts.specs.Holdings.face_in (cond b (Some first) (Rattle.plain_server.specs.States.session_of number sessions))).hold.writes ≡ []
     by true is rest = all.0
     by false is rest = rest
 
@@ -737,7 +737,7 @@ away_101 n no_copier no_applier =
     subst (NotOf (codes "_t_gho")) (sym (quiet_found n (scene_state limits_101 scene_101 journal_18).sessions quiet)) tt
 
 start_101 : IsMigrationStart m_101 rows_101 limits_101 scene_101 journal_18 now_18
-unfolding computing plans.client_names plans.client_tables plans.script_names Rattle.history_laws.specs.GhostLaws.GhostRows.Moments.LogFits Rattle.history_laws.specs.GhostLaws.GhostRows.Moments.rows_at
+unfolding computing plans.client_names plans.client_tables plans.script_names Rattle.journal_facts.specs.GhostLaws.GhostRows.Moments.LogFits Rattle.journal_facts.specs.GhostLaws.GhostRows.Moments.rows_at
 start_101 =
     record {
       start = record {

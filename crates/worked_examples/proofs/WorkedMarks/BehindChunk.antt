@@ -11,9 +11,9 @@ use Rattle.gho_values.specs.declared.alter_image.clause.Clause.TheVariants as cl
 use Rattle.gho_values.specs.declared.alter_image.clause.Spot.TheVariants.{Unsaid}
 use Rattle.gho_values.specs.declared.alter_image.map.Origin.TheVariants as from
 use Rattle.alter_schema.specs.Altering.{altered}
-use Rattle.schema_laws.proofs.AlterLaws.ImageTables.{clustered_keys_kept}
-use Rattle.schema_laws.proofs.AlterLaws.KeepingKeys.{stay_apart}
-use Rattle.schema_laws.proofs.AlterLaws.TableNames.{keep_names}
+use Rattle.schema_facts.proofs.AlterLaws.ImageTables.{clustered_keys_kept}
+use Rattle.schema_facts.proofs.AlterLaws.KeepingKeys.{stay_apart}
+use Rattle.schema_facts.proofs.AlterLaws.TableNames.{keep_names}
 use Rattle.row_store.specs.Databases.{TableRows}
 use Rattle.plain_server.specs.declared.entry.Entry.{Entry}
 use Rattle.plan_words.specs.PlanData.{Altered}
@@ -22,14 +22,14 @@ use Rattle.migration_program.specs.JournalWords.Keeping.{KeepsPlan}
 use Rattle.migration_program.specs.JournalWords.Sessions.{KeepsSessions}
 use Rattle.migration_program.specs.Programs.{Follows}
 use Rattle.migration_program.specs.Tools.{Course, Migrating, Work, moment, new_work}
-use Rattle.history_laws.specs.Plans as plans
-use Rattle.history_laws.specs.Plans.{IsSerialPlan}
-use Rattle.history_laws.specs.GhostLaws.Copies.{IsAltered}
-use Rattle.revert_laws.specs.MigrationLaws.PlanningLaws.Laws.{migration_of}
-use Rattle.history_laws.specs.RunLaws.Kept.{IsKept}
-use Rattle.revert_laws.specs.CourseLaws.RunnableLaws.Laws.{IsAlterable, IsWorded}
-use Rattle.revert_laws.specs.FollowLaws.FollowTurns.Laws.{IsMark}
-use Rattle.revert_laws.specs.FollowLaws.Laws.{FollowersAlter}
+use Rattle.journal_facts.specs.Plans as plans
+use Rattle.journal_facts.specs.Plans.{IsSerialPlan}
+use Rattle.journal_facts.specs.GhostLaws.Copies.{IsAltered}
+use Rattle.migration_facts.specs.MigrationLaws.PlanningLaws.Laws.{migration_of}
+use Rattle.journal_facts.specs.RunLaws.Kept.{IsKept}
+use Rattle.migration_facts.specs.CourseLaws.RunnableLaws.Laws.{IsAlterable, IsWorded}
+use Rattle.migration_facts.specs.FollowLaws.FollowTurns.Laws.{IsMark}
+use Rattle.migration_facts.specs.FollowLaws.Laws.{FollowersAlter}
 use Rattle.worked_runs.proofs.Computing.{computing}
 use Rattle.worked_runs.proofs.SmallPlans1.{plan_behind_chunk, journal_behind_chunk}
 

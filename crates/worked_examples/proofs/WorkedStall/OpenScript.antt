@@ -19,7 +19,7 @@ use Rattle.migration_program.specs.Orders.{actors, is_ready}
 use Rattle.migration_program.specs.Programs.{Follows}
 use Rattle.migration_program.specs.Tools.{moment}
 use Rattle.migration_program.specs.Verdicts.{has_ended}
-use Rattle.revert_laws.specs.CourseLaws.ReadyLaws.Laws.{IsStuck}
+use Rattle.migration_facts.specs.CourseLaws.ReadyLaws.Laws.{IsStuck}
 use Rattle.worked_runs.proofs.Computing.{computing}
 
 abbrev plan_open_script : PlanData

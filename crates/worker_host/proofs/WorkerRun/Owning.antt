@@ -4,7 +4,7 @@ use Rattle.std.specs.List.{slice_get, find}
 use Rattle.std.proofs.lemmas.Bool.{true≢false}
 use Rattle.script_text.specs.declared.actor.Actor.{Actor}
 use Rattle.plain_server.specs.Entries.{same_actor}
-use Rattle.history_laws.proofs.Actors.{same_actor_is, same_actor_itself}
+use Rattle.journal_facts.proofs.Actors.{same_actor_is, same_actor_itself}
 use Rattle.migration_program.specs.Orders.{owned_from, is_among, behind}
 use Rattle.worker_host.proofs.WorkerRun.ActorSeats.{Apart}
 

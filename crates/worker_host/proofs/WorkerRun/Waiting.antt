@@ -14,10 +14,10 @@ use Rattle.migration_program.specs.JournalWords.Journals.{state_at}
 use Rattle.migration_program.specs.JournalWords.Sessions.{live_session}
 use Rattle.migration_program.specs.Programs.{waits, given}
 use Rattle.migration_program.specs.Orders.{actors, is_ready, is_poll, owned, is_among}
-use Rattle.history_laws.specs.RunLaws.Kept.{IsKept}
-use Rattle.history_laws.proofs.MachineLaws.Asking.{idle_waits, busy_waits}
-use Rattle.history_laws.proofs.MachineLaws.Polling.{AllTogether, given_idle, given_waits, all_formed}
-use Rattle.revert_laws.proofs.CourseLaws.Owners.{together_owned}
+use Rattle.journal_facts.specs.RunLaws.Kept.{IsKept}
+use Rattle.journal_facts.proofs.MachineLaws.Asking.{idle_waits, busy_waits}
+use Rattle.journal_facts.proofs.MachineLaws.Polling.{AllTogether, given_idle, given_waits, all_formed}
+use Rattle.migration_facts.proofs.CourseLaws.Owners.{together_owned}
 use Rattle.due_turns.proofs.Coming.{Asks, Commands, Called, given_asks, given_uncut}
 use Rattle.worker_host.specs.declared.worker_run.choosing.Sought.{Sought}
 use Rattle.worker_host.specs.declared.worker_run.choosing.Sought.TheVariants.{Own, Idle, Waiting}

@@ -15,12 +15,12 @@ use Rattle.plan_words.specs.PlanData.{PlanData}
 use Rattle.migration_program.specs.JournalWords.Journals.{opening, state_at, after_entry, state_behind}
 use Rattle.migration_program.specs.JournalWords.Sessions.{NumbersSessions}
 use Rattle.plain_server.proofs.StatementLaws.Tests.{are_one}
-use Rattle.history_laws.proofs.Journals.{state_more}
+use Rattle.journal_facts.proofs.Journals.{state_more}
 use Rattle.migration_program.specs.Orders.{actors, is_ready, owned, WorkerTurn, last_taken, picked, worker_actor, IsNext}
 use Rattle.migration_program.specs.Verdicts.{has_ended}
-use Rattle.history_laws.specs.RunLaws.Counting.{IsBehind}
-use Rattle.history_laws.specs.RunLaws.Kept.{IsKept}
-use Rattle.history_laws.proofs.RunLaws.Keeping.{kept_none}
+use Rattle.journal_facts.specs.RunLaws.Counting.{IsBehind}
+use Rattle.journal_facts.specs.RunLaws.Kept.{IsKept}
+use Rattle.journal_facts.proofs.RunLaws.Keeping.{kept_none}
 use Rattle.due_turns.specs.MigrationRun.Turning.{entry_on}
 use Rattle.due_turns.specs.Due.{due, next_entry}
 use Rattle.due_turns.proofs.Coming.{Comes, Cuts, Gives, comes}

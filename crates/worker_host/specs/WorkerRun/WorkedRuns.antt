@@ -12,7 +12,7 @@ use Rattle.plan_words.specs.PlanData.{PlanData}
 use Rattle.migration_program.specs.JournalWords.Journals.{state_at}
 use Rattle.migration_program.specs.JournalWords.Sessions.{NumbersSessions}
 use Rattle.migration_program.specs.Orders.{owned, WorkerTurn, Paired, last_taken, worker_actor, IsNext}
-use Rattle.history_laws.specs.RunLaws.Kept.{IsKept}
+use Rattle.journal_facts.specs.RunLaws.Kept.{IsKept}
 use Rattle.due_turns.specs.declared.migration_run.turn.Turn.{Turn}
 use Rattle.due_turns.specs.Due.{due, next_entry}
 use Rattle.turn_desk.specs.declared.book.Entry.{Entry as Taken}

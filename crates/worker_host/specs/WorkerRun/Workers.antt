@@ -6,8 +6,8 @@ use Rattle.script_text.specs.declared.actor.Actor.{Actor}
 use Rattle.script_text.specs.declared.actor.Actor.TheVariants.{Op, Insp, Copy, Apply, Lock, Ren}
 use Rattle.plain_server.specs.declared.entry.Entry.{Entry}
 use Rattle.plan_words.specs.PlanData.{PlanData}
-use Rattle.history_laws.specs.RunLaws.Kept.{IsKept}
-use Rattle.history_laws.specs.MachineLaws.Runnable.{IsRunnable}
+use Rattle.journal_facts.specs.RunLaws.Kept.{IsKept}
+use Rattle.journal_facts.specs.MachineLaws.Runnable.{IsRunnable}
 use Rattle.migration_program.specs.Verdicts.{has_ended}
 use Rattle.migration_program.specs.Orders.{actors, is_ready, is_ready_idle, is_ready_waiting, owned_from, owned, is_among, behind_last}
 use Rattle.worker_host.specs.declared.worker_run.seats.Member.{Member}

@@ -2,7 +2,7 @@
 
 ghost use Rattle.std.specs.Prelude.{◌≡◌, ◌<◌, ◌+◌, ◌^◌, true, find, drop, slice_get, option_map, Option, Some, IfSome};
 ghost use Rattle.script_text.specs.declared.actor.Actor.{Actor};
-ghost use Rattle.history_laws.specs.RunLaws.Kept.{IsKept};
+ghost use Rattle.journal_facts.specs.RunLaws.Kept.{IsKept};
 ghost use Rattle.migration_program.specs.Orders.{actors, is_ready, owned, picked};
 ghost use Rattle.worker_host.specs.WorkerRun.Workers.{IsGoing, is_sought, GoesOnFrom};
 

@@ -10,6 +10,7 @@ use Rattle.alone_model.specs.declared.histories.Happening.TheVariants.{Alter}
 use Rattle.alone_model.specs.declared.histories.InOrder.{InOrder}
 use Rattle.alone_model.proofs.Happenings.{alter_goes, alter_lawful, txn_goes}
 use Rattle.alone_model.proofs.Lawful.{alone_lawful}
+use Rattle.schema_facts.proofs.Stored.{alters_lawful}
 use Rattle.alone_model.proofs.histories.step.Goals as goal
 
 -- what holds of one answer gives what holds of another
@@ -34,4 +35,4 @@ pub returns-in-Alter-clause-lawful : goal.returns-in-Alter-clause-lawful
 returns-in-Alter-clause-lawful c =
     let plan = c.args.plan.now in
     where_ok (λ (next : Option InOrder). next ≡ option_map (λ (after : Database). record c.args.so_far { tables = after }) (altered_database plan c.args.so_far.tables)) IfLawful
-    c.with_alter.result (λ next is. subst IfLawful (sym is) (alter_lawful c.altered_schemas_are_lawful.ensures plan c.args.so_far c.requires.clauses c.requires.lawful)) c.with_alter.ensures
+    c.with_alter.result (λ next is. subst IfLawful (sym is) (alter_lawful alters_lawful plan c.args.so_far c.requires.clauses c.requires.lawful)) c.with_alter.ensures

@@ -1,7 +1,7 @@
 use Rattle.std.proofs.Common.{◌≡◌, take}
 use Rattle.std.specs.List.{flat_map}
 use Rattle.std.specs.Option.{option_to_list}
-use Rattle.word_laws.specs.ReadBack.{word_value}
+use Rattle.word_values.specs.ReadBack.{word_value}
 use Rattle.note_rows.proofs.reading.literals_among.Given as goal
 
 -- the literals among the words so far

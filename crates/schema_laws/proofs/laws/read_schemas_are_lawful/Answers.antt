@@ -1,4 +1,4 @@
-use Rattle.schema_laws.proofs.Lawful.{read-lawful}
+use Rattle.schema_facts.proofs.Lawful.{read-lawful}
 use Rattle.schema_laws.proofs.laws.read_schemas_are_lawful.Goals as goal
 
 pub returns : goal.returns

@@ -1,4 +1,4 @@
-use Rattle.schema_laws.proofs.RereadLaws.Reread.{printed-again}
+use Rattle.schema_facts.proofs.RereadLaws.Reread.{printed-again}
 use Rattle.schema_laws.proofs.reread_laws.printed_schemas_are_read_again.Goals as goal
 
 pub returns : goal.returns

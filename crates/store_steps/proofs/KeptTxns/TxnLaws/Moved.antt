@@ -16,7 +16,7 @@ use Rattle.plain_server.specs.StatementLaws.Covering.{IsOrderlyTable}
 use Rattle.plain_server.specs.StatementLaws.Databases.{IsOrderly, WhereFound}
 use Rattle.plain_server.proofs.StatementLaws.Finding.{change_if, found_after}
 use Rattle.plain_server.proofs.StatementLaws.Tests.{are_same}
-use Rattle.history_laws.proofs.Moves.{Moved, create_moves, drop_moves, rename_moves, none_found}
+use Rattle.journal_facts.proofs.Moves.{Moved, create_moves, drop_moves, rename_moves, none_found}
 use Rattle.server_data.specs.Fitting.{EventsFit, FitsIn, NoneOf}
 use Rattle.txn_session.specs.Events.{changes_in}
 use Rattle.txn_session.specs.Premises.{HasSchema, IsOf}

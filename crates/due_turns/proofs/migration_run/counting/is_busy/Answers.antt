@@ -1,7 +1,7 @@
 use Rattle.std.proofs.Common.{rules, ◌≡◌, true, false, not, sym, ap, ◌∙◌}
 use Rattle.plain_server.specs.Entries.{is_client}
 use Rattle.plain_server.specs.States.{session_of, is_in_transaction, is_waiting}
-use Rattle.history_laws.specs.RunLaws.Counting.{weight}
+use Rattle.journal_facts.specs.RunLaws.Counting.{weight}
 use Rattle.due_turns.proofs.MigrationRun.Weights.{busies, busy_at}
 use Rattle.due_turns.proofs.migration_run.counting.is_busy.Goals as goal
 

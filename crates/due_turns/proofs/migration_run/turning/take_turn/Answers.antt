@@ -1,6 +1,6 @@
 use Rattle.std.proofs.Common.{ap, ◌∙◌}
 use Rattle.migration_program.specs.JournalWords.Journals.{heard, missed}
-use Rattle.history_laws.specs.RunLaws.Counting.{IsBehind}
+use Rattle.journal_facts.specs.RunLaws.Counting.{IsBehind}
 use Rattle.due_turns.proofs.MigrationRun.Counted.{given_told, leaves_told, kind_told, work_told, open_told, busy_told, open_part, busy_part, gone_told, stays_told, made_told, counts_told, err_behind, err_made, entry_same}
 use Rattle.due_turns.proofs.MigrationRun.Results.{on_err}
 use Rattle.due_turns.proofs.migration_run.turning.take_turn.Goals as goal

@@ -1,4 +1,4 @@
-use Rattle.schema_laws.proofs.AlterLaws.ImageRows.{images_are_rows, maps_fit}
+use Rattle.schema_facts.proofs.AlterLaws.ImageRows.{images_are_rows, maps_fit}
 use Rattle.schema_laws.proofs.alter_laws.laws.images_are_rows.Goals as goal
 
 pub returns-clause-rows : goal.returns-clause-rows

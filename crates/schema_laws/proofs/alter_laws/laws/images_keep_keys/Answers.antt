@@ -1,5 +1,5 @@
-use Rattle.schema_laws.proofs.AlterLaws.ImageTables.{clustered_keys_kept}
-use Rattle.schema_laws.proofs.AlterLaws.KeepingKeys.{keeps_keys, stay_apart, clustered_stay}
+use Rattle.schema_facts.proofs.AlterLaws.ImageTables.{clustered_keys_kept}
+use Rattle.schema_facts.proofs.AlterLaws.KeepingKeys.{keeps_keys, stay_apart, clustered_stay}
 use Rattle.schema_laws.proofs.alter_laws.laws.images_keep_keys.Goals as goal
 
 pub returns-clause-keys : goal.returns-clause-keys

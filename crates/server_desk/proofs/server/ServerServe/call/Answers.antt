@@ -1,5 +1,5 @@
 use Rattle.plain_server.specs.Serving.{calls}
-use Rattle.state_laws.proofs.Calls.{calls_serve}
+use Rattle.server_facts.proofs.Calls.{calls_serve}
 use Rattle.server_desk.specs.Parts.{state_of}
 use Rattle.server_desk.proofs.Polling.{served_together}
 use Rattle.server_desk.proofs.server.ServerServe.call.Goals as goal

@@ -1,5 +1,5 @@
 use Rattle.plain_server.specs.Serving.{leaves}
-use Rattle.state_laws.proofs.Calls.{losses_serve}
+use Rattle.server_facts.proofs.Calls.{losses_serve}
 use Rattle.server_desk.specs.Parts.{state_of}
 use Rattle.server_desk.proofs.Polling.{served_together}
 use Rattle.server_desk.proofs.server.ServerServe.lose.Goals as goal

@@ -1,5 +1,5 @@
 use Rattle.plain_server.specs.Serving.{polls}
-use Rattle.state_laws.proofs.Calls.{polls_serve}
+use Rattle.server_facts.proofs.Calls.{polls_serve}
 use Rattle.server_desk.specs.Parts.{state_of}
 use Rattle.server_desk.proofs.Polling.{served_together}
 use Rattle.server_desk.proofs.server.ServerServe.poll.Goals as goal

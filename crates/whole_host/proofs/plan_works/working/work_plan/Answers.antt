@@ -2,8 +2,8 @@ use Rattle.std.proofs.Common.{ap}
 use Rattle.plain_server.specs.States.{State}
 use Rattle.plain_server.specs.declared.outcome.Verdict.{Verdict}
 use Rattle.whole_run.specs.Runs.{RunView}
-use Rattle.plan_replays.specs.Replays.{IsEnd}
-use Rattle.plan_replays.proofs.WholeRuns.{with_end}
+use Rattle.whole_host.specs.WholeReplays.Replays.{IsEnd}
+use Rattle.whole_host.proofs.WholeReplays.WholeRuns.{with_end}
 use Rattle.whole_host.proofs.PlanWorks.WholeWorks.{whole_of, told_end}
 use Rattle.whole_host.proofs.plan_works.working.work_plan.Goals as goal
 

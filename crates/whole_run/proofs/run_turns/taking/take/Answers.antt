@@ -5,7 +5,7 @@ use Rattle.plain_server.specs.States.{has_work, load}
 use Rattle.plan_words.specs.PlanData.{PlanData}
 use Rattle.migration_program.specs.JournalWords.Journals.{after_entry}
 use Rattle.migration_program.specs.Tools.{moment}
-use Rattle.history_laws.specs.RunLaws.Counting.{busy_count}
+use Rattle.journal_facts.specs.RunLaws.Counting.{busy_count}
 use Rattle.turn_book.specs.declared.book.Book.{Book}
 use Rattle.turn_book.specs.Books.{is_planned, IsBook}
 use Rattle.due_turns.specs.Due.{next_entry}

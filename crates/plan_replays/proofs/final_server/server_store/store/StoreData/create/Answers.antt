@@ -1,4 +1,4 @@
-use Rattle.history_laws.proofs.LawfulTables.{lawful_table}
+use Rattle.journal_facts.proofs.LawfulTables.{lawful_table}
 use Rattle.plan_replays.proofs.final_server.server_store.store.StoreData.create.Goals as goal
 
 pub create_table-requires-clause-orderly : goal.create_table-requires-clause-orderly

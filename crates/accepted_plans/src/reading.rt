@@ -1,0 +1,21 @@
+//! A plan that is read, with what the laws over journals ask of it.
+
+ghost use Rattle.std.specs.Prelude.{◌≡◌, Some, IfOk};
+ghost use Rattle.plan_document.specs.Plans.{read};
+ghost use Rattle.plan_document.specs.Refusals.{Reads};
+ghost use Rattle.accepted_plans.specs.AcceptedLaws.Laws.{WasRead};
+
+use plan_document::{PlanFault, read_plan};
+use plan_words::Plan;
+use std::alloc::Global;
+
+/// The plan that these bytes are: so the laws over journals speak of it.
+#[tactic(auto, using(schema_facts::proofs::Stored::schemas_lawful))]
+pub fn read_accepted_plan(alloc: Global, bytes: &[u8]) -> Result<Plan, PlanFault>
+    ensures plan { Reads (λ plan. plan) result (read bytes.now) }
+    ensures was_read { IfOk result WasRead }
+{
+    let plan = read_plan(alloc, bytes)?;
+    let _name = plan.table().as_str();
+    Ok(plan)
+}

@@ -1,5 +1,0 @@
-use Rattle.accepted_runs.proofs.CompleteLaws.Smooth.{smooth_are_done}
-use Rattle.accepted_runs.proofs.complete_laws.smooth_runs_are_done.Goals as goal
-
-pub returns : goal.returns
-returns c = smooth_are_done c.verdicts_tell_the_alter.ensures

@@ -1,0 +1,29 @@
+-- Every journal that follows the program of an alterable plan: from its opening on, and at the mark.
+use Rattle.std.specs.Prelude.{◌≡◌, false, List, Some}
+use Rattle.row_store.specs.Databases.{find_table}
+use Rattle.plain_server.specs.declared.entry.Entry.{Entry}
+use Rattle.plan_words.specs.PlanData.{PlanData}
+use Rattle.migration_program.specs.JournalWords.Journals.{state_at}
+use Rattle.migration_program.specs.Tools.{Migrating, Work, is_reverting, moment}
+use Rattle.journal_facts.specs.Plans.{IsSerialPlan}
+use Rattle.journal_facts.specs.GhostLaws.GhostRows.Moments.{Row}
+use Rattle.journal_facts.specs.GhostLaws.GhostRows.Timelines.{Migration}
+use Rattle.journal_facts.specs.GhostLaws.Copies.{IsAltered}
+use Rattle.journal_facts.specs.GhostLaws.Holding.{Clustered}
+use Rattle.migration_facts.specs.MigrationLaws.PlanningLaws.Laws.{migration_of}
+use Rattle.journal_facts.specs.RunLaws.Kept.{IsKept}
+use Rattle.migration_facts.specs.CourseLaws.RunnableLaws.Laws.{IsAlterable, IsWorded}
+use Rattle.migration_facts.specs.CourseLaws.UnalteredLaws.Laws.{IsUnaltered}
+use Rattle.migration_facts.specs.FollowLaws.FollowTurns.Laws.{GoesSomehow, IsMark, IsMigrationOf}
+
+-- *Followers go*: from the opening tables on, over whatever turns follow the program, once the setup is over the migration goes,
+-- until something is reverted or the RENAME is done.
+abbrev pub FollowersGo : Type 0
+FollowersGo =
+    (plan : PlanData) (m : Migration) (at : Clustered m.schema) (rows : List Row) → IsMigrationOf plan m rows → find_table m.name plan.tables ≡ Some (record { schema = m.schema; rows = rows }) → (journal : List Entry) (work : Work) → IsKept plan journal → IsUnaltered plan journal
+    → is_reverting (moment plan journal).tool.reason ≡ false → (moment plan journal).tool.course ≡ Migrating work → GoesSomehow plan m at rows journal
+
+-- *Followers alter*: in every journal that follows the program of an alterable plan, whatever is answered, refused, lost or
+-- repeated, at the mark the new table is the altered one.
+abbrev pub FollowersAlter : Type 0
+FollowersAlter = (plan : PlanData) (is : IsAlterable plan) → IsWorded plan → IsSerialPlan plan → (journal : List Entry) → IsKept plan journal → IsMark plan journal → IsAltered (migration_of is.table.schema is.new) (state_at plan journal).tables

@@ -1,5 +1,0 @@
-use Rattle.revert_laws.proofs.FollowLaws.Follows.{followers_alter}
-use Rattle.revert_laws.proofs.follow_laws.laws.followers_alter.Goals as goal
-
-pub returns : goal.returns
-returns c = followers_alter c.stored_values_store_again.ensures c.alterable_plans_are_runnable.ensures

@@ -1,5 +1,0 @@
-use Rattle.revert_laws.proofs.FollowLaws.LockerTurns.Lockers.{lockers_turned}
-use Rattle.revert_laws.proofs.follow_laws.locker_turns.lockers_are_turned.Goals as goal
-
-pub returns : goal.returns
-returns c = lockers_turned c.entries_are_turns.ensures c.definitions_are_done.ensures c.exclusive_is_alone.ensures c.locks_are_taken.ensures
