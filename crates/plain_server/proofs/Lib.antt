@@ -1,1 +1,2 @@
+pub mod DifferentNames
 pub mod StatementLaws

@@ -4,6 +4,7 @@ pub mod Rows
 pub mod Checking
 pub mod Saying
 pub mod Needing
+pub mod HeldNames
 pub mod Jobs
 pub mod Chunks
 pub mod States

@@ -5,6 +5,7 @@
 
 mod answer;
 mod entry;
+mod held_names;
 mod listing;
 mod need;
 mod outcome;
@@ -17,10 +18,11 @@ mod work;
 
 pub use answer::{Answer, KeyRange};
 pub use entry::{Asked, Entry, Journal};
+pub use held_names::HeldNames;
 pub use listing::{ShownWaiter, ShownWaiters, TableName, TableNames};
 pub use need::Need;
 pub use outcome::{Cause, Numbers, Progress, Task, Verdict};
 pub use request::Request;
-pub use session::{HeldName, HeldNames, Limits, Session, Waiting, Waits};
+pub use session::{HeldName, Limits, Session, Waiting, Waits};
 pub use transaction::{EndedTxn, Mark, Replies, Reply, TxnEnd, TxnLine, TxnLines};
 pub use work::{ColumnSets, Reach, Selection, StatementResult, Work};

@@ -2,6 +2,7 @@
 
 ghost use Rattle.std.specs.Prelude.{◌≡◌, IfOk};
 
+use crate::held_names::HeldNames;
 use crate::request::Request;
 use event_codec::Events;
 use gho_values::{Duplicate, Name, Sequence};
@@ -25,9 +26,6 @@ pub struct HeldName {
     /// Whether it is held exclusively, by LOCK TABLES, or else shared.
     pub exclusive: bool,
 }
-
-/// Names that are held, in the order in which they were granted.
-pub type HeldNames = Sequence<HeldName>;
 
 /// A live session.
 #[derive(Debug, Drop)]
@@ -59,29 +57,6 @@ pub struct Waiting {
 
 /// Waiting requests in the order in which they came.
 pub type Waits = Sequence<Waiting>;
-
-impl Duplicate for HeldName {
-    fn copy(&self) -> Result<HeldName, AllocError> {
-        Ok(HeldName {
-            name: self.name.copy()?,
-            exclusive: self.exclusive,
-        })
-    }
-}
-
-impl Duplicate for Session {
-    fn copy(&self) -> Result<Session, AllocError> {
-        Ok(Session {
-            number: self.number,
-            is_tool: self.is_tool,
-            in_transaction: self.in_transaction,
-            writes: self.writes.copy()?,
-            row_locks: self.row_locks.copy()?,
-            names: self.names.copy()?,
-            polls: self.polls,
-        })
-    }
-}
 
 impl Duplicate for Waiting {
     fn copy(&self) -> Result<Waiting, AllocError> {
