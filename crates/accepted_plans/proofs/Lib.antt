@@ -1,4 +1,4 @@
-mod Accepted
+pub mod Accepted
 pub mod CompleteLaws
 pub mod Tables
 pub mod AcceptedLaws

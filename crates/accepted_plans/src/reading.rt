@@ -10,7 +10,6 @@ use plan_words::Plan;
 use std::alloc::Global;
 
 /// The plan that these bytes are: so the laws over journals speak of it.
-#[tactic(auto, using(schema_facts::proofs::Stored::schemas_lawful))]
 pub fn read_accepted_plan(alloc: Global, bytes: &[u8]) -> Result<Plan, PlanFault>
     ensures plan { Reads (λ plan. plan) result (read bytes.now) }
     ensures was_read { IfOk result WasRead }

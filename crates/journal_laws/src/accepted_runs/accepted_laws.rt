@@ -3,6 +3,3 @@
 pub mod laws;
 pub mod option_laws;
 pub mod plan_laws;
-mod reading;
-
-pub use reading::read_accepted_plan;
