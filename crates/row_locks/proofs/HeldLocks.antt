@@ -3,7 +3,6 @@ use Rattle.std.proofs.Common.{◌≡◌, ◌≢◌, ℕ, Bool, true, false, not,
 use Rattle.std.specs.Cmp.{nat_eq_equiv}
 use Rattle.std.specs.Cmp.Lexicographic.{pointwise}
 use Rattle.std.specs.List.{AllByRecursion, AllPairs, list_any}
-use Rattle.std.proofs.lemmas.Bool.Decides.{nat_tests}
 use Rattle.std.proofs.lemmas.Cmp.{nat_list_eq_equiv}
 use Rattle.std.proofs.lemmas.List.Elements.{All-from_recursion}
 use Rattle.std.proofs.lemmas.List.Kept.{AllPairs-cons}
@@ -13,7 +12,6 @@ use Rattle.row_locks.specs.declared.lock.Lock.{Lock}
 use Rattle.row_locks.specs.declared.lock.HeldLock.{HeldLock}
 use Rattle.row_locks.specs.declared.lock.Asked2.TheVariants as answers
 use Rattle.row_locks.specs.Granting.{same_place, conflict, refusal, refuser_of_lock, refuser_of_set, answer_by}
-use Rattle.least_session.specs.Least.{least}
 use Rattle.least_session.proofs.Kept.{both, kept}
 use Rattle.least_session.proofs.Sessions.{none_of, not_refused, others}
 use Rattle.row_locks.specs.Holding.{LockTable, LastAsk, held_by, granted_unless, freed_if, before_ask}

@@ -1,2 +1,4 @@
 pub mod HeldLocks
+pub mod LockIndex
+pub mod LockOrder
 pub mod Refusers

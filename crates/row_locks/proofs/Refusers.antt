@@ -1,5 +1,4 @@
 -- The least of several sessions, whichever are taken first.
-use Rattle.std.proofs.Common.{◌≡◌, ℕ, Option, Some, None, refl, ap, arith}
 use Rattle.std.proofs.lemmas.List.{drop_more, drop_all}
 use Rattle.least_session.proofs.Sessions.{least-least, least-none}
 

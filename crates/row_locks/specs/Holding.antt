@@ -1,7 +1,6 @@
 -- The table of row locks, and what each call leaves of it. Locks are held until their session's transaction ends (MySQL's manual, "InnoDB Transaction Model and Locking").
-use Rattle.std.specs.Prelude.{◌≡◌, ℕ, Bool, true, false, not, ◌==◌, List, ◌++◌, map, filter, Option, Some, None, IsSomeAnd, All}
+use Rattle.std.specs.Prelude.{◌≡◌, ℕ, Bool, true, false, not, ◌==◌, List, ◌++◌, map, filter, Option, Some, None, IsSomeAnd}
 use Rattle.std.specs.List.{list_any}
-use Rattle.gho_values.specs.Spans.{SpansFit}
 use Rattle.row_locks.specs.declared.lock.Lock.{Lock}
 use Rattle.row_locks.specs.declared.lock.HeldLock.{HeldLock}
 use Rattle.row_locks.specs.Granting.{refuser_of_set}
@@ -54,15 +53,3 @@ undone t = before_ask t.last t
 -- The last change was the session's ask.
 abbrev pub IsLastAskOf : ℕ → LockTable → Type 0
 IsLastAskOf session t = IsSomeAnd t.last (λ ask. ask.session ≡ session)
-
--- Two locks on one key have spans of the same kinds, without null.
-abbrev pub PlacedFit : Lock → Lock → Type 0
-PlacedFit a b = a.table ≡ b.table → a.key ≡ b.key → SpansFit a.span b.span
-
--- The lock's span has the kinds of those that are held on its key.
-abbrev pub LockFits : List HeldLock → Lock → Type 0
-LockFits held lock = All (λ other. PlacedFit other.lock lock) held
-
--- So has each of the set.
-abbrev pub SetFits : List HeldLock → List Lock → Type 0
-SetFits held set = All (λ lock. LockFits held lock) set

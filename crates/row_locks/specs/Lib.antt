@@ -1,4 +1,5 @@
 pub mod Granting
 pub mod Holding
+pub mod Indexing
 pub mod Laws
 pub mod Marks

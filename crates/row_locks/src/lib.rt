@@ -1,6 +1,8 @@
 //! Locks on spans of a key's values: who holds which, and who refuses whom.
 #![tactic(auto)]
 
+mod conflicts;
+pub mod held_locks;
 pub mod laws;
 mod lock;
 mod locks;

@@ -1,7 +1,7 @@
 //! The table of the row locks that are held.
 
 ghost use Rattle.std.specs.Prelude.{◌≡◌, [], None, IfOk, OnOk, OnErr};
-ghost use Rattle.row_locks.specs.Holding.{SetFits, IsLastAskOf, asked, freed, undone};
+ghost use Rattle.row_locks.specs.Holding.{IsLastAskOf, asked, freed, undone};
 ghost use Rattle.row_locks.specs.Granting.{answer_to};
 
 use crate::lock::{Asked2, HeldLock, LockSet, held_by, holds_one, take_away};
@@ -48,7 +48,6 @@ impl RowLocks {
 
     /// What `ask` would answer.
     pub fn test(&self, session: u32, set: &LockSet) -> Asked2
-        requires { SetFits self.now.held set.now }
         ensures { result ≡ answer_to self.now.held session set.now }
     {
         match refuser_of_set(self.held.as_slice(), session, set.as_slice()) {
@@ -59,7 +58,6 @@ impl RowLocks {
 
     /// Gives the session all the locks of the set, or none where another session's lock refuses one of them.
     pub fn ask(&mut self, session: u32, set: &LockSet) -> Result<Asked2, AllocError>
-        requires { SetFits self.old.held set.now }
         ensures answer { IfOk result (λ answer. answer ≡ answer_to self.old.held session set.now) }
         ensures ok { OnOk result (self.new ≡ asked self.old session set.now) }
         ensures err { OnErr result (self.new ≡ self.old) }
