@@ -152,14 +152,14 @@ impl Desk {
         ensures ok { OnOk result (self.new ≡ record self.old { sessions = with_session session (locking names.now) self.old.sessions }) }
         ensures err { OnErr result (self.new ≡ self.old) }
     {
-        lock_tables(self.alloc, &mut self.sessions, session, names.copy()?)
+        lock_tables(&mut self.sessions, session, names.copy()?)
     }
 
     /// The session holds no name exclusively from now on (UNLOCK TABLES). It takes no memory.
     pub fn unlock(&mut self, session: u32)
         ensures { self.new ≡ record self.old { sessions = with_session session unlocking self.old.sessions } }
     {
-        unlock_tables(self.alloc, &mut self.sessions, session);
+        unlock_tables(&mut self.sessions, session);
     }
 
     /// The session's request waits behind all others, and wasn't polled yet.

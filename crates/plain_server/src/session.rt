@@ -1,13 +1,10 @@
 //! What the server keeps of each session.
 
-ghost use Rattle.std.specs.Prelude.{◌≡◌, IfOk};
-
 use crate::held_names::HeldNames;
 use crate::request::Request;
 use event_codec::Events;
-use gho_values::{Duplicate, Name, Sequence};
-use row_locks::LockSet;
-use std::alloc::AllocError;
+use gho_values::{Name, Sequence};
+use row_locks::held_locks::HeldLocks;
 
 /// How often a waiting session is polled before its wait times out.
 #[derive(Clone, Copy, Debug, PartialEq, Eq)]
@@ -39,7 +36,7 @@ pub struct Session {
     /// What its transaction wrote so far.
     pub writes: Events,
     /// The row locks that it holds.
-    pub row_locks: LockSet,
+    pub row_locks: HeldLocks,
     /// The names of tables that it holds.
     pub names: HeldNames,
     /// How often its waiting request was polled.
@@ -57,12 +54,3 @@ pub struct Waiting {
 
 /// Waiting requests in the order in which they came.
 pub type Waits = Sequence<Waiting>;
-
-impl Duplicate for Waiting {
-    fn copy(&self) -> Result<Waiting, AllocError> {
-        Ok(Waiting {
-            session: self.session,
-            request: self.request.copy()?,
-        })
-    }
-}

@@ -1,11 +1,10 @@
 //! A live session by its number.
 
 ghost use Rattle.std.specs.Prelude.{◌≡◌, ◌==◌, is_some, position, option_copied};
-ghost use Rattle.std.specs.List.{list_any};
 ghost use Rattle.plain_server.specs.States.{holds_tables, is_in_transaction, is_of_tool, polls_of, session_of, writes_of};
 
 use event_codec::RowEvent;
-use plain_server::{HeldName, Session};
+use plain_server::Session;
 
 /// The place of the session of this number.
 pub fn place_of(sessions: &[Session], number: u32) -> Option<usize>
@@ -38,18 +37,12 @@ pub fn is_in_transaction(sessions: &[Session], number: u32) -> bool
     }
 }
 
-fn has_exclusive(names: &[HeldName]) -> bool
-    ensures { result ≡ list_any (λ one. one.exclusive) names.now }
-{
-    names.iter().any(|one| one.exclusive)
-}
-
 /// Whether the session holds LOCK TABLES.
 pub fn holds_tables(sessions: &[Session], number: u32) -> bool
     ensures { result ≡ holds_tables (session_of number sessions.now) }
 {
     match session_of(sessions, number) {
-        Some(session) => has_exclusive(session.names.as_slice()),
+        Some(session) => session.names.has_exclusive(),
         None => false,
     }
 }

@@ -1,11 +1,11 @@
 //! What one session is granted, whole or not at all.
 
-ghost use Rattle.std.specs.Prelude.{◌≡◌, ◌++◌, take, true, OnOk, OnErr};
+ghost use Rattle.std.specs.Prelude.{◌≡◌, ◌++◌, map, take, true, OnOk, OnErr};
+ghost use Rattle.plain_server.specs.Serving.{holding, shared};
 
 use event_codec::Events;
-use gho_values::Sequence;
-use plain_server::{HeldNames, Session};
-use row_locks::LockSet;
+use gho_values::{Names, Sequence};
+use plain_server::{Need, Session};
 use std::alloc::{AllocError, Global};
 use std::mem;
 
@@ -34,49 +34,47 @@ fn cut<T: Drop>(alloc: Global, items: &mut Sequence<T>, len: usize)
     *items = Sequence::from_vec(kept);
 }
 
-/// The session holds these names and locks too.
-fn hold_more(
+/// The session holds these names too, and wrote these events.
+fn write_more(
     alloc: Global,
     session: &mut Session,
-    names: HeldNames,
-    locks: LockSet,
+    names: Names,
+    events: Events,
 ) -> Result<(), AllocError>
-    ensures ok { OnOk result (session.new ≡ record session.old { names = session.old.names ++ names; row_locks = session.old.row_locks ++ locks }) }
+    ensures ok { OnOk result (session.new ≡ record session.old { names = session.old.names ++ map shared names; writes = session.old.writes ++ events }) }
     ensures err { OnErr result (session.new ≡ session.old) }
 {
     let held = session.names.len();
-    append(alloc, &mut session.names, names)?;
-    match append(alloc, &mut session.row_locks, locks) {
-        Ok(()) => Ok(()),
-        Err(error) => {
-            cut(alloc, &mut session.names, held);
-            Err(error)
-        }
+    session.names.hold(names, false)?;
+    let written = append(alloc, &mut session.writes, events);
+    if written.is_err() {
+        session.names.cut(held);
     }
+    written
 }
 
 /// The session is in a transaction, holds these names and locks too, and wrote these events.
 pub fn grow(
     alloc: Global,
     session: &mut Session,
-    names: HeldNames,
-    locks: LockSet,
+    need: Need,
     events: Events,
 ) -> Result<(), AllocError>
-    ensures ok { OnOk result (session.new ≡ record session.old { in_transaction = true; names = session.old.names ++ names; row_locks = session.old.row_locks ++ locks; writes = session.old.writes ++ events }) }
+    ensures ok { OnOk result (session.new ≡ holding need events session.old) }
     ensures err { OnErr result (session.new ≡ session.old) }
 {
     let held = session.names.len();
-    let locked = session.row_locks.len();
-    hold_more(alloc, session, names, locks)?;
-    match append(alloc, &mut session.writes, events) {
+    let written = session.writes.len();
+    write_more(alloc, session, need.names, events)?;
+    // The locks come last, so that none has to be taken out of their index.
+    match session.row_locks.append(need.locks) {
         Ok(()) => {
             session.in_transaction = true;
             Ok(())
         }
         Err(error) => {
-            cut(alloc, &mut session.names, held);
-            cut(alloc, &mut session.row_locks, locked);
+            session.names.cut(held);
+            cut(alloc, &mut session.writes, written);
             Err(error)
         }
     }

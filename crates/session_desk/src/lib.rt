@@ -3,7 +3,6 @@
 
 mod finding;
 mod growing;
-mod names;
 pub mod session_locks;
 mod sessions;
 mod waits;

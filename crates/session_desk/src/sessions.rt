@@ -5,11 +5,11 @@ ghost use Rattle.plain_server.specs.States.{new_session, session_of, with_sessio
 ghost use Rattle.plain_server.specs.Serving.{at_rest, counting, holding, locking, unlocking};
 
 use crate::finding::place_of;
-use crate::growing::{append, grow};
-use crate::names::{held_exclusive, held_shared, keep_exclusive, keep_shared};
+use crate::growing::grow;
 use event_codec::Events;
 use gho_values::{Names, Sequence};
-use plain_server::{Need, Session};
+use plain_server::{HeldNames, Need, Session};
+use row_locks::held_locks::HeldLocks;
 use std::alloc::{AllocError, Global};
 use std::mem;
 
@@ -28,8 +28,8 @@ pub fn connect(
         is_tool,
         in_transaction: false,
         writes: Sequence::new(alloc),
-        row_locks: Sequence::new(alloc),
-        names: Sequence::new(alloc),
+        row_locks: HeldLocks::new(alloc),
+        names: HeldNames::new(alloc),
         polls: 0,
     })?;
     Ok(())
@@ -53,9 +53,8 @@ pub fn hold(
     ensures ok { OnOk result (sessions.new.items ≡ with_session number (holding need events) sessions.old.items) }
     ensures err { OnErr result (sessions.new.items ≡ sessions.old.items) }
 {
-    let names = held_shared(alloc, need.names)?;
     match place_of(sessions.as_slice(), number) {
-        Some(place) => grow(alloc, &mut sessions[place], names, need.locks, events),
+        Some(place) => grow(alloc, &mut sessions[place], need, events),
         None => Ok(()),
     }
 }
@@ -65,9 +64,9 @@ fn rest_one(alloc: Global, session: &mut Session) -> Events
     ensures session { session.new ≡ at_rest session.old }
     ensures writes { result ≡ session.old.writes }
 {
-    keep_exclusive(alloc, &mut session.names);
+    session.names.keep_exclusive();
     session.in_transaction = false;
-    session.row_locks = Sequence::new(alloc);
+    session.row_locks = HeldLocks::new(alloc);
     mem::replace(&mut session.writes, Sequence::new(alloc))
 }
 
@@ -84,28 +83,22 @@ pub fn rest(alloc: Global, sessions: &mut Vec<Session>, number: u32) -> Events
 }
 
 /// The session holds these names exclusively too; all is as before where there is no memory.
-pub fn lock_tables(
-    alloc: Global,
-    sessions: &mut Vec<Session>,
-    number: u32,
-    names: Names,
-) -> Result<(), AllocError>
+pub fn lock_tables(sessions: &mut Vec<Session>, number: u32, names: Names) -> Result<(), AllocError>
     ensures ok { OnOk result (sessions.new.items ≡ with_session number (locking names) sessions.old.items) }
     ensures err { OnErr result (sessions.new.items ≡ sessions.old.items) }
 {
-    let names = held_exclusive(alloc, names)?;
     match place_of(sessions.as_slice(), number) {
-        Some(place) => append(alloc, &mut sessions[place].names, names),
+        Some(place) => sessions[place].names.hold(names, true),
         None => Ok(()),
     }
 }
 
 /// The session holds no name exclusively from now on. It takes no memory.
-pub fn unlock_tables(alloc: Global, sessions: &mut Vec<Session>, number: u32)
+pub fn unlock_tables(sessions: &mut Vec<Session>, number: u32)
     ensures { sessions.new.items ≡ with_session number unlocking sessions.old.items }
 {
     if let Some(place) = place_of(sessions.as_slice(), number) {
-        keep_shared(alloc, &mut sessions[place].names);
+        sessions[place].names.keep_shared();
     }
 }
 

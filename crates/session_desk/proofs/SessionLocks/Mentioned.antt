@@ -3,6 +3,7 @@ use Rattle.std.proofs.Common.{◌≡◌, ℕ, Bool, true, false, not, ◌&&◌, 
 use Rattle.std.specs.List.{list_any}
 use Rattle.std.specs.Str.{bytes_eq}
 use Rattle.std.proofs.Math.Bool.{or_assoc}
+use Rattle.std.proofs.lemmas.Cmp.{nat_list_eq_equiv}
 use Rattle.metadata_locks.specs.Granting.{has_name}
 use Rattle.row_store.specs.declared.renaming.Pair.{Pair}
 use Rattle.plain_server.specs.declared.session.HeldName.{HeldName}
@@ -40,6 +41,19 @@ locked_one [] name = refl
 locked_one (one ∷ held) name =
     locked_at one.exclusive one name (kept_names held)
     ∙ ap (λ rest. (one.exclusive && bytes_eq name one.name) || rest) (locked_one held name)
+
+-- a name that is held exclusively, told the other way round
+told_at : (same other e : Bool) → same ≡ other → (same && (e || false)) ≡ (e && other)
+told_at true other true is = is
+told_at true other false is = refl
+told_at false other true is = is
+told_at false other false is = refl
+
+pub locked_is : (held : List HeldName) (name : List ℕ) → list_any (λ (one : HeldName). bytes_eq one.name name && (one.exclusive || not true)) held ≡ has_locked held name
+locked_is [] name = refl
+locked_is (one ∷ held) name =
+    ap (λ b. b || list_any (λ (o : HeldName). bytes_eq o.name name && (o.exclusive || not true)) held) (told_at (bytes_eq one.name name) (bytes_eq name one.name) one.exclusive (nat_list_eq_equiv.symm one.name name))
+    ∙ ap (λ rest. (one.exclusive && bytes_eq name one.name) || rest) (locked_is held name)
 
 -- the list has an item
 abbrev some : {X : Type 0} → List X → Bool

@@ -8,22 +8,14 @@ ghost use Rattle.session_desk.specs.SessionLocks.Names.{has_held};
 
 use gho_values::Name;
 use least_session::least;
-use plain_server::{HeldName, Session};
-
-/// Whether the name is held, exclusively where that is asked.
-fn has_held(held: &[HeldName], name: &Name, exclusive: bool) -> bool
-    ensures { result ≡ has_held held.now name.now exclusive }
-{
-    held.iter()
-        .any(|one| one.name == *name && (one.exclusive || !exclusive))
-}
+use plain_server::Session;
 
 /// Whether the session holds the name, exclusively where that is asked.
 pub fn holds(sessions: &[Session], number: u32, name: &Name, exclusive: bool) -> bool
     ensures { result ≡ list_any (λ session. session.number == number && has_held session.names name.now exclusive) sessions.now }
 {
     sessions.iter().any(|session| {
-        session.number == number && has_held(session.names.as_slice(), name, exclusive)
+        session.number == number && session.names.has(name, exclusive)
     })
 }
 
@@ -32,7 +24,7 @@ pub fn holds(sessions: &[Session], number: u32, name: &Name, exclusive: bool) ->
 fn holder(session: &Session, number: u32, name: &Name, exclusive: bool) -> Option<u32>
     ensures { result ≡ least_holder (map (name_held session.now.number) session.now.names) number name.now exclusive }
 {
-    if session.number != number && has_held(session.names.as_slice(), name, exclusive) {
+    if session.number != number && session.names.has(name, exclusive) {
         Some(session.number)
     } else {
         None

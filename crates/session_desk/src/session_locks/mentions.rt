@@ -10,7 +10,7 @@ ghost use Rattle.plain_server.specs.Deeds.{is_outside};
 ghost use Rattle.session_desk.specs.SessionLocks.Names.{has_locked};
 
 use gho_values::{Duplicate, Name, Names, Sequence};
-use plain_server::{HeldName, Request, Session};
+use plain_server::{HeldNames, Request, Session};
 use row_store::Pair;
 use script_text::Statement;
 use std::alloc::{AllocError, Global};
@@ -120,21 +120,21 @@ pub fn names_in(alloc: Global, request: &Request) -> Result<Names, AllocError>
 }
 
 /// Whether the table is held exclusively, which LOCK TABLES alone does.
-fn has_locked(held: &[HeldName], name: &Name) -> bool
+fn has_locked(held: &HeldNames, name: &Name) -> bool
     ensures { result ≡ has_locked held.now name.now }
 {
-    held.iter().any(|one| one.exclusive && *name == one.name)
+    held.has(name, true)
 }
 
 /// Whether one of the tables isn't locked.
-fn any_beyond(held: &[HeldName], names: &Names) -> bool
+fn any_beyond(held: &HeldNames, names: &Names) -> bool
     ensures { result ≡ list_any (λ name. not (has_locked held.now name)) names.now }
 {
     names.as_slice().iter().any(|name| !has_locked(held, name))
 }
 
 /// Whether one of the pairs has a table that isn't locked.
-fn pairs_beyond(held: &[HeldName], pairs: &[Pair]) -> bool
+fn pairs_beyond(held: &HeldNames, pairs: &[Pair]) -> bool
     ensures { result ≡ list_any (λ pair. not (has_locked held.now pair.old) || not (has_locked held.now pair.new)) pairs.now }
 {
     pairs.iter().any(|pair| !has_locked(held, &pair.old) || !has_locked(held, &pair.new))
@@ -142,7 +142,7 @@ fn pairs_beyond(held: &[HeldName], pairs: &[Pair]) -> bool
 
 /// Whether the request names a table that isn't locked.
 #[tactic(auto, using(crate::proofs::SessionLocks::Mentioned::mentions))]
-fn mentions_other(held: &[HeldName], request: &Request) -> bool
+fn mentions_other(held: &HeldNames, request: &Request) -> bool
     ensures { result ≡ list_any (λ name. not (has_locked held.now name)) (tables_named request.now) }
 {
     match request {
@@ -160,18 +160,11 @@ fn mentions_other(held: &[HeldName], request: &Request) -> bool
     }
 }
 
-/// Whether a name is held exclusively.
-fn has_tables(held: &[HeldName]) -> bool
-    ensures { result ≡ list_any (λ one. one.exclusive) held.now }
-{
-    held.iter().any(|one| one.exclusive)
-}
-
 /// Whether the session holds LOCK TABLES and the request names a table that it hasn't locked. It takes no memory.
 #[tactic(auto, using(crate::proofs::SessionLocks::Mentioned::beyond_locked))]
 pub fn is_outside(session: &Session, request: &Request) -> bool
     ensures { result ≡ is_outside (Some session.now) request.now }
 {
-    let held = session.names.as_slice();
-    has_tables(held) && mentions_other(held, request)
+    let held = &session.names;
+    held.has_exclusive() && mentions_other(held, request)
 }
