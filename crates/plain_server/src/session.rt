@@ -1,12 +1,9 @@
 //! What the server keeps of each session.
 
-ghost use Rattle.std.specs.Prelude.{◌≡◌, IfOk};
-
 use crate::request::Request;
 use event_codec::Events;
-use gho_values::{Duplicate, Name, Sequence};
-use row_locks::LockSet;
-use std::alloc::AllocError;
+use gho_values::{Name, Sequence};
+use row_locks::held_locks::HeldLocks;
 
 /// How often a waiting session is polled before its wait times out.
 #[derive(Clone, Copy, Debug, PartialEq, Eq)]
@@ -41,7 +38,7 @@ pub struct Session {
     /// What its transaction wrote so far.
     pub writes: Events,
     /// The row locks that it holds.
-    pub row_locks: LockSet,
+    pub row_locks: HeldLocks,
     /// The names of tables that it holds.
     pub names: HeldNames,
     /// How often its waiting request was polled.
@@ -59,35 +56,3 @@ pub struct Waiting {
 
 /// Waiting requests in the order in which they came.
 pub type Waits = Sequence<Waiting>;
-
-impl Duplicate for HeldName {
-    fn copy(&self) -> Result<HeldName, AllocError> {
-        Ok(HeldName {
-            name: self.name.copy()?,
-            exclusive: self.exclusive,
-        })
-    }
-}
-
-impl Duplicate for Session {
-    fn copy(&self) -> Result<Session, AllocError> {
-        Ok(Session {
-            number: self.number,
-            is_tool: self.is_tool,
-            in_transaction: self.in_transaction,
-            writes: self.writes.copy()?,
-            row_locks: self.row_locks.copy()?,
-            names: self.names.copy()?,
-            polls: self.polls,
-        })
-    }
-}
-
-impl Duplicate for Waiting {
-    fn copy(&self) -> Result<Waiting, AllocError> {
-        Ok(Waiting {
-            session: self.session,
-            request: self.request.copy()?,
-        })
-    }
-}

@@ -34,19 +34,19 @@ fn cut<T: Drop>(alloc: Global, items: &mut Sequence<T>, len: usize)
     *items = Sequence::from_vec(kept);
 }
 
-/// The session holds these names and locks too.
-fn hold_more(
+/// The session holds these names too, and wrote these events.
+fn write_more(
     alloc: Global,
     session: &mut Session,
     names: HeldNames,
-    locks: LockSet,
+    events: Events,
 ) -> Result<(), AllocError>
-    ensures ok { OnOk result (session.new ≡ record session.old { names = session.old.names ++ names; row_locks = session.old.row_locks ++ locks }) }
+    ensures ok { OnOk result (session.new ≡ record session.old { names = session.old.names ++ names; writes = session.old.writes ++ events }) }
     ensures err { OnErr result (session.new ≡ session.old) }
 {
     let held = session.names.len();
     append(alloc, &mut session.names, names)?;
-    match append(alloc, &mut session.row_locks, locks) {
+    match append(alloc, &mut session.writes, events) {
         Ok(()) => Ok(()),
         Err(error) => {
             cut(alloc, &mut session.names, held);
@@ -67,16 +67,17 @@ pub fn grow(
     ensures err { OnErr result (session.new ≡ session.old) }
 {
     let held = session.names.len();
-    let locked = session.row_locks.len();
-    hold_more(alloc, session, names, locks)?;
-    match append(alloc, &mut session.writes, events) {
+    let written = session.writes.len();
+    write_more(alloc, session, names, events)?;
+    // The locks come last, so that none has to be taken out of their index.
+    match session.row_locks.append(locks) {
         Ok(()) => {
             session.in_transaction = true;
             Ok(())
         }
         Err(error) => {
             cut(alloc, &mut session.names, held);
-            cut(alloc, &mut session.row_locks, locked);
+            cut(alloc, &mut session.writes, written);
             Err(error)
         }
     }

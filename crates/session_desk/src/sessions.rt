@@ -10,6 +10,7 @@ use crate::names::{held_exclusive, held_shared, keep_exclusive, keep_shared};
 use event_codec::Events;
 use gho_values::{Names, Sequence};
 use plain_server::{Need, Session};
+use row_locks::held_locks::HeldLocks;
 use std::alloc::{AllocError, Global};
 use std::mem;
 
@@ -28,7 +29,7 @@ pub fn connect(
         is_tool,
         in_transaction: false,
         writes: Sequence::new(alloc),
-        row_locks: Sequence::new(alloc),
+        row_locks: HeldLocks::new(alloc),
         names: Sequence::new(alloc),
         polls: 0,
     })?;
@@ -67,7 +68,7 @@ fn rest_one(alloc: Global, session: &mut Session) -> Events
 {
     keep_exclusive(alloc, &mut session.names);
     session.in_transaction = false;
-    session.row_locks = Sequence::new(alloc);
+    session.row_locks = HeldLocks::new(alloc);
     mem::replace(&mut session.writes, Sequence::new(alloc))
 }
 

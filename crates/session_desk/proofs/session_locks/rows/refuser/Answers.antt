@@ -9,10 +9,10 @@ returns-then-session-number c = refuser_own c.args.session.now.number c.args.ses
 
 pub returns-then-any_conflicts : goal.returns-then-any_conflicts
 returns-then-any_conflicts c =
-    let some : list_any (λ held. conflict held c.args.lock.now) c.args.session.now.row_locks ≡ true = sym (rw c.as_slice.ensures at c.any_conflicts.ensures) ∙ c.if-any_conflicts.true in
+    let some : list_any (λ held. conflict held c.args.lock.now) c.args.session.now.row_locks ≡ true = sym c.any_conflicts.ensures ∙ c.if-any_conflicts.true in
     refuser_other c.args.session.now.number c.args.session.now.row_locks c.args.number c.args.lock.now c.if-session-number.false some
 
 pub returns-else-any_conflicts : goal.returns-else-any_conflicts
 returns-else-any_conflicts c =
-    let none : list_any (λ held. conflict held c.args.lock.now) c.args.session.now.row_locks ≡ false = sym (rw c.as_slice.ensures at c.any_conflicts.ensures) ∙ c.if-any_conflicts.false in
+    let none : list_any (λ held. conflict held c.args.lock.now) c.args.session.now.row_locks ≡ false = sym c.any_conflicts.ensures ∙ c.if-any_conflicts.false in
     refuser_free c.args.session.now.number c.args.session.now.row_locks c.args.number c.args.lock.now none
