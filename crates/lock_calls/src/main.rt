@@ -1,6 +1,8 @@
 //! Runs calls about spans, locks and the throttle over the lines of the files of the folder `data`.
 #![tactic(auto)]
 
+mod held_lock_calls;
+mod lock_words;
 mod name_lock_calls;
 mod row_lock_calls;
 mod spans;
@@ -19,6 +21,7 @@ impl Calls for LockCalls {
         let (subject, call) = call.split_once(' ').ok_or(CallFault::Unread)?;
         match subject {
             "span" => spans::answer(alloc, call, input),
+            "held" => held_lock_calls::answers(alloc, input),
             "row" => row_lock_calls::answers(alloc, input),
             "name" => name_lock_calls::answers(alloc, input),
             "throttle" => throttles::answer(alloc, input),

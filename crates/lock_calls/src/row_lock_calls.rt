@@ -2,76 +2,13 @@
 //! key 0 of the table `t`, or for more locks at once; `test`, `undo` of an ask that is granted, and `free 1`. Each says
 //! `granted`, or the session that refuses.
 
-ghost use Rattle.std.specs.Prelude.{OnOk, IfOk};
-ghost use Rattle.lock_calls.specs.Numbers.{IsNumbers, AreNumbers, HoldNumbers};
-
-use case_lines::{CallFault, place_of, say, span_of};
-use gho_values::{Name, Sequence, Text};
-use row_locks::{Asked2, Lock, LockSet, RowLocks};
+use crate::lock_words::set_of;
+use case_lines::{CallFault, place_of, say};
+use gho_values::Text;
+use row_locks::{Asked2, LockSet, RowLocks};
 use std::alloc::{AllocError, Global};
 
-fn lock_of(alloc: Global, strength: &str, key: &str, span: &str) -> Result<Lock, CallFault>
-    ensures { IfOk result IsNumbers }
-{
-    let (table, key) = key.split_once('.').ok_or(CallFault::Unread)?;
-    let key = place_of(key)?;
-    let span = span_of(alloc, span)?;
-    Ok(Lock {
-        table: Name::new(alloc, table)?,
-        key,
-        span,
-        exclusive: strength == "X",
-    })
-}
-
-fn push(set: &mut LockSet, lock: Lock) -> Result<(), AllocError>
-    requires numbers { AreNumbers set.old }
-    requires number { IsNumbers lock }
-    ensures ok { OnOk result (AreNumbers set.new) }
-{
-    set.push(lock)
-}
-
-/// A lock is three words: its strength, its key and its span.
-fn set_of(alloc: Global, words: &[&str]) -> Result<LockSet, CallFault>
-    ensures { IfOk result AreNumbers }
-{
-    let mut set = Sequence::new(alloc);
-    let mut rest = words;
-    while let [strength, key, span, behind @ ..] = rest {
-        push(&mut set, lock_of(alloc, strength, key, span)?)?;
-        rest = behind;
-    }
-    Ok(set)
-}
-
-fn ask(locks: &mut RowLocks, session: u32, set: &LockSet) -> Result<Asked2, AllocError>
-    requires held { HoldNumbers locks.old.held }
-    requires asked { AreNumbers set.now }
-    ensures ok { OnOk result (HoldNumbers locks.new.held) }
-{
-    Ok(locks.ask(session, set)?)
-}
-
-fn test(locks: &RowLocks, session: u32, set: &LockSet) -> Asked2
-    requires held { HoldNumbers locks.now.held }
-    requires asked { AreNumbers set.now }
-{
-    locks.test(session, set)
-}
-
-fn free(locks: &mut RowLocks, session: u32)
-    requires { HoldNumbers locks.old.held }
-    ensures { HoldNumbers locks.new.held }
-{
-    locks.free(session);
-}
-
-fn undone(locks: &mut RowLocks, session: u32, set: &LockSet) -> Result<Asked2, AllocError>
-    requires held { HoldNumbers locks.old.held }
-    requires asked { AreNumbers set.now }
-    ensures ok { OnOk result (HoldNumbers locks.new.held) }
-{
+fn undone(locks: &mut RowLocks, session: u32, set: &LockSet) -> Result<Asked2, AllocError> {
     let answer = locks.ask(session, set)?;
     if answer == Asked2::Granted {
         locks.undo(session);
@@ -84,17 +21,13 @@ fn answer_of(
     call: &str,
     session: u32,
     set: &LockSet,
-) -> Result<Asked2, CallFault>
-    requires held { HoldNumbers locks.old.held }
-    requires asked { AreNumbers set.now }
-    ensures ok { OnOk result (HoldNumbers locks.new.held) }
-{
+) -> Result<Asked2, CallFault> {
     match call {
-        "ask" => Ok(ask(locks, session, set)?),
-        "test" => Ok(test(locks, session, set)),
+        "ask" => Ok(locks.ask(session, set)?),
+        "test" => Ok(locks.test(session, set)),
         "undo" => Ok(undone(locks, session, set)?),
         "free" => {
-            free(locks, session);
+            locks.free(session);
             Ok(Asked2::Granted)
         }
         _ => Err(CallFault::Unread),
@@ -108,10 +41,7 @@ fn say_answer(alloc: Global, told: &mut Text, answer: Asked2) -> Result<(), Allo
     }
 }
 
-fn take(alloc: Global, locks: &mut RowLocks, call: &str, told: &mut Text) -> Result<(), CallFault>
-    requires { HoldNumbers locks.old.held }
-    ensures { OnOk result (HoldNumbers locks.new.held) }
-{
+fn take(alloc: Global, locks: &mut RowLocks, call: &str, told: &mut Text) -> Result<(), CallFault> {
     let words: Vec<&str> = call.split(' ').collect(alloc)?;
     let [call, session, wishes @ ..] = words.as_slice() else {
         return Err(CallFault::Unread);

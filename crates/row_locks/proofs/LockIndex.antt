@@ -5,6 +5,7 @@ use Rattle.std.specs.Ordering.{is_gt, ordering_reverse}
 use Rattle.std.specs.Option.{option_cmp}
 use Rattle.std.specs.List.{AllByRecursion, list_any, prefix_len, slice_get}
 use Rattle.std.specs.List.Sorted.{IsPermutation}
+use Rattle.std.proofs.lemmas.Bool.{true≢false}
 use Rattle.std.proofs.lemmas.Cmp.{upto}
 use Rattle.std.proofs.lemmas.List.{take_all}
 use Rattle.std.proofs.lemmas.List.Edits.{insert-append_left}
@@ -15,7 +16,7 @@ use Rattle.std.proofs.lemmas.Option.{slice_get_past}
 use Rattle.paged_list.specs.Pages.{FailsOn}
 use Rattle.row_locks.specs.declared.lock.Lock.{Lock}
 use Rattle.row_locks.specs.Granting.{conflict}
-use Rattle.row_locks.specs.Indexing.{is_point, compare_places, compare_locks, compare_at, is_behind, is_point_lock, conflicts_with, conflicts_at, Rises, ArePoints, places_to, IsIndexed}
+use Rattle.row_locks.specs.Indexing.{is_point, compare_places, compare_locks, compare_at, is_behind, is_point_lock, is_wide_lock, conflicts_with, conflicts_at, Rises, ArePoints, places_to, IsIndexed}
 use Rattle.row_locks.proofs.LockOrder.{before_none, behind_none, by_place, all_places_total, all_locks_total}
 
 -- Places in order.
@@ -83,31 +84,41 @@ point_added locks lock place k points wide points' indexed at one k_is points_ar
     rw (points_are, k_is, add-one place)
     record {
       points_are = points_put locks lock place points indexed.points_are at one;
+      wide_are = indexed.wide_are;
       all =
           IsPermutation-push_more (places_to place) (points ++ wide) (insert points n place ++ wide) place indexed.all
           (subst (IsPermutation (place ∷ (points ++ wide))) (insert-append_left points wide n place (prefix_len-le-length (is_behind compare_locks locks lock) points)) (IsPermutation-insert (points ++ wide) n place));
     }
 
-pub wide_added : (locks : List Lock) (place : ℕ) (points wide wide' : List ℕ) → IsIndexed locks place points wide → wide' ≡ wide ++ place ∷ [] → IsIndexed locks (place + 1) points wide'
-wide_added locks place points wide wide' indexed wide_is =
+all_push : (P : ℕ → Type 0) (place : ℕ) (places : List ℕ) → P place → AllByRecursion P places → AllByRecursion P (places ++ place ∷ [])
+all_push P place [] is all = (is, tt)
+all_push P place (first ∷ places) is all = (all.0, all_push P place places is all.1)
+
+pub wide_added : (locks : List Lock) (place : ℕ) (points wide wide' : List ℕ) → IsIndexed locks place points wide → is_wide_lock (slice_get locks place) ≡ true → wide' ≡ wide ++ place ∷ [] → IsIndexed locks (place + 1) points wide'
+wide_added locks place points wide wide' indexed is wide_is =
     rw (wide_is, add-one place)
     record {
       points_are = indexed.points_are;
+      wide_are = all_push (λ other. is_wide_lock (slice_get locks other) ≡ true) place wide is indexed.wide_are;
       all =
           IsPermutation-push_more (places_to place) (points ++ wide) (points ++ (wide ++ place ∷ [])) place indexed.all
           (subst (IsPermutation (place ∷ (points ++ wide))) (append_assoc points wide (place ∷ [])) (IsPermutation-sym _ _ (IsPermutation-to_front (points ++ wide) place)));
     }
 
 -- More locks.
-stays : (locks more : List Lock) (place : ℕ) → is_point_lock (slice_get locks place) ≡ true → slice_get (locks ++ more) place ≡ slice_get locks place
-stays [] more place is = absurd (cc)
-stays (lock ∷ locks) more zero is = refl
-stays (lock ∷ locks) more (suc place) is = stays locks more place is
+stays : (test : Option Lock → Bool) → test None ≡ false → (locks more : List Lock) (place : ℕ) → test (slice_get locks place) ≡ true → slice_get (locks ++ more) place ≡ slice_get locks place
+stays test none [] more place is = absurd (true≢false (sym is ∙ none))
+stays test none (lock ∷ locks) more zero is = refl
+stays test none (lock ∷ locks) more (suc place) is = stays test none locks more place is
+
+all_grown : (test : Option Lock → Bool) → test None ≡ false → (locks more : List Lock) (places : List ℕ) → AllByRecursion (λ place. test (slice_get locks place) ≡ true) places → AllByRecursion (λ place. test (slice_get (locks ++ more) place) ≡ true) places
+all_grown test none locks more [] all = tt
+all_grown test none locks more (first ∷ places) all = (ap test (stays test none locks more first all.0) ∙ all.0, all_grown test none locks more places all.1)
 
 less_grown : (locks more : List Lock) (place : ℕ) (places : List ℕ) → is_point_lock (slice_get locks place) ≡ true → AllByRecursion (λ other. is_point_lock (slice_get locks other) ≡ true) places → AllByRecursion (λ other. is_gt (compare_at locks place other) ≡ false) places
     → AllByRecursion (λ other. is_gt (compare_at (locks ++ more) place other) ≡ false) places
 less_grown locks more place [] is are less = tt
-less_grown locks more place (next ∷ places) is are less = (rw (stays locks more place is, stays locks more next are.0) less.0, less_grown locks more place places is are.1 less.1)
+less_grown locks more place (next ∷ places) is are less = (rw (stays is_point_lock refl locks more place is, stays is_point_lock refl locks more next are.0) less.0, less_grown locks more place places is are.1 less.1)
 
 rises_grown : (locks more : List Lock) (places : List ℕ) → AllByRecursion (λ other. is_point_lock (slice_get locks other) ≡ true) places → Rises (compare_at locks) places → Rises (compare_at (locks ++ more)) places
 rises_grown locks more [] are rises = tt
@@ -115,12 +126,8 @@ rises_grown locks more (first ∷ places) are rises = (less_grown locks more fir
 
 pub grown : (locks more : List Lock) (count : ℕ) (points wide : List ℕ) → IsIndexed locks count points wide → IsIndexed (locks ++ more) count points wide
 grown locks more count points wide indexed = record {
-  points_are =
-      record {
-        are =
-            weaker (λ place. is_point_lock (slice_get locks place) ≡ true) (λ place. is_point_lock (slice_get (locks ++ more) place) ≡ true) (λ place is. ap is_point_lock (stays locks more place is) ∙ is) points indexed.points_are.are;
-        rises = rises_grown locks more points indexed.points_are.are indexed.points_are.rises;
-      };
+  points_are = record { are = all_grown is_point_lock refl locks more points indexed.points_are.are; rises = rises_grown locks more points indexed.points_are.are indexed.points_are.rises };
+  wide_are = all_grown is_wide_lock refl locks more wide indexed.wide_are;
   all = indexed.all;
 }
 

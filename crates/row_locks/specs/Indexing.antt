@@ -1,6 +1,6 @@
 -- How the locks of one session are kept: in the order in which they were granted, with an index of their places in that
 -- list.
-use Rattle.std.specs.Prelude.{◌≡◌, ◌≤◌, ◌+◌, ◌++◌, ℕ, zero, suc, Bool, true, false, List, [], ◌∷◌, Option, Some, None, vec_len, vec_capacity}
+use Rattle.std.specs.Prelude.{◌≡◌, ◌≤◌, ◌+◌, ◌++◌, ℕ, zero, suc, Bool, true, false, not, List, [], ◌∷◌, Option, Some, None, vec_len, vec_capacity}
 use Rattle.std.specs.List.{AllByRecursion, slice_get}
 use Rattle.std.specs.List.Sorted.{IsPermutation}
 use Rattle.std.specs.Option.{option_cmp}
@@ -59,6 +59,11 @@ abbrev pub is_point_lock : Option Lock → Bool
 is_point_lock None = false
 is_point_lock (Some lock) = is_point lock.span
 
+-- there is a lock, and its span is that of more keys or of none
+abbrev pub is_wide_lock : Option Lock → Bool
+is_wide_lock None = false
+is_wide_lock (Some lock) = not (is_point lock.span)
+
 -- there is a lock, and it conflicts with this one
 abbrev pub conflicts_with : Lock → Option Lock → Bool
 conflicts_with lock None = false
@@ -84,9 +89,10 @@ places_to zero = []
 places_to (suc place) = places_to place ++ place ∷ []
 
 -- Each place before this one stands in the index once: among those of the locks on one key, which stand in order, or among
--- the others.
+-- those of the others.
 pub record IsIndexed (locks : List Lock) (count : ℕ) (points wide : List ℕ) : Type 0 where
   pub points_are : ArePoints locks points
+  pub wide_are : AllByRecursion (λ place. is_wide_lock (slice_get locks place) ≡ true) wide
   pub all : IsPermutation (places_to count) (points ++ wide)
 
 -- the index has room for so many more places, whatever locks stand there

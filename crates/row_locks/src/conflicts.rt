@@ -40,7 +40,7 @@ fn meets(a: &Span, b: &Span) -> bool
 impl Lock {
     /// Whether different sessions can't hold both locks.
     #[tactic(auto, unfolding(crate::specs::Granting::conflict))]
-    pub fn conflicts(&self, other: &Lock) -> bool
+    pub(crate) fn conflicts(&self, other: &Lock) -> bool
         ensures { result ≡ conflict self.now other.now }
     {
         self.table == other.table

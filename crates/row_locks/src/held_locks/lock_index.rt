@@ -4,7 +4,7 @@ ghost use Rattle.std.specs.Prelude.{◌≡◌, ◌<◌, ◌≤◌, ◌+◌, ◌-
 ghost use Rattle.std.specs.List.{list_any, slice_get};
 ghost use Rattle.paged_list.specs.Pages.{flat};
 ghost use Rattle.row_locks.specs.Granting.{conflict};
-ghost use Rattle.row_locks.specs.Indexing.{is_point, is_point_lock, conflicts_at, ArePoints, IsIndexed, HasRoom};
+ghost use Rattle.row_locks.specs.Indexing.{is_point, is_point_lock, is_wide_lock, conflicts_at, ArePoints, IsIndexed, HasRoom};
 
 use crate::held_locks::lock_order::{BeforeKey, BeforeLock, is_point, lock_at};
 use crate::lock::Lock;
@@ -74,6 +74,7 @@ impl LockIndex {
     fn add_wide(&mut self, locks: &[Lock], place: usize)
         requires indexed { IsIndexed locks.now place (flat self.old.points.pages) self.old.wide.items }
         requires within { place < length locks.now }
+        requires wide { is_wide_lock (slice_get locks.now place) ≡ true }
         requires room { HasRoom (length locks.now - place) self.old }
         ensures indexed { IsIndexed locks.now (place + 1) (flat self.new.points.pages) self.new.wide.items }
         ensures room { HasRoom (length locks.now - (place + 1)) self.new }
