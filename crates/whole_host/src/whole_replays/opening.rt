@@ -1,7 +1,8 @@
 //! A plan's opening tables on a server.
 
-ghost use Rattle.std.specs.Prelude.{◌≡◌, IfOk};
+ghost use Rattle.std.specs.Prelude.{◌≡◌, [], ◌∷◌, IfOk};
 ghost use Rattle.migration_program.specs.JournalWords.Journals.{opening};
+ghost use Rattle.changelog_table.specs.ToolNames.{log_name};
 ghost use Rattle.accepted_plans.specs.AcceptedLaws.Laws.{WasRead};
 
 use changelog_table::log_name;
@@ -26,7 +27,9 @@ fn limits_of(plan: &Plan) -> Limits
 }
 
 /// The tables whose events the applier reads.
-fn watched_in(alloc: Global, plan: &Plan) -> Result<Names, AllocError> {
+fn watched_in(alloc: Global, plan: &Plan) -> Result<Names, AllocError>
+    ensures { IfOk result (λ watched. watched ≡ plan.now.table ∷ log_name plan.now.table ∷ []) }
+{
     let table = plan.table();
     Ok(Sequence::from_vec(vec![in alloc; table.copy()?, log_name(alloc, table)?]?))
 }
