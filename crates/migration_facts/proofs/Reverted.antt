@@ -77,7 +77,7 @@ data Held (plan : PlanData) (m : Migration) (at : Clustered m.schema) (rows : Li
 itself : (n : ℕ) → n ≤ n
 itself n = omega arith
 
-pub called_drained : (work : Work) (request : Request) → attempts.next Renamer work.cutover ≡ Some request → IsAtDrained work.cutover.phase
+called_drained : (work : Work) (request : Request) → attempts.next Renamer work.cutover ≡ Some request → IsAtDrained work.cutover.phase
 unfolding attempts.next
 called_drained work request = by work.cutover.phase where
   by : (phase : Phase) → renamer_call work.cutover phase ≡ Some request → IsAtDrained phase
