@@ -27,11 +27,21 @@ use txn_session::Writes;
 
 /// Committed tables in pages, and what each session's open transaction wrote. Room for all open commits is made when
 /// something is written, so that a commit takes no memory.
-#[derive(Drop)]
 pub struct Store {
     alloc: Global,
     tables: Tables,
     txns: Vec<OpenTxn>,
+}
+
+// By hand: crates above then take it as one call, and don't prove the drop of each part again.
+impl Drop for Store {
+    fn drop(self) {
+        let Store {
+            alloc: _,
+            tables: _tables,
+            txns: _txns,
+        } = self;
+    }
 }
 
 impl Model for Store {
