@@ -23,16 +23,3 @@ compare_values a b = nat_cmp (rank a) (rank b)
 -- Which of two keys comes first: the first column in which they differ decides.
 abbrev pub compare_keys : List Value → List Value → Ordering
 compare_keys = slice_cmp compare_values
-
--- Two values of one kind, neither of them null.
-abbrev pub SameKind : Value → Value → Type 0
-SameKind (Num m) (Num n) = Unit {0}
-SameKind (Text s) (Text t) = Unit {0}
-SameKind (Blob s) (Blob t) = Unit {0}
-SameKind a b = ⊥
-
--- Two keys of the same kinds, column by column, without null: what two values of one key of one table are.
-abbrev pub SameKinds : List Value → List Value → Type 0
-SameKinds [] [] = Unit {0}
-SameKinds (x ∷ a) (y ∷ b) = SameKind x y × SameKinds a b
-SameKinds a b = ⊥

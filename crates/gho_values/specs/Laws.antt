@@ -9,10 +9,10 @@ use Rattle.gho_values.specs.declared.kind.Kind.{Kind}
 use Rattle.gho_values.specs.declared.span.Span.{Span}
 use Rattle.gho_values.specs.declared.value.Value.{Value}
 use Rattle.gho_values.specs.declared.value.Value.TheVariants.{Null, Num, Text, Blob}
-use Rattle.gho_values.specs.Comparing.{compare_values, compare_keys, SameKinds}
+use Rattle.gho_values.specs.Comparing.{compare_values, compare_keys}
 use Rattle.gho_values.specs.Printing.{printed}
-use Rattle.gho_values.specs.Spans.{has, meets, point, KeyFits, SpansFit, SpanOfKinds}
-use Rattle.gho_values.specs.Storing.{stores, seeks, fits, IsOfKind, AreOfKinds}
+use Rattle.gho_values.specs.Spans.{has, meets, point}
+use Rattle.gho_values.specs.Storing.{stores, seeks, fits, IsOfKind}
 
 -- The order of values is total, and two values that it ties are one.
 abbrev pub ValuesAreOrdered : Type 0
@@ -45,16 +45,6 @@ KeepsKind =
 -- Where a value is stored and no null, the same value is sought.
 abbrev pub SeeksWhatIsStored : Type 0
 SeeksWhatIsStored = (value : Value) (kind : Kind) (nullable : Bool) (stored : Value) → stores value kind nullable ≡ Ok stored → stored ≢ Null → seeks value kind ≡ Ok stored
-
--- Keys of the same columns' kinds are of the same kinds.
-abbrev pub KeysOfOneKind : Type 0
-KeysOfOneKind = (kinds : List Kind) (a b : List Value) → AreOfKinds a kinds → AreOfKinds b kinds → SameKinds a b
-
--- Keys and spans of the same columns' kinds may be asked of one another.
-abbrev pub SpansOfOneKind : Type 0
-SpansOfOneKind =
-    ((kinds : List Kind) (span : Span) (key : List Value) → SpanOfKinds span kinds → AreOfKinds key kinds → KeyFits span key)
-    × ((kinds : List Kind) (a b : Span) → SpanOfKinds a kinds → SpanOfKinds b kinds → SpansFit a b)
 
 -- Which of two spans is named first doesn't matter.
 abbrev pub MeetsBothWays : Type 0

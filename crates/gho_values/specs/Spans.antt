@@ -6,7 +6,7 @@ use Rattle.gho_values.specs.declared.value.Value.{Value}
 use Rattle.gho_values.specs.declared.span.Bound.{Bound}
 use Rattle.gho_values.specs.declared.span.Bound.TheVariants.{Open, Closed, Free}
 use Rattle.gho_values.specs.declared.span.Span.{Span}
-use Rattle.gho_values.specs.Comparing.{compare_keys, SameKinds}
+use Rattle.gho_values.specs.Comparing.{compare_keys}
 use Rattle.gho_values.specs.Storing.{AreOfKinds}
 
 -- The key is on the inner side of a lower end.
@@ -41,30 +41,6 @@ leave_room (Open low) (Open high) = is_lt (compare_keys low high)
 -- Two spans leave room for a common key: each lower end does with each upper end. Whether a key of the columns' kinds lies there is not asked.
 unfoldable pub meets : Span → Span → Bool
 meets a b = leave_room a.low a.high && leave_room a.low b.high && leave_room b.low a.high && leave_room b.low b.high
-
--- An end, where it is a key, has the key's kinds and no null.
-abbrev pub EndFits : Bound → List Value → Type 0
-EndFits (Open end) key = SameKinds end key
-EndFits (Closed end) key = SameKinds end key
-EndFits Free key = Unit {0}
-
--- Two ends, where both are keys, have the same kinds and no null.
-abbrev pub EndsFit : Bound → Bound → Type 0
-EndsFit (Open end) other = EndFits other end
-EndsFit (Closed end) other = EndFits other end
-EndsFit Free other = Unit {0}
-
--- A key of the span's kinds, without null.
-pub record KeyFits (span : Span) (key : List Value) : Type 0 where
-  pub low : EndFits span.low key
-  pub high : EndFits span.high key
-
--- Spans of one key's values: each lower end and each upper end have the same kinds, without null.
-pub record SpansFit (a b : Span) : Type 0 where
-  pub first : EndsFit a.low a.high
-  pub first_second : EndsFit a.low b.high
-  pub second_first : EndsFit b.low a.high
-  pub second : EndsFit b.low b.high
 
 -- An end, where it is a key, is of the columns' kinds.
 abbrev pub EndOfKinds : Bound → List Kind → Type 0

@@ -5,7 +5,7 @@ ghost use Rattle.std.specs.Cmp.{partial_equiv_from_equiv};
 ghost use Rattle.std.specs.Cmp.Lexicographic.{pointwise, slice_cmp, slice_partial_cmp};
 ghost use Rattle.std.specs.Ordering.{eq_by_cmp, as_partial_cmp};
 ghost use Rattle.std.proofs.lemmas.Cmp.{eq_by_cmp_equiv, lists_equiv, lists_total};
-ghost use Rattle.gho_values.specs.Comparing.{rank, compare_values, compare_keys, SameKinds};
+ghost use Rattle.gho_values.specs.Comparing.{rank, compare_values, compare_keys};
 ghost use Rattle.gho_values.specs.ValueOrder.{values_total, values_partial};
 
 use crate::sequence::Sequence;
@@ -68,9 +68,8 @@ fn rank(value: &Value) -> u8
     }
 }
 
-/// Which of two keys of one kind comes first. Their first columns count first.
+/// Which of two keys comes first. Their first columns count first.
 pub fn compare(a: &Key, b: &Key) -> Ordering
-    requires { SameKinds a.now b.now }
     ensures { result ≡ compare_keys a.now b.now }
 {
     a.cmp(b)

@@ -1,6 +1,6 @@
 //! What holds of all values, keys and spans: each function's contract is a law, and its body is empty.
 
-ghost use Rattle.gho_values.specs.Laws.{ValuesAreOrdered, KeysAreOrdered, StoresAgain, StoresWhatFits, StoresNullWhereNullable, KeepsKind, SeeksWhatIsStored, KeysOfOneKind, SpansOfOneKind, MeetsBothWays, MeetsAtCommonKeys, PointsMeetWhatHasThem, PrintsApart};
+ghost use Rattle.gho_values.specs.Laws.{ValuesAreOrdered, KeysAreOrdered, StoresAgain, StoresWhatFits, StoresNullWhereNullable, KeepsKind, SeeksWhatIsStored, MeetsBothWays, MeetsAtCommonKeys, PointsMeetWhatHasThem, PrintsApart};
 
 /// The order of values is total, and two values that it ties are one.
 pub fn values_are_ordered()
@@ -35,16 +35,6 @@ pub fn columns_keep_their_kind()
 /// Where a value is stored and no null, the same value is sought.
 pub fn stored_values_are_sought()
     ensures { SeeksWhatIsStored }
-{}
-
-/// Keys of the same columns are of the same kinds.
-pub fn keys_of_columns_are_of_one_kind()
-    ensures { KeysOfOneKind }
-{}
-
-/// Keys and spans of the same columns may be asked of one another.
-pub fn spans_of_columns_are_of_one_kind()
-    ensures { SpansOfOneKind }
 {}
 
 /// Which of two spans is named first doesn't matter.

@@ -46,12 +46,11 @@ impl Duplicate for Span {
 }
 
 impl Span {
-    ghost use Rattle.gho_values.specs.Spans.{has, meets, KeyFits, SpansFit};
+    ghost use Rattle.gho_values.specs.Spans.{has, meets};
 
     /// Whether the key lies in the span.
     #[tactic(auto, unfolding(crate::specs::Spans::has))]
     pub fn has(&self, key: &Key) -> bool
-        requires { KeyFits self.now key.now }
         ensures { result ≡ has self.now key.now }
     {
         self.low.is_below(key) && self.high.is_above(key)
@@ -61,7 +60,6 @@ impl Span {
     /// the open ends 5 and 6 is room.
     #[tactic(auto, unfolding(crate::specs::Spans::meets))]
     pub fn meets(&self, other: &Span) -> bool
-        requires { SpansFit self.now other.now }
         ensures { result ≡ meets self.now other.now }
     {
         self.low.leaves_room(&self.high)

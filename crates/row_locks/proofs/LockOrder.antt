@@ -1,6 +1,6 @@
 -- Locks on one key in order: which of them conflict with one.
 use Rattle.std.proofs.Common.{◌≡◌, ◌∙◌, List, Bool, true, false, ◌&&◌, ◌||◌, nat_eq, Option, Some, None, Ordering, Less, Equal, Greater, refl, sym, ap}
-use Rattle.std.specs.Cmp.{IsTotalOrder, bool_cmp_total}
+use Rattle.std.specs.Cmp.{IsTotalOrder, bool_cmp_total, Equal-is}
 use Rattle.std.specs.Cmp.Lexicographic.{pointwise, slice_cmp, options_total, bytes_decides}
 use Rattle.std.specs.Ordering.{is_eq, is_gt, nat_cmp, bool_cmp, ordering_reverse, ordering_then}
 use Rattle.std.specs.Option.{option_cmp}
@@ -13,7 +13,7 @@ use Rattle.gho_values.specs.declared.span.Span.{Span}
 use Rattle.gho_values.specs.declared.value.Value.{Value}
 use Rattle.gho_values.specs.Comparing.{compare_keys}
 use Rattle.gho_values.specs.Spans.{meets, point}
-use Rattle.gho_values.proofs.Orders.{keys_total, tied_keys}
+use Rattle.gho_values.proofs.Orders.{both_Equal, keys_total, tied_keys}
 use Rattle.gho_values.proofs.SpanLaws.{point_meets, point_has_one}
 use Rattle.row_locks.specs.declared.lock.Lock.{Lock}
 use Rattle.row_locks.specs.Granting.{same_place, conflict}
@@ -25,11 +25,6 @@ places_total = then_total (on_total (λ (lock : Lock). lock.table) nat_list_cmp_
 pub locks_total : IsTotalOrder compare_locks
 locks_total = then_total places_total (on_total (λ (lock : Lock). lock.exclusive) (back_total bool_cmp_total))
 
-both_Equal : (o p : Ordering) → ordering_then o p ≡ Equal → (o ≡ Equal) × (p ≡ Equal)
-both_Equal Less p is = absurd (cc)
-both_Equal Equal p is = (refl, is)
-both_Equal Greater p is = absurd (cc)
-
 first_not_gt : (o p : Ordering) → is_gt (ordering_then o p) ≡ false → is_gt o ≡ false
 first_not_gt Less p not = refl
 first_not_gt Equal p not = refl
@@ -39,11 +34,6 @@ between : (o : Ordering) → is_gt o ≡ false → is_gt (ordering_reverse o) �
 between Less up down = absurd (cc)
 between Equal up down = refl
 between Greater up down = absurd (cc)
-
-equal_by : (o : Ordering) → is_eq o ≡ true → o ≡ Equal
-equal_by Less is = absurd (cc)
-equal_by Equal is = refl
-equal_by Greater is = absurd (cc)
 
 pub not_so : (b : Bool) → (b ≡ true → ⊥) → b ≡ false
 not_so true wrong = absurd (wrong refl)
@@ -59,7 +49,7 @@ closes Free high is = absurd (cc)
 closes (Open low) high is = absurd (cc)
 closes (Closed low) Free is = absurd (cc)
 closes (Closed low) (Open high) is = absurd (cc)
-closes (Closed low) (Closed high) is = let same : low ≡ high = tied_keys low high (equal_by (compare_keys low high) is) in record { low_is = refl; high_is = ap Closed (sym same) }
+closes (Closed low) (Closed high) is = let same : low ≡ high = tied_keys low high ((Equal-is (compare_keys low high)).0 is) in record { low_is = refl; high_is = ap Closed (sym same) }
 
 span_made : (low high : Bound) (key : List Value) → low ≡ Closed key → high ≡ Closed key → ◌≡◌ {A = Span} (record { low = low; high = high }) (point key)
 span_made low high key one other = rw (one, other) refl

@@ -2,40 +2,9 @@
 
 ghost use Rattle.std.specs.Prelude.{◌≡◌};
 ghost use Rattle.std.specs.List.{list_any};
-ghost use Rattle.gho_values.specs.Spans.{leave_room, meets};
 ghost use Rattle.row_locks.specs.Granting.{conflict};
 
 use crate::lock::Lock;
-use gho_values::{Bound, Span};
-
-/// Whether there is room between a lower end and an upper one, of whatever kinds their keys are.
-fn leaves_room(low: &Bound, high: &Bound) -> bool
-    ensures { result ≡ leave_room low.now high.now }
-{
-    match low {
-        Bound::Free => true,
-        Bound::Open(low) => match high {
-            Bound::Free => true,
-            Bound::Open(high) | Bound::Closed(high) => low.cmp(high).is_lt(),
-        },
-        Bound::Closed(low) => match high {
-            Bound::Free => true,
-            Bound::Open(high) => low.cmp(high).is_lt(),
-            Bound::Closed(high) => low.cmp(high).is_le(),
-        },
-    }
-}
-
-/// Whether the ends of the two spans leave room for a common key.
-#[tactic(auto, unfolding(gho_values::specs::Spans::meets))]
-fn meets(a: &Span, b: &Span) -> bool
-    ensures { result ≡ meets a.now b.now }
-{
-    leaves_room(&a.low, &a.high)
-        && leaves_room(&a.low, &b.high)
-        && leaves_room(&b.low, &a.high)
-        && leaves_room(&b.low, &b.high)
-}
 
 impl Lock {
     /// Whether different sessions can't hold both locks.
@@ -46,7 +15,7 @@ impl Lock {
         self.table == other.table
             && self.key == other.key
             && (self.exclusive || other.exclusive)
-            && meets(&self.span, &other.span)
+            && self.span.meets(&other.span)
     }
 }
 
