@@ -4,7 +4,7 @@ ghost use Rattle.std.specs.Prelude.{◌≡◌, IfOk, option_copied};
 ghost use Rattle.row_store.specs.Databases.{database, find_table, is_named};
 
 use gho_values::gho_schema::Schema;
-use gho_values::{Duplicate, Name, Row, Rows, Sequence};
+use gho_values::{Duplicate, Name, Row, Rows, Sequence, copy_of};
 use row_store::{Table, Tables};
 use std::alloc::{AllocError, Global};
 use std::marker::Model;
@@ -59,23 +59,12 @@ impl Duplicate for PlainTable {
     }
 }
 
-/// Copies of rows.
-pub fn copy_of(alloc: Global, rows: &[Row]) -> Result<Rows, AllocError>
-    ensures { IfOk result (λ copy. copy ≡ rows.now) }
-{
-    let mut copy = Sequence::new(alloc);
-    for row in rows {
-        copy.push(row.copy()?)?;
-    }
-    Ok(copy)
-}
-
 fn plain_table(alloc: Global, table: &Table) -> Result<PlainTable, AllocError>
     ensures { IfOk result (λ plain. plain ≡ table.now.table) }
 {
     Ok(PlainTable {
         schema: table.schema().copy()?,
-        rows: copy_of(alloc, table.rows().as_slice())?,
+        rows: Sequence::from_vec(copy_of(alloc, table.rows().as_slice())?),
     })
 }
 

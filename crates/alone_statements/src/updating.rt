@@ -8,7 +8,7 @@ ghost use Rattle.alone_statements.specs.Told.{as_result};
 ghost use Rattle.alone_statements.specs.Updating.{changes_behind, goes_on};
 
 use crate::meeting::{clashes_besides, rows_met};
-use crate::plain::{PlainTable, copy_of};
+use crate::plain::PlainTable;
 use crate::rows::change_rows;
 use crate::telling::{Changes, Told, only};
 use event_codec::Change;
@@ -90,7 +90,7 @@ fn updates(
     ensures { IfOk result (λ all. all ≡ updates table.now.schema sets.now met.now table.now.rows) }
 {
     let mut going = Going {
-        rows: copy_of(alloc, table.rows.as_slice())?,
+        rows: table.rows.copy()?,
         changes: Sequence::new(alloc),
     };
     for old in met {

@@ -87,12 +87,8 @@ fn index_after(alloc: Global, change: PlaceChange, index: &Index) -> Result<Inde
     requires { AllByRecursion (λ place. place < 64) index.now.places }
     ensures { IfOk result (λ after. after ≡ index_after change index.now) }
 {
-    let name = match &index.name {
-        Some(name) => Some(name.copy()?),
-        None => None,
-    };
     Ok(Index {
-        name,
+        name: index.name.copy()?,
         places: places_after(alloc, change, index.places.as_slice())?,
     })
 }

@@ -11,6 +11,15 @@ pub trait Duplicate: Drop {
         ensures { IfOk result (λ copy. copy ≡ self.now) };
 }
 
+impl<T: Duplicate> Duplicate for Option<T> {
+    fn copy(&self) -> Result<Option<T>, AllocError> {
+        Ok(match self {
+            Some(value) => Some(value.copy()?),
+            None => None,
+        })
+    }
+}
+
 impl Duplicate for u8 {
     fn copy(&self) -> Result<u8, AllocError> {
         Ok(*self)

@@ -25,7 +25,7 @@ pub use fault::{StoreFault, Unfit};
 pub use kind::Kind;
 pub use name::{Name, Names};
 pub use printing::{print_row, print_value};
-pub use sequence::Sequence;
+pub use sequence::{Sequence, copy_of};
 pub use span::{Bound, Span};
 pub use storing::{character_count, number_of, seek, store};
 pub use text::{Chars, Text};

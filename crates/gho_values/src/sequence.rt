@@ -116,15 +116,16 @@ impl<T: Drop> Sequence<T> {
 impl<T: Duplicate> Duplicate for Sequence<T> {
     fn copy(&self) -> Result<Sequence<T>, AllocError> {
         Ok(Sequence {
-            items: copy_of(self.items.allocator(), self.items.as_slice())?,
+            items: copy_of(*self.items.allocator(), self.items.as_slice())?,
         })
     }
 }
 
-fn copy_of<T: Duplicate>(alloc: &Global, items: &[T]) -> Result<Vec<T>, AllocError>
+/// A copy of the items, or `AllocError` where there is no memory for it.
+pub fn copy_of<T: Duplicate>(alloc: Global, items: &[T]) -> Result<Vec<T>, AllocError>
     ensures { IfOk result (λ copy. copy.items ≡ items.now) }
 {
-    let mut copy = Vec::with_capacity(*alloc, items.len())?;
+    let mut copy = Vec::with_capacity(alloc, items.len())?;
     for item in items {
         copy.push(item.copy()?)?;
     }

@@ -1,7 +1,5 @@
 //! What the server answers.
 
-ghost use Rattle.std.specs.Prelude.{◌≡◌, IfOk};
-
 use crate::listing::{ShownWaiters, TableNames};
 use event_codec::Events;
 use gho_values::{Duplicate, Key, Keys, Rows};
@@ -77,15 +75,6 @@ impl Duplicate for KeyRange {
     }
 }
 
-fn copy_of_range(range: &Option<KeyRange>) -> Result<Option<KeyRange>, AllocError>
-    ensures { IfOk result (λ copy. copy ≡ range.now) }
-{
-    Ok(match range {
-        Some(range) => Some(range.copy()?),
-        None => None,
-    })
-}
-
 impl Duplicate for Answer {
     fn copy(&self) -> Result<Answer, AllocError> {
         Ok(match self {
@@ -95,7 +84,7 @@ impl Duplicate for Answer {
                 keys: keys.copy()?,
                 end: end.copy()?,
             },
-            Answer::Ends(range) => Answer::Ends(copy_of_range(range)?),
+            Answer::Ends(range) => Answer::Ends(range.copy()?),
             Answer::End(key) => Answer::End(key.copy()?),
             Answer::At(count) => Answer::At(*count),
             Answer::Events { events, next } => Answer::Events {

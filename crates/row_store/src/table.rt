@@ -11,7 +11,7 @@ use crate::finding::{clash_by_key, first_clash, key_place, row_of_key};
 use crate::places::{place_of_row, rows_between};
 use crate::span_rows::SpanRows;
 use gho_values::gho_schema::{Schema, may_cluster};
-use gho_values::{Duplicate, Key, Name, Row, Rows, Span};
+use gho_values::{Duplicate, Key, Name, Row, Rows, Span, copy_of};
 use std::alloc::{AllocError, Global};
 use std::marker::Model;
 use std::mem;
@@ -34,16 +34,6 @@ impl Model for Table {
     ghost view = { λ t. record { table = record { schema = t.schema; rows = t.rows.items }; spare = vec_capacity t.rows - vec_len t.rows } };
 
     ghost invariant = { λ t. Ascends (key_places t.schema) t.rows.items };
-}
-
-fn copy_of(alloc: Global, rows: &[Row]) -> Result<Vec<Row>, AllocError>
-    ensures { IfOk result (λ copy. copy.items ≡ rows.now) }
-{
-    let mut copy = Vec::with_capacity(alloc, rows.len())?;
-    for row in rows {
-        copy.push(row.copy()?)?;
-    }
-    Ok(copy)
 }
 
 /// Whether the clustered key is the only unique key.

@@ -203,12 +203,8 @@ fn key_index(alloc: Global, names: &[Name], key: &WrittenKey) -> Result<Index, A
     requires { length names.now < 2 ^ 32 }
     ensures { IfOk result (λ index. index ≡ key_index names.now key.now) }
 {
-    let name = match &key.text.name {
-        Some(name) => Some(name.copy()?),
-        None => None,
-    };
     Ok(Index {
-        name,
+        name: key.text.name.copy()?,
         places: places_of(alloc, names, key.text.columns.as_slice())?,
     })
 }

@@ -1,7 +1,5 @@
 //! Statements over one table.
 
-ghost use Rattle.std.specs.Prelude.{◌≡◌, IfOk};
-
 use gho_values::{Duplicate, Name, Names, Row, Sequence, Value};
 use std::alloc::AllocError;
 
@@ -168,7 +166,7 @@ impl Duplicate for Statement {
                 values,
             } => Statement::Insert {
                 table: table.copy()?,
-                columns: copy_of_columns(columns)?,
+                columns: columns.copy()?,
                 values: values.copy()?,
             },
             Statement::Replace {
@@ -177,7 +175,7 @@ impl Duplicate for Statement {
                 values,
             } => Statement::Replace {
                 table: table.copy()?,
-                columns: copy_of_columns(columns)?,
+                columns: columns.copy()?,
                 values: values.copy()?,
             },
             Statement::Delete { table, condition } => Statement::Delete {
@@ -203,14 +201,5 @@ impl Duplicate for Statement {
                 condition: condition.copy()?,
             },
         })
-    }
-}
-
-fn copy_of_columns(columns: &Option<Names>) -> Result<Option<Names>, AllocError>
-    ensures { IfOk result (λ copy. copy ≡ columns.now) }
-{
-    match columns {
-        Some(names) => Ok(Some(names.copy()?)),
-        None => Ok(None),
     }
 }

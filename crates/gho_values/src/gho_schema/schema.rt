@@ -68,27 +68,19 @@ impl Schema {
 
 impl Duplicate for Column {
     fn copy(&self) -> Result<Column, AllocError> {
-        let default = match &self.default {
-            Some(value) => Some(value.copy()?),
-            None => None,
-        };
         Ok(Column {
             name: self.name.copy()?,
             kind: self.kind,
             nullable: self.nullable,
-            default,
+            default: self.default.copy()?,
         })
     }
 }
 
 impl Duplicate for Index {
     fn copy(&self) -> Result<Index, AllocError> {
-        let name = match &self.name {
-            Some(name) => Some(name.copy()?),
-            None => None,
-        };
         Ok(Index {
-            name,
+            name: self.name.copy()?,
             places: self.places.copy()?,
         })
     }
