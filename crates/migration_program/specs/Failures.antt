@@ -27,7 +27,7 @@ use Rattle.migration_program.specs.declared.cutover_core.cutover.Phase.TheVarian
 use Rattle.migration_program.specs.declared.cutover_core.cutover.Stage.TheVariants.{Draining}
 use Rattle.migration_program.specs.CutoverCore.CutOvers.{is_wait, may_succeed, is_resting}
 use Rattle.migration_program.specs.Tools.{Course, SettingUp, Migrating, Moment, moment}
-use Rattle.migration_program.specs.Verdicts.{column_at}
+use Rattle.migration_program.specs.Verdicts.{new_column_name}
 
 -- the actors whose calls the task consists of
 abbrev pub is_actor_of : Task → Actor → Bool
@@ -147,7 +147,7 @@ pub record IsUnfit (plan : PlanData) (journal : List Entry) (turn : ℕ) (key : 
   pub is : IsTurn plan journal turn entry before
   pub place : ℕ
   pub refused : entry.answer ≡ answers.Refused number (Some place)
-  pub name : column_at plan place ≡ column
+  pub name : new_column_name plan place ≡ column
   pub row : List Value
   pub concerned : concerned plan (take (turn - 1) journal) before entry.actor key ≡ Some row
   pub keyed : key_of (key_places (old_schema plan)) row ≡ key

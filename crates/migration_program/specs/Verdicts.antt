@@ -34,8 +34,8 @@ is_over now =
     else is_reverting now.tool.reason && is_calm now.tool.course && not (is_tool_busy now.server)
 
 -- the name of the new column at this place
-abbrev pub column_at : PlanData → ℕ → List ℕ
-column_at plan place = appliers.name_at (new_schema plan).columns place
+abbrev pub new_column_name : PlanData → ℕ → List ℕ
+new_column_name plan place = appliers.name_at (new_schema plan).columns place
 
 -- the key of the row that didn't fit
 abbrev pub copy_key : List Entry → Course → List Value
@@ -47,8 +47,8 @@ apply_key plan journal (SettingUp setup tries) = []
 apply_key plan journal (Migrating work) = appliers.unfit_key journal (key_places (old_schema plan)) work.applier
 
 abbrev pub cause_of : PlanData → List Entry → Tool → Reason → Cause
-cause_of plan journal tool (CopyUnfit turn place number) = causes.Unfit turn (copy_key journal tool.course) (column_at plan place) number
-cause_of plan journal tool (ApplyUnfit turn place number) = causes.Unfit turn (apply_key plan journal tool.course) (column_at plan place) number
+cause_of plan journal tool (CopyUnfit turn place number) = causes.Unfit turn (copy_key journal tool.course) (new_column_name plan place) number
+cause_of plan journal tool (ApplyUnfit turn place number) = causes.Unfit turn (apply_key plan journal tool.course) (new_column_name plan place) number
 cause_of plan journal tool (Spent task turns) = causes.Spent task turns
 cause_of plan journal tool (Panicked turn) = causes.Panic turn
 

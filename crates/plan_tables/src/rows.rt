@@ -87,7 +87,8 @@ fn put_texts(
     Ok(table)
 }
 
-fn copy_of(alloc: Global, mut rows: SpanRows<'_>) -> Result<Vec<Row>, AllocError>
+/// The rows of a table that stands in pages, in one list.
+fn listed_rows(alloc: Global, mut rows: SpanRows<'_>) -> Result<Vec<Row>, AllocError>
     ensures { IfOk result (λ copy. copy.items ≡ rows.entry) }
 {
     let mut copy = Vec::new(alloc);
@@ -102,7 +103,7 @@ fn plain_table(alloc: Global, table: &PagedTable) -> Result<Table, AllocError>
     ensures { IfOk result (λ plain. plain.table ≡ table.now.table) }
 {
     let schema = table.schema().copy()?;
-    let rows = copy_of(alloc, table.rows())?;
+    let rows = listed_rows(alloc, table.rows())?;
     Ok(Table::from_rows(schema, Sequence::from_vec(rows)))
 }
 

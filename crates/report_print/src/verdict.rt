@@ -41,7 +41,7 @@ fn push_spaced_turns(into: &mut Text, turns: &[u64]) -> Result<(), AllocError>
 }
 
 /// Adds a name as a text between quotes.
-fn push_quoted(into: &mut Text, name: &Name) -> Result<(), AllocError>
+fn push_name_value(into: &mut Text, name: &Name) -> Result<(), AllocError>
     ensures { OnOk result (into.new ≡ into.old ++ printed (TextValue name.now)) }
 {
     let text = Chars::new(into.allocator(), name.as_str())?;
@@ -63,7 +63,7 @@ fn push_unfit(
     into.push_str(" key ")?;
     print_row(key.as_slice(), into)?;
     into.push_str(" column ")?;
-    push_quoted(into, column)?;
+    push_name_value(into, column)?;
     into.push_str(" ")?;
     push_count(into, u64::from(number))
 }

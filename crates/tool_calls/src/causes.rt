@@ -4,7 +4,7 @@ ghost use Rattle.std.specs.Prelude.{◌≡◌, if◌then◌else◌, IfOk};
 ghost use Rattle.gho_values.specs.GhoSchema.Rows.{key_places};
 ghost use Rattle.plain_server.specs.declared.outcome.Verdict.TheVariants as verdicts;
 ghost use Rattle.plan_words.specs.PlanData.{old_schema};
-ghost use Rattle.migration_program.specs.Verdicts.{column_at, copy_key, apply_key, cause_of, reverted_by};
+ghost use Rattle.migration_program.specs.Verdicts.{new_column_name, copy_key, apply_key, cause_of, reverted_by};
 ghost use Rattle.tool_calls.specs.ToolState.Meanings.{reason_of, course_of, tool_of};
 
 use crate::tool_state::{Reason, Tool, Tries};
@@ -16,8 +16,8 @@ use std::alloc::{AllocError, Global};
 
 /// The name of the new column at this place.
 #[tactic(auto, using(migration_program::proofs::ToolSetup::Altered::schema_is))]
-fn column_at(alloc: Global, plan: &Plan, place: u32) -> Result<Name, AllocError>
-    ensures { IfOk result (λ name. name ≡ column_at plan.now place) }
+fn new_column_name(alloc: Global, plan: &Plan, place: u32) -> Result<Name, AllocError>
+    ensures { IfOk result (λ name. name ≡ new_column_name plan.now place) }
 {
     name_at(alloc, plan.altered().schema.columns.as_slice(), place)
 }
@@ -83,7 +83,7 @@ fn cause_of(
         } => Cause::Unfit {
             turn,
             key: copy_key(alloc, journal, tool)?,
-            column: column_at(alloc, plan, column)?,
+            column: new_column_name(alloc, plan, column)?,
             number,
         },
         Reason::ApplyUnfit {
@@ -93,7 +93,7 @@ fn cause_of(
         } => Cause::Unfit {
             turn,
             key: apply_key(alloc, plan, journal, tool)?,
-            column: column_at(alloc, plan, column)?,
+            column: new_column_name(alloc, plan, column)?,
             number,
         },
         Reason::Spent(task) => Cause::Spent {

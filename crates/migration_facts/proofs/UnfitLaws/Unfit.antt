@@ -32,7 +32,7 @@ use Rattle.migration_program.specs.EventApplier.Appliers.{Doing, doing_at, row_d
 use Rattle.migration_program.specs.Failures.{IsUnfit, Stands, concerned, row_in}
 use Rattle.migration_program.specs.Programs.{Follows}
 use Rattle.migration_program.specs.Tools.{Course, SettingUp, Migrating, Reason, CopyUnfit, ApplyUnfit, Spent, Panicked, Work, is_reverting, moment}
-use Rattle.migration_program.specs.Verdicts.{apply_key, cause_of, column_at, copy_key, ended_so, has_ended, reverted_by, verdict_of}
+use Rattle.migration_program.specs.Verdicts.{apply_key, cause_of, new_column_name, copy_key, ended_so, has_ended, reverted_by, verdict_of}
 use Rattle.journal_facts.specs.GhostLaws.GhostRows.Moments.{Row}
 use Rattle.journal_facts.specs.GhostLaws.GhostRows.Timelines.{Migration}
 use Rattle.journal_facts.specs.GhostLaws.Holding.{Clustered}
@@ -151,7 +151,7 @@ module _ (plan : PlanData) (m : Migration) (at : Clustered m.schema) (rows : Lis
   front_server = (all_asked plan is.front of.runs front_kept.faithful front_kept.follows).marking.tabled.all.tool.server
 
   -- what was refused in this turn stands in the journal
-  stands_so : (key : List Value) → IsRefused plan is.front is.entry key place number → IsUnfit plan journal turn key (column_at plan place) number
+  stands_so : (key : List Value) → IsRefused plan is.front is.entry key place number → IsUnfit plan journal turn key (new_column_name plan place) number
   stands_so key was = record {
     entry = is.entry;
     before = moment plan is.front;
@@ -190,9 +190,9 @@ module _ (plan : PlanData) (m : Migration) (at : Clustered m.schema) (rows : Lis
     copy_concerned =
         ap (λ (a : Actor). concerned plan is.front (moment plan is.front) a own_key) same ∙ ap (λ (s : State). row_in (find_table plan.table s.tables) own_key) front_server ∙ copied.concerned
 
-    pub copy_stands : IsUnfit plan journal turn (copy_key journal (moment plan journal).tool.course) (column_at plan place) number
+    pub copy_stands : IsUnfit plan journal turn (copy_key journal (moment plan journal).tool.course) (new_column_name plan place) number
     copy_stands =
-        subst (λ (k : List Value). IsUnfit plan journal turn k (column_at plan place) number) (sym copy_key_now)
+        subst (λ (k : List Value). IsUnfit plan journal turn k (new_column_name plan place) number) (sym copy_key_now)
         (stands_so own_key
         (record {
           refused = was_refused again plan m at rows of is.front is.entry turn_kept is.work is.course going goes same is.uncut place number unfit;
@@ -222,9 +222,9 @@ module _ (plan : PlanData) (m : Migration) (at : Clustered m.schema) (rows : Lis
         apply_key_is plan journal (moment plan journal).tool.course (stood_at is.work) is.stays ∙ ap (λ (d : Option Doing). key_of (key_places (old_schema plan)) (row_done d)) doing_now
         ∙ ap (key_of (key_places (old_schema plan))) (applies.row_is plan m at rows of is.front is.entry turn_kept is.work is.course going goes same is.uncut place number unfit)
 
-    pub apply_stands : IsUnfit plan journal turn (apply_key plan journal (moment plan journal).tool.course) (column_at plan place) number
+    pub apply_stands : IsUnfit plan journal turn (apply_key plan journal (moment plan journal).tool.course) (new_column_name plan place) number
     apply_stands =
-        subst (λ (k : List Value). IsUnfit plan journal turn k (column_at plan place) number) (sym apply_key_now)
+        subst (λ (k : List Value). IsUnfit plan journal turn k (new_column_name plan place) number) (sym apply_key_now)
         (stands_so applied_key
         (record {
           refused = applies.was_refused plan m at rows of is.front is.entry turn_kept is.work is.course going goes same is.uncut place number unfit;
@@ -257,18 +257,18 @@ rows_stand again runnable plan alterable worded serial journal kept turn key col
   off : IsUnaltered plan journal
   off = unaltered_so plan journal (causes.Unfit turn key column number) verdict
 
-  copied : (place : ℕ) → Turn plan journal Copy turn place number → IsUnfit plan journal turn (copy_key journal (moment plan journal).tool.course) (column_at plan place) number
+  copied : (place : ℕ) → Turn plan journal Copy turn place number → IsUnfit plan journal turn (copy_key journal (moment plan journal).tool.course) (new_column_name plan place) number
   copied place is = copy_stands plan (migration_of alterable.table.schema alterable.new) at alterable.table.rows of (own_table plan alterable) journal kept off Copy turn place number is again is.actor is.unfit
 
-  applied : (place : ℕ) → Turn plan journal Apply turn place number → IsUnfit plan journal turn (apply_key plan journal (moment plan journal).tool.course) (column_at plan place) number
+  applied : (place : ℕ) → Turn plan journal Apply turn place number → IsUnfit plan journal turn (apply_key plan journal (moment plan journal).tool.course) (new_column_name plan place) number
   applied place is = apply_stands plan (migration_of alterable.table.schema alterable.new) at alterable.table.rows of (own_table plan alterable) journal kept off Apply turn place number is is.actor is.unfit
 
   -- the verdict's turn, key, column and number are those of the ground
-  named : (who : Actor) (other place told : ℕ) (own : List Value) → causes.Unfit other own (column_at plan place) told ≡ causes.Unfit turn key column number → (Turn plan journal who turn place number → IsUnfit plan journal turn own (column_at plan place) number) → Turn plan journal who other place told → IsUnfit plan journal turn key column number
+  named : (who : Actor) (other place told : ℕ) (own : List Value) → causes.Unfit other own (new_column_name plan place) told ≡ causes.Unfit turn key column number → (Turn plan journal who turn place number → IsUnfit plan journal turn own (new_column_name plan place) number) → Turn plan journal who other place told → IsUnfit plan journal turn key column number
   named who other place told own same stands is =
       let a : other ≡ turn = cc in
       let b : own ≡ key = cc in
-      let c : column_at plan place ≡ column = cc in
+      let c : new_column_name plan place ≡ column = cc in
       let d : told ≡ number = cc in
       subst (λ (k : List Value). IsUnfit plan journal turn k column number) b
       (subst (λ (n : List ℕ). IsUnfit plan journal turn own n number) c (stands (subst (λ (n : ℕ). Turn plan journal who turn place n) d (subst (λ (t : ℕ). Turn plan journal who t place told) a is))))

@@ -1,5 +1,5 @@
 use Rattle.std.proofs.Common.{◌≡◌, ◌++◌, length}
-use Rattle.plan_tables.proofs.rows.copy_of.Given as goal
+use Rattle.plan_tables.proofs.rows.listed_rows.Given as goal
 
 -- the rows so far, and those that are left, are all
 abbrev pub invariant-loop-row : goal.invariant-loop-row
