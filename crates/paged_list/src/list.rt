@@ -258,10 +258,7 @@ impl PagedList {
         if place.page < self.pages.len() {
             insert_in(&mut self.pages, place, entry);
         } else {
-            match self.pages.insert(0, Page::of_one(entry)) {
-                Ok(()) => {}
-                Err(_) => unreachable!(),
-            }
+            self.pages.push_reserved(Page::of_one(entry));
         }
     }
 

@@ -55,17 +55,6 @@ pub fn reserve_for(tables: &mut Vec<WrittenRows>, name: &Name, n: usize) -> Resu
     }
 }
 
-/// Adds what was written to one table more. It takes no memory.
-fn push(tables: &mut Vec<WrittenRows>, written: WrittenRows)
-    requires { 1 ≤ vec_capacity tables.old - vec_len tables.old }
-    ensures { tables.new.items ≡ tables.old.items ++ written ∷ [] }
-{
-    match tables.push(written) {
-        Ok(()) => {}
-        Err(_) => unreachable!(),
-    }
-}
-
 /// Lays what was written over what was written to its table before. It takes no memory.
 pub fn write_to(tables: &mut Vec<WrittenRows>, written: WrittenRows, keys: Keys)
     requires keys { keys ≡ written.written.keys }
@@ -78,6 +67,6 @@ pub fn write_to(tables: &mut Vec<WrittenRows>, written: WrittenRows, keys: Keys)
         let table = &mut tables[place];
         table.lay_over(written, keys);
     } else {
-        push(tables, written);
+        tables.push_reserved(written);
     }
 }

@@ -79,10 +79,7 @@ impl LockIndex {
         ensures indexed { IsIndexed locks.now (place + 1) (flat self.new.points.pages) self.new.wide.items }
         ensures room { HasRoom (length locks.now - (place + 1)) self.new }
     {
-        match self.wide.push(place) {
-            Ok(()) => {}
-            Err(_) => unreachable!(),
-        }
+        self.wide.push_reserved(place);
     }
 
     /// Puts the place of a lock where it belongs. It takes no memory.

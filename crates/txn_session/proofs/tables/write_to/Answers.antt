@@ -18,14 +18,15 @@ lay_over-requires c =
     laying c.args.written tables (vec_capacity c.args.tables.now - vec_len c.args.tables.now) c.place_of-place.result c.index_mut-table.result.now place_is within c.index_mut-table.ensures.value c.requires.schema c.requires.room in
     record { schema = is.same; keys = c.requires.keys; row_room = is.rows; key_room = is.keys }
 
-pub push-requires : goal.push-requires
-push-requires c =
+pub push_reserved-requires : goal.push_reserved-requires
+push_reserved-requires c =
     let place_is : c.place_of-place.result ≡ position_or_len (named c.args.written.schema.name) c.args.tables.now.items =
     c.place_of-place.ensures ∙ ap (λ (ts : List StoredWrites). position_or_len (named c.schema.result.now.name) ts) c.as_slice.ensures.value
     ∙ ap (λ (s : Schema). position_or_len (named s.name) c.args.tables.now.items) c.schema.ensures.schema in
     let many : length c.args.tables.now.items ≡ vec_len c.args.tables.now = ap length (sym c.as_slice.ensures.value) ∙ c.as_slice.ensures.len in
     let behind : length c.args.tables.now.items ≤ c.place_of-place.result = omega (arith, many, c.len.ensures, c.if-place-len.false) in
-    room_behind (vec_capacity c.args.tables.now - vec_len c.args.tables.now) c.args.written c.args.tables.now.items c.place_of-place.result place_is behind c.requires.room
+    let room : 1 ≤ vec_capacity c.args.tables.now - vec_len c.args.tables.now = room_behind (vec_capacity c.args.tables.now - vec_len c.args.tables.now) c.args.written c.args.tables.now.items c.place_of-place.result place_is behind c.requires.room in
+    omega room
 
 pub returns-then-place-len : goal.returns-then-place-len
 returns-then-place-len c =
