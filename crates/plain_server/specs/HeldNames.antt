@@ -1,5 +1,5 @@
 -- Names that a session holds, and the different ones among them. (MySQL's manual, "Metadata Locking".)
-use Rattle.std.specs.Prelude.{◌≡◌, ℕ, Bool, true, false, ◌&&◌, not, List}
+use Rattle.std.specs.Prelude.{◌≡◌, ℕ, Bool, true, false, ◌&&◌, ◌||◌, not, List}
 use Rattle.std.specs.List.{list_any}
 use Rattle.std.specs.Str.{bytes_eq}
 use Rattle.plain_server.specs.declared.session.HeldName.{HeldName}
@@ -7,6 +7,10 @@ use Rattle.plain_server.specs.declared.session.HeldName.{HeldName}
 -- the name, held exclusively or shared
 abbrev pub held : Bool → List ℕ → HeldName
 held exclusive name = record { name = name; exclusive = exclusive }
+
+-- the name is held, exclusively where that is asked
+abbrev pub has_held : List HeldName → List ℕ → Bool → Bool
+has_held names name exclusive = list_any (λ one. bytes_eq one.name name && (one.exclusive || not exclusive)) names
 
 -- both or neither
 abbrev pub alike : Bool → Bool → Bool

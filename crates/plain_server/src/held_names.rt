@@ -1,10 +1,8 @@
 //! The names of tables that a session holds, in the order in which they were granted.
 
-ghost use Rattle.std.specs.Prelude.{◌≡◌, ◌++◌, [], ◌∷◌, ◌&&◌, ◌||◌, not, filter, map, take, length, true, OnOk, OnErr};
+ghost use Rattle.std.specs.Prelude.{◌≡◌, ◌++◌, [], ◌∷◌, filter, map, take, length, OnOk, OnErr};
 ghost use Rattle.std.specs.List.{list_any};
-ghost use Rattle.std.specs.Str.{bytes_eq};
-ghost use Rattle.plain_server.specs.HeldNames.{held, is_held_so, SayTheSame};
-ghost use Rattle.plain_server.specs.Serving.{shared, exclusive};
+ghost use Rattle.plain_server.specs.HeldNames.{held, has_held, is_held_so, SayTheSame};
 ghost use Rattle.plain_server.specs.States.{kept_names, shared_names};
 
 use crate::session::HeldName;
@@ -43,7 +41,7 @@ fn is_among(names: &[HeldName], name: &Name, exclusive: bool) -> bool
 
 /// Whether one of these is the name, held exclusively where that is asked.
 fn have(names: &[HeldName], name: &Name, exclusive: bool) -> bool
-    ensures { result ≡ list_any (λ one. bytes_eq one.name name.now && (one.exclusive || not exclusive)) names.now }
+    ensures { result ≡ has_held names.now name.now exclusive }
 {
     names
         .iter()
@@ -149,7 +147,7 @@ impl HeldNames {
 
     /// Whether the name is held, exclusively where that is asked.
     pub fn has(&self, name: &Name, exclusive: bool) -> bool
-        ensures { result ≡ list_any (λ one. bytes_eq one.name name.now && (one.exclusive || not exclusive)) self.now }
+        ensures { result ≡ has_held self.now name.now exclusive }
     {
         have(self.different.as_slice(), name, exclusive)
     }

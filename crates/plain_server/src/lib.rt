@@ -23,6 +23,6 @@ pub use listing::{ShownWaiter, ShownWaiters, TableName, TableNames};
 pub use need::Need;
 pub use outcome::{Cause, Numbers, Progress, Task, Verdict};
 pub use request::Request;
-pub use session::{HeldName, Limits, Session, Waiting, Waits};
+pub use session::{HeldName, Limits, Session, Waiting};
 pub use transaction::{EndedTxn, Mark, Replies, Reply, TxnEnd, TxnLine, TxnLines};
 pub use work::{ColumnSets, Reach, Selection, StatementResult, Work};

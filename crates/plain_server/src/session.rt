@@ -3,7 +3,7 @@
 use crate::held_names::HeldNames;
 use crate::request::Request;
 use event_codec::Events;
-use gho_values::{Name, Sequence};
+use gho_values::Name;
 use row_locks::held_locks::HeldLocks;
 
 /// How often a waiting session is polled before its wait times out.
@@ -51,6 +51,3 @@ pub struct Waiting {
     /// What it asked.
     pub request: Request,
 }
-
-/// Waiting requests in the order in which they came.
-pub type Waits = Sequence<Waiting>;

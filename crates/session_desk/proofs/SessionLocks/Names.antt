@@ -8,7 +8,7 @@ use Rattle.metadata_locks.proofs.Holders.{least_holder-append, least_holder-none
 use Rattle.plain_server.specs.declared.session.HeldName.{HeldName}
 use Rattle.plain_server.specs.declared.session.Session.{Session}
 use Rattle.plain_server.specs.States.{name_held, names_held}
-use Rattle.session_desk.specs.SessionLocks.Names.{has_held}
+use Rattle.plain_server.specs.HeldNames.{has_held}
 use Rattle.session_desk.proofs.SessionLocks.Leasts.{counted, not_counted, counted_once}
 use Rattle.least_session.specs.Least.{least}
 use Rattle.least_session.proofs.Sessions.{least-least, least-none}

@@ -1,14 +1,10 @@
 -- Names that one session holds, and the place of its request among those that wait. (MySQL's manual, "Metadata Locking".)
-use Rattle.std.specs.Prelude.{ℕ, ◌==◌, Bool, not, ◌&&◌, ◌||◌, List}
+use Rattle.std.specs.Prelude.{ℕ, ◌==◌, Bool, ◌&&◌, List}
 use Rattle.std.specs.List.{list_any}
 use Rattle.std.specs.Str.{bytes_eq}
 use Rattle.plain_server.specs.declared.session.HeldName.{HeldName}
 use Rattle.plain_server.specs.declared.session.Waiting.{Waiting}
 use Rattle.plain_server.specs.States.{is_exclusive}
-
--- the name is held, exclusively where that is asked
-abbrev pub has_held : List HeldName → List ℕ → Bool → Bool
-has_held held name exclusive = list_any (λ one. bytes_eq one.name name && (one.exclusive || not exclusive)) held
 
 -- the table is held exclusively, which LOCK TABLES alone does
 abbrev pub has_locked : List HeldName → List ℕ → Bool

@@ -4,7 +4,7 @@ ghost use Rattle.std.specs.Prelude.{◌≡◌, ◌==◌, ◌&&◌, map};
 ghost use Rattle.std.specs.List.{list_any};
 ghost use Rattle.metadata_locks.specs.Granting.{least_holder};
 ghost use Rattle.plain_server.specs.States.{name_held, names_held};
-ghost use Rattle.session_desk.specs.SessionLocks.Names.{has_held};
+ghost use Rattle.plain_server.specs.HeldNames.{has_held};
 
 use gho_values::Name;
 use least_session::least;
