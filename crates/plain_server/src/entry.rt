@@ -23,7 +23,7 @@ pub enum Asked {
 }
 
 /// One turn of a run.
-#[derive(Debug, Drop)]
+#[derive(Debug)]
 pub struct Entry {
     /// Whose turn it was.
     pub actor: Actor,
@@ -39,6 +39,20 @@ pub struct Entry {
     pub missed: Option<Answer>,
 }
 
+// By hand, as that of the journal: crates above then take it as one call, and don't prove the drop of each part again.
+impl Drop for Entry {
+    fn drop(self) {
+        let Entry {
+            actor: _,
+            session: _,
+            asked: _asked,
+            side: _,
+            answer: _answer,
+            missed: _missed,
+        } = self;
+    }
+}
+
 impl Duplicate for Asked {
     fn copy(&self) -> Result<Asked, AllocError> {
         Ok(match self {
@@ -50,15 +64,6 @@ impl Duplicate for Asked {
     }
 }
 
-fn copy_of_missed(missed: &Option<Answer>) -> Result<Option<Answer>, AllocError>
-    ensures { IfOk result (λ copy. copy ≡ missed.now) }
-{
-    Ok(match missed {
-        Some(answer) => Some(answer.copy()?),
-        None => None,
-    })
-}
-
 impl Duplicate for Entry {
     fn copy(&self) -> Result<Entry, AllocError> {
         Ok(Entry {
@@ -67,15 +72,21 @@ impl Duplicate for Entry {
             asked: self.asked.copy()?,
             side: self.side,
             answer: self.answer.copy()?,
-            missed: copy_of_missed(&self.missed)?,
+            missed: self.missed.copy()?,
         })
     }
 }
 
 /// The turns of a run, in order. Turns are numbered from 1.
-#[derive(Debug, Drop)]
+#[derive(Debug)]
 pub struct Journal {
     entries: Sequence<Entry>,
+}
+
+impl Drop for Journal {
+    fn drop(self) {
+        let Journal { entries: _entries } = self;
+    }
 }
 
 impl Model for Journal {

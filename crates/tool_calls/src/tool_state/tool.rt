@@ -25,7 +25,7 @@ pub struct Work {
 }
 
 /// How far the tool is.
-#[derive(Debug, Drop)]
+#[derive(Debug)]
 pub struct Tool {
     /// How many turns were taken.
     pub turns: u64,
@@ -41,4 +41,19 @@ pub struct Tool {
     pub reason: Option<Reason>,
     /// The turns in which the task that is the reason failed.
     pub spent: Tries,
+}
+
+// By hand: crates above then take it as one call, and don't prove the drop of each part again.
+impl Drop for Tool {
+    fn drop(self) {
+        let Tool {
+            turns: _,
+            operator: _operator,
+            setup: _setup,
+            setup_tries: _setup_tries,
+            work: _work,
+            reason: _reason,
+            spent: _spent,
+        } = self;
+    }
 }
