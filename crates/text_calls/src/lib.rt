@@ -1,0 +1,24 @@
+//! Calls about values, words, schemas, images and scripts, as lines write them: for `call_cases`.
+#![tactic(auto)]
+
+mod images;
+mod schemas;
+mod scripts;
+mod values;
+mod words;
+
+use case_lines::CallFault;
+use gho_values::Text;
+use std::alloc::Global;
+
+/// What a call about this subject answers to its input.
+pub fn answer(alloc: Global, subject: &str, call: &str, input: &str) -> Result<Text, CallFault> {
+    match subject {
+        "value" => values::answer(alloc, call, input),
+        "word" => words::answer(alloc, call, input),
+        "schema" => schemas::answer(alloc, call, input),
+        "script" => scripts::answer(alloc, input),
+        "image" => images::image_of(alloc, input),
+        _ => Err(CallFault::Unread),
+    }
+}
