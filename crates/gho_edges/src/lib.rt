@@ -16,6 +16,3 @@ pub use sink::{Gave, Sink};
 pub use source::{Source, Took};
 pub use std_edges::{StdSink, StdSource};
 pub use whole::{ReadFault, SinkFault, give_whole, read_whole};
-
-#[cfg(test)]
-mod tests;

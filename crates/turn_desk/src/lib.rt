@@ -20,6 +20,3 @@ mod steps;
 pub use book::{Book, Entry, Turned};
 pub use desk::Desk;
 pub use pass::{Pass, Passes};
-
-#[cfg(test)]
-mod tests;

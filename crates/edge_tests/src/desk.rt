@@ -2,11 +2,11 @@
 ghost use Rattle.std.specs.Prelude.{◌≡◌, ◌+◌, ◌≤◌, length, All};
 ghost use Rattle.turn_desk.specs.Turns.{IsPassOf};
 
-use super::*;
 use std::sync::Wait;
 use std::sync::atomic::{AtomicU64, Ordering};
 use std::test::Fail;
 use std::thread::{self, Threads};
+use turn_desk::{Book, Desk, Entry, Pass, Turned};
 
 // The list of turns, each with its place, up to a limit. Memory is short once, at the turn of this place.
 #[derive(Debug, Drop)]

@@ -1,6 +1,6 @@
 //! What the forms of the edges give and take, byte for byte, and whole texts through them.
 
-use crate::{
+use gho_edges::{
     BytesSink, BytesSource, Gate, Gave, OpenGate, ReadFault, Sink, Source, StdSink, StdSource,
     Took, give_whole, read_whole,
 };
