@@ -2,7 +2,7 @@
 use Rattle.std.proofs.Common.{◌≡◌, ◌∙◌, List, Bool, true, false, ◌&&◌, ◌||◌, nat_eq, Option, Some, None, Ordering, Less, Equal, Greater, refl, sym, ap}
 use Rattle.std.specs.Cmp.{IsTotalOrder, bool_cmp_total, Equal-is}
 use Rattle.std.specs.Cmp.Lexicographic.{pointwise, slice_cmp, options_total, bytes_decides}
-use Rattle.std.specs.Ordering.{is_eq, is_gt, nat_cmp, bool_cmp, ordering_reverse, ordering_then}
+use Rattle.std.specs.Ordering.{is_gt, nat_cmp, bool_cmp, ordering_reverse, ordering_then}
 use Rattle.std.specs.Option.{option_cmp}
 use Rattle.std.proofs.lemmas.Bool.{and_parts, and_from, eqb-true, true≢false, false≢true}
 use Rattle.std.proofs.lemmas.Cmp.{upto, tied_itself, tied_back, on_total, then_total, back_total, nat_cmp_total, nat_list_cmp_total}
