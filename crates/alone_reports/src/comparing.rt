@@ -140,13 +140,16 @@ fn is_so(alloc: Global, plan: &Plan, journal: &Journal, report: &str) -> Result<
     }
 }
 
-/// Whether one at a time gives what a run of the plan of these bytes gave, which had this journal and this report.
+/// Whether one at a time gives what a run of the plan of these bytes gave, which had this journal and the report of these bytes.
 pub fn is_as_alone(
     alloc: Global,
     bytes: &[u8],
     journal: &Journal,
-    report: &str,
+    report: &[u8],
 ) -> Result<bool, AllocError> {
+    let Ok(report) = str::from_utf8(report) else {
+        return Ok(false);
+    };
     match read_accepted_plan(alloc, bytes) {
         Ok(plan) => is_so(alloc, &plan, journal, report),
         Err(PlanFault::Refused(_)) => Ok(false),

@@ -1,13 +1,12 @@
 //! Runs beside what isn't theirs.
 
-use crate::cases::Case;
-use crate::program::Program;
-use crate::runs::{Ran, run};
+use alone_reports::is_as_alone;
+use program_runs::{Case, Program, Ran, run};
 use std::alloc::{AllocError, Global};
 
 /// Whether one at a time gives what the run of this plan printed.
 fn is_its_own(alloc: Global, plan: &[u8], ran: &Ran) -> Result<bool, AllocError> {
-    ran.is_as_alone(alloc, plan, ran.sink.held())
+    is_as_alone(alloc, plan, &ran.ended.journal, ran.sink.held())
 }
 
 /// Whether the run of the case's plan is as one at a time, and the report in the case isn't that of the run.
@@ -18,7 +17,7 @@ pub(crate) fn is_report_told(
 ) -> Result<bool, AllocError> {
     let plan = case.plan.as_slice();
     let ran = run(alloc, program, case.words, plan)?;
-    let is_same = ran.is_as_alone(alloc, plan, case.prints.as_slice())?;
+    let is_same = is_as_alone(alloc, plan, &ran.ended.journal, case.prints.as_slice())?;
     Ok(!is_same && is_its_own(alloc, plan, &ran)?)
 }
 
@@ -30,6 +29,11 @@ pub(crate) fn is_plan_told(
 ) -> Result<bool, AllocError> {
     let plan = case.plan.as_slice();
     let ran = run(alloc, program, case.words, plan)?;
-    let is_same = ran.is_as_alone(alloc, case.prints.as_slice(), ran.sink.held())?;
+    let is_same = is_as_alone(
+        alloc,
+        case.prints.as_slice(),
+        &ran.ended.journal,
+        ran.sink.held(),
+    )?;
     Ok(!is_same && is_its_own(alloc, plan, &ran)?)
 }

@@ -1,11 +1,10 @@
 //! What is asked of a case.
 
 use crate::altered::{is_plan_told, is_report_told};
-use crate::cases::Case;
 use crate::edges::{end_at_sinks, end_at_sources};
 use crate::lines::has_lines;
-use crate::program::Program;
-use crate::runs::run;
+use alone_reports::is_as_alone;
+use program_runs::{Case, Program, run};
 use std::alloc::{AllocError, Global};
 
 /// What is asked of a case.
@@ -30,7 +29,10 @@ fn is_printed(alloc: Global, program: &Program, case: &Case<'_>) -> Result<bool,
     let status = format!(in alloc; "{}", ran.ended.status)?;
     let is_written = status.as_str() == case.status && case.prints.as_slice() == ran.sink.held();
     let took_turns = !ran.ended.journal.is_empty();
-    Ok(is_written && (!took_turns || ran.is_as_alone(alloc, plan, ran.sink.held())?))
+    Ok(
+        is_written
+            && (!took_turns || is_as_alone(alloc, plan, &ran.ended.journal, ran.sink.held())?),
+    )
 }
 
 /// Whether a case is as expected.

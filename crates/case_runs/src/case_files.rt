@@ -1,9 +1,7 @@
 //! Files of cases.
 
 use crate::asked::{Asked, is_as_expected};
-use crate::cases::Case;
-use crate::folder::{names_in, text_in};
-use crate::program::Program;
+use program_runs::{Case, Program, names_in, text_in};
 use std::io;
 use std::rt::Files;
 

@@ -1,9 +1,6 @@
 //! Sources that fail at each byte of a plan, and sinks that fail behind each byte of a report.
 
-use crate::cases::Case;
-use crate::meeting::Meeting;
-use crate::program::Program;
-use crate::runs::{Edges, run_between};
+use program_runs::{Case, Edges, Meeting, Program, run_between};
 use std::alloc::{AllocError, Global};
 
 /// Whether a source that fails at this byte ends the call with the read fault.

@@ -1,8 +1,7 @@
 //! Runs whose reports have some lines.
 
-use crate::cases::Case;
-use crate::program::Program;
-use crate::runs::run;
+use alone_reports::is_as_alone;
+use program_runs::{Case, Program, run};
 use std::alloc::{AllocError, Global};
 
 /// Whether these lines stand among those of a report, in their order.
@@ -27,7 +26,7 @@ pub(crate) fn has_lines(
 ) -> Result<bool, AllocError> {
     let plan = case.plan.as_slice();
     let ran = run(alloc, program, case.words, plan)?;
-    let is_same = ran.is_as_alone(alloc, plan, ran.sink.held())?;
+    let is_same = is_as_alone(alloc, plan, &ran.ended.journal, ran.sink.held())?;
     match (
         str::from_utf8(case.prints.as_slice()),
         str::from_utf8(ran.sink.held()),

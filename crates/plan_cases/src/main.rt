@@ -19,12 +19,11 @@
 //! sources which fail at each byte of the plan and sinks which fail behind each byte of the report.
 #![tactic(auto)]
 
-use case_runs::{
-    Asked, Call, Ended, Meeting, Program, run_case_files, run_loss_files, run_meeting_files,
-    run_order_files, run_worker_files,
-};
+use case_runs::{Asked, run_case_files};
 use command_words::Line;
 use gho_edges::{BytesSink, BytesSource};
+use order_runs::{run_loss_files, run_meeting_files, run_order_files, run_worker_files};
+use program_runs::{Call, Ended, Meeting, Program};
 use std::io;
 use whole_host::ghost_;
 

@@ -2,10 +2,9 @@
 
 ghost use Rattle.std.specs.Prelude.{◌<◌};
 
-use crate::folder::{names_in, text_in};
-use crate::program::Program;
-use crate::runs::turns_as_alone;
+use crate::as_alone::turns_as_alone;
 use call_endings::{Turn, Turns};
+use program_runs::{Program, names_in, text_in};
 use std::alloc::{AllocError, Global};
 use std::io;
 use std::rt::Files;

@@ -19,7 +19,7 @@ pub struct Meeting {
 
 impl Meeting {
     /// Workers are to meet up to this turn, and none has reached its first. At 0 nobody is kept.
-    pub(crate) fn new(last: u64) -> Meeting {
+    pub fn new(last: u64) -> Meeting {
         Meeting {
             last,
             reached: [AtomicU64::new(0), AtomicU64::new(0)],

@@ -1,9 +1,8 @@
 //! Single losses of sessions.
 
-use crate::folder::{names_in, text_in};
-use crate::program::Program;
-use crate::runs::turns_as_alone;
+use crate::as_alone::turns_as_alone;
 use call_endings::Turn;
+use program_runs::{Program, names_in, text_in};
 use script_text::Actor;
 use std::alloc::{AllocError, Global};
 use std::io;

@@ -37,7 +37,7 @@ impl Program {
     }
 
     /// Does what the words ask for.
-    pub(crate) fn call(
+    pub fn call(
         &self,
         words: &Line,
         source: &mut BytesSource,

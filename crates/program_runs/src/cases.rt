@@ -10,26 +10,26 @@ use std::alloc::{AllocError, Global};
 
 /// A case, as far as its lines were added.
 #[derive(Drop)]
-pub(crate) struct Case<'a> {
+pub struct Case<'a> {
     /// The name, which is said where the case isn't as expected.
-    pub(crate) name: &'a str,
+    pub name: &'a str,
     /// The words of the command line, with one blank between them.
-    pub(crate) words: &'a str,
+    pub words: &'a str,
     /// The status that the call must end with, in digits.
-    pub(crate) status: &'a str,
+    pub status: &'a str,
     /// The bytes of the source.
-    pub(crate) plan: Vec<u8>,
+    pub plan: Vec<u8>,
     /// The bytes that must be printed.
-    pub(crate) prints: Vec<u8>,
+    pub prints: Vec<u8>,
     /// Whether each line could be read.
-    pub(crate) is_whole: bool,
+    pub is_whole: bool,
     is_printing: bool,
     times: u64,
 }
 
 impl<'a> Case<'a> {
     /// The case that a head begins, with an empty plan.
-    pub(crate) fn new(alloc: Global, head: &'a str) -> Case<'a> {
+    pub fn new(alloc: Global, head: &'a str) -> Case<'a> {
         let (name, rest) = head.split_once(" | ").unwrap_or((head, ""));
         let (words, status) = rest.split_once(" | ").unwrap_or((rest, ""));
         Case {
@@ -101,7 +101,7 @@ impl<'a> Case<'a> {
     }
 
     /// Adds a line of the case's file.
-    pub(crate) fn add(&mut self, line: &str) -> Result<(), AllocError> {
+    pub fn add(&mut self, line: &str) -> Result<(), AllocError> {
         match line.strip_prefix("#### ") {
             Some(sign) => self.add_sign(sign),
             None => self.add_text(line),

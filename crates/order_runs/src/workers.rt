@@ -1,10 +1,8 @@
 //! Runs by worker threads, and replays in the orders that they print.
 
-use crate::folder::{names_in, text_in};
-use crate::meeting::Meeting;
-use crate::program::Program;
-use crate::runs::{SOUND, run, run_between};
+use alone_reports::is_as_alone;
 use call_endings::Turn;
+use program_runs::{Meeting, Program, SOUND, names_in, run, run_between, text_in};
 use std::alloc::{AllocError, Global};
 use std::io;
 use std::rt::Files;
@@ -44,10 +42,11 @@ fn is_replayed(
 ) -> Result<bool, AllocError> {
     let words = format!(in alloc; "run --workers {workers}")?;
     let ran = run(alloc, program, words.as_str(), plan.as_bytes())?;
-    if !ran.is_as_alone(alloc, plan.as_bytes(), ran.sink.held())? {
+    let printed = ran.sink.held();
+    if !is_as_alone(alloc, plan.as_bytes(), &ran.ended.journal, printed)? {
         return Ok(false);
     }
-    let report = str::from_utf8(ran.sink.held()).unwrap_or("");
+    let report = str::from_utf8(printed).unwrap_or("");
     match turns_line(alloc, report)? {
         Some(line) => is_reported(alloc, program, line.as_str(), plan, report),
         None => Ok(false),
