@@ -1,2 +1,2 @@
-mod Places
+mod SortedNames
 pub mod Steps
