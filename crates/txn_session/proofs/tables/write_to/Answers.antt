@@ -26,7 +26,7 @@ push_reserved-requires c =
     let many : length c.args.tables.now.items ≡ vec_len c.args.tables.now = ap length (sym c.as_slice.ensures.value) ∙ c.as_slice.ensures.len in
     let behind : length c.args.tables.now.items ≤ c.place_of-place.result = omega (arith, many, c.len.ensures, c.if-place-len.false) in
     let room : 1 ≤ vec_capacity c.args.tables.now - vec_len c.args.tables.now = room_behind (vec_capacity c.args.tables.now - vec_len c.args.tables.now) c.args.written c.args.tables.now.items c.place_of-place.result place_is behind c.requires.room in
-    omega room
+    omega (arith, room)
 
 pub returns-then-place-len : goal.returns-then-place-len
 returns-then-place-len c =
@@ -47,4 +47,4 @@ returns-else-place-len c =
     ∙ ap (λ (s : Schema). position_or_len (named s.name) c.args.tables.now.items) c.schema.ensures.schema in
     let many : length c.args.tables.now.items ≡ vec_len c.args.tables.now = ap length (sym c.as_slice.ensures.value) ∙ c.as_slice.ensures.len in
     let behind : length c.args.tables.now.items ≤ c.place_of-place.result = omega (arith, many, c.len.ensures, c.if-place-len.false) in
-    rw c.push.ensures (laid_behind c.args.written c.args.tables.now.items c.place_of-place.result place_is behind)
+    rw c.push_reserved.ensures.items (laid_behind c.args.written c.args.tables.now.items c.place_of-place.result place_is behind)
