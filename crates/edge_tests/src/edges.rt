@@ -1,8 +1,8 @@
 //! What the forms of the edges give and take, byte for byte, and whole texts through them.
 
 use gho_edges::{
-    BytesSink, BytesSource, Gate, Gave, OpenGate, ReadFault, Sink, Source, StdSink, StdSource,
-    Took, give_whole, read_whole,
+    BytesSink, BytesSource, Gave, ReadFault, Sink, Source, StdSink, StdSource, Took, give_whole,
+    read_whole,
 };
 use std::alloc::{AllocError, Global};
 use std::io::{self, Cursor, ErrorKind, Read, Write};
@@ -65,22 +65,6 @@ fn a_sink_over_memory_takes_bytes_up_to_its_place(rt: HostRuntime) {
     assert_eq!(rt; sink.faults(), 2);
 }
 
-#[test]
-fn a_source_is_read_to_its_end_or_to_its_fault(rt: HostRuntime) -> Result<(), Fail> {
-    for fail_at in 0..7 {
-        let mut source = text_source(rt.alloc(), Some(fail_at))?;
-        let read = read_whole(rt.alloc(), &mut source, LIMIT);
-        if fail_at < 5 {
-            assert!(rt; matches!(read, Err(ReadFault::Source)), "at {fail_at}");
-            assert_eq!(rt; source.faults(), 1, "at {fail_at}");
-        } else {
-            assert_eq!(rt; read?.as_slice(), TEXT, "at {fail_at}");
-            assert_eq!(rt; source.faults(), 0, "at {fail_at}");
-        }
-    }
-    Ok(())
-}
-
 /// Gives or takes one byte a call, through another source or sink.
 #[derive(Drop)]
 struct OneByte<T>(T);
@@ -138,18 +122,6 @@ fn reading_stops_one_byte_past_the_limit(rt: HostRuntime) -> Result<(), Fail> {
         assert_eq!(rt; source.take(&mut [0; 2]), left, "of {len}");
     }
     Ok(())
-}
-
-#[test]
-fn a_text_is_given_whole_or_up_to_the_fault(rt: HostRuntime) {
-    for fail_at in 0..7 {
-        let mut sink = BytesSink::new(rt.alloc(), Some(fail_at));
-        let given = give_whole(&mut sink, TEXT).is_ok();
-        assert_eq!(rt; given, fail_at >= 5, "at {fail_at}");
-        let end = if fail_at < 5 { fail_at } else { 5 };
-        assert_eq!(rt; sink.held(), &TEXT[..end], "at {fail_at}");
-        assert_eq!(rt; sink.faults(), u64::from(fail_at < 5), "at {fail_at}");
-    }
 }
 
 #[test]
@@ -257,10 +229,4 @@ fn writers_of_std_are_sinks(rt: HostRuntime) {
     });
     assert_eq!(rt; sink.give(TEXT), Gave::Some(1));
     assert_eq!(rt; sink.give(TEXT), Gave::Failed);
-}
-
-#[test]
-fn an_open_gate_holds_nobody(_rt: HostRuntime) {
-    OpenGate.before(1, 1);
-    OpenGate.after(1, 1);
 }
