@@ -1,27 +1,18 @@
 //! Spans of whole numbers, written as intervals: `(1,3]` has 2 and 3, and two dots stand for no end.
 
-ghost use Rattle.std.specs.Prelude.{◌∷◌, [], false, IfOk};
-ghost use Rattle.gho_values.specs.declared.kind.Kind.TheVariants.{Int};
-ghost use Rattle.gho_values.specs.Spans.{EndOfKinds, SpanOfKinds};
-ghost use Rattle.gho_values.specs.Storing.{AreOfKinds};
-
 use crate::reading::{CallFault, number_of};
 use gho_values::{Bound, Key, Sequence, Span, Value};
 use std::alloc::Global;
 
 /// The key of one number.
-pub fn key_of(alloc: Global, number: &str) -> Result<Key, CallFault>
-    ensures { IfOk result (λ key. AreOfKinds key (Int 8 false ∷ [])) }
-{
+pub fn key_of(alloc: Global, number: &str) -> Result<Key, CallFault> {
     let number = number_of(number)?;
     let mut key = Sequence::new(alloc);
     key.push(Value::Num(number))?;
     Ok(key)
 }
 
-fn bound_of(alloc: Global, is_open: bool, number: &str) -> Result<Bound, CallFault>
-    ensures { IfOk result (λ bound. EndOfKinds bound (Int 8 false ∷ [])) }
-{
+fn bound_of(alloc: Global, is_open: bool, number: &str) -> Result<Bound, CallFault> {
     if number == ".." {
         return Ok(Bound::Free);
     }
@@ -33,9 +24,7 @@ fn bound_of(alloc: Global, is_open: bool, number: &str) -> Result<Bound, CallFau
     })
 }
 
-fn low_of(alloc: Global, text: &str) -> Result<Bound, CallFault>
-    ensures { IfOk result (λ bound. EndOfKinds bound (Int 8 false ∷ [])) }
-{
+fn low_of(alloc: Global, text: &str) -> Result<Bound, CallFault> {
     match text.strip_prefix('(') {
         Some(number) => bound_of(alloc, true, number),
         None => bound_of(
@@ -46,9 +35,7 @@ fn low_of(alloc: Global, text: &str) -> Result<Bound, CallFault>
     }
 }
 
-fn high_of(alloc: Global, text: &str) -> Result<Bound, CallFault>
-    ensures { IfOk result (λ bound. EndOfKinds bound (Int 8 false ∷ [])) }
-{
+fn high_of(alloc: Global, text: &str) -> Result<Bound, CallFault> {
     match text.strip_suffix(')') {
         Some(number) => bound_of(alloc, true, number),
         None => bound_of(
@@ -60,9 +47,7 @@ fn high_of(alloc: Global, text: &str) -> Result<Bound, CallFault>
 }
 
 /// The span of an interval.
-pub fn span_of(alloc: Global, text: &str) -> Result<Span, CallFault>
-    ensures { IfOk result (λ span. SpanOfKinds span (Int 8 false ∷ [])) }
-{
+pub fn span_of(alloc: Global, text: &str) -> Result<Span, CallFault> {
     let (low, high) = text.split_once(',').ok_or(CallFault::Unread)?;
     let low = low_of(alloc, low)?;
     let high = high_of(alloc, high)?;
