@@ -8,7 +8,7 @@ ghost use Rattle.plain_server.specs.Needing.{needs};
 ghost use Rattle.plain_server.specs.Saying.{tells};
 ghost use Rattle.plain_server.specs.StatementLaws.Covering.{IsOrderlyTable, IsSound};
 ghost use Rattle.txn_session.specs.Premises.{HasSchema, IsOf, events_ready};
-ghost use Rattle.written_rows.specs.Written.{seen};
+ghost use Rattle.written_rows.specs.Written.{nothing, seen};
 
 use crate::working::work_of_copy;
 use gho_values::alter_image::ColumnMap;
@@ -40,6 +40,22 @@ fn tell_of(
     tell(alloc, &SeenTable::new(table, written), work)
 }
 
+/// What work says of a table to which nothing was written.
+fn tell_of_unwritten(
+    alloc: Global,
+    table: &Table,
+    work: &Work,
+) -> Result<Told<Option<Writes>>, AllocError>
+    requires orderly { IsOrderlyTable (record { schema = table.now.table.schema; rows = seen (key_places table.now.table.schema) nothing table.now.table.rows }) }
+    requires sound { IsSound table.now.table.schema.columns work.now }
+    ensures says { IfOk result (λ told. told.result ≡ result_of table.now.table.schema.name (tells table.now.table.schema (seen (key_places table.now.table.schema) nothing table.now.table.rows) work.now)) }
+    ensures events { IfOk result (λ told. events_ready told.writes ≡ told.result.events) }
+    ensures schema { IfOk result (λ told. IfSome told.writes (λ one. one.schema ≡ table.now.table.schema)) }
+{
+    let written = WrittenRows::new(alloc, table.schema())?;
+    tell_of(alloc, table, &written, work)
+}
+
 /// What work needs of a table, as it is seen through what was written to it.
 fn needs_of(
     alloc: Global,
@@ -51,6 +67,14 @@ fn needs_of(
     ensures { IfOk result (λ locks. locks ≡ needs table.now.table.schema (seen (key_places table.now.table.schema) written.now.written table.now.table.rows) work.now) }
 {
     needs(alloc, &SeenTable::new(table, written), work)
+}
+
+/// What work needs of a table to which nothing was written.
+fn needs_of_unwritten(alloc: Global, table: &Table, work: &Work) -> Result<LockSet, AllocError>
+    ensures { IfOk result (λ locks. locks ≡ needs table.now.table.schema (seen (key_places table.now.table.schema) nothing table.now.table.rows) work.now) }
+{
+    let written = WrittenRows::new(alloc, table.schema())?;
+    needs_of(alloc, table, &written, work)
 }
 
 /// What is said where the session copies the image of the row of this clustered key from the one table into the other, and
@@ -76,10 +100,7 @@ pub fn say_copy(
     let work = work_of_copy(alloc, tables, txn, from, map, key, schema)?;
     match txn.written_to(into) {
         Some(written) => tell_of(alloc, table, written, &work),
-        None => {
-            let written = WrittenRows::new(alloc, schema)?;
-            tell_of(alloc, table, &written, &work)
-        }
+        None => tell_of_unwritten(alloc, table, &work),
     }
 }
 
@@ -103,9 +124,6 @@ pub fn copy_needs(
     let work = work_of_copy(alloc, tables, txn, from, map, key, schema)?;
     match txn.written_to(into) {
         Some(written) => needs_of(alloc, table, written, &work),
-        None => {
-            let written = WrittenRows::new(alloc, schema)?;
-            needs_of(alloc, table, &written, &work)
-        }
+        None => needs_of_unwritten(alloc, table, &work),
     }
 }

@@ -13,7 +13,7 @@ ghost use Rattle.plain_server.specs.Jobs.{after_events, copy_from, copy_work};
 ghost use Rattle.plain_server.specs.Rows.{rows_met};
 ghost use Rattle.plain_server.specs.StatementLaws.Covering.{IsOrderlyTable};
 ghost use Rattle.txn_session.specs.Premises.{IsOf};
-ghost use Rattle.written_rows.specs.Written.{seen};
+ghost use Rattle.written_rows.specs.Written.{nothing, seen};
 
 use gho_values::alter_image::{ColumnMap, ImageFault, image};
 use gho_values::gho_schema::{Schema, clustered_place};
@@ -123,6 +123,21 @@ fn work_from(
     work_of_row(alloc, map, rows.as_slice().first(), into)
 }
 
+/// What the copy comes to of the row of this key of a table to which nothing was written.
+fn work_from_unwritten(
+    alloc: Global,
+    table: &Table,
+    map: &ColumnMap,
+    key: &Key,
+    into: &Schema,
+) -> Result<Work, AllocError>
+    requires { IsOrderlyTable (record { schema = table.now.table.schema; rows = seen (key_places table.now.table.schema) nothing table.now.table.rows }) }
+    ensures { IfOk result (λ work. work ≡ copy_from (Some (record { schema = table.now.table.schema; rows = seen (key_places table.now.table.schema) nothing table.now.table.rows })) map.now key.now into.now) }
+{
+    let written = WrittenRows::new(alloc, table.schema())?;
+    work_from(alloc, table, &written, map, key, into)
+}
+
 /// What the copy comes to of the row of this key of the table of this name, as the session sees it.
 pub fn work_of_copy(
     alloc: Global,
@@ -142,9 +157,6 @@ pub fn work_of_copy(
     let _schema = table.schema();
     match txn.written_to(from) {
         Some(written) => work_from(alloc, table, written, map, key, into),
-        None => {
-            let written = WrittenRows::new(alloc, table.schema())?;
-            work_from(alloc, table, &written, map, key, into)
-        }
+        None => work_from_unwritten(alloc, table, map, key, into),
     }
 }

@@ -1,7 +1,8 @@
-use Rattle.std.proofs.Common.{◌≡◌, List, ◌∙◌, subst}
+use Rattle.std.proofs.Common.{◌≡◌, List, ◌∙◌, subst, refl}
 use Rattle.std.specs.Prelude.{IfOk}
 use Rattle.row_store.specs.Databases.{database}
 use Rattle.row_locks.specs.declared.lock.Lock.{Lock}
+use Rattle.written_rows.specs.Written.{nothing}
 use Rattle.txn_session.proofs.SeenViews.{IsSeen}
 use Rattle.row_copies.proofs.Copies.{IsCopied, IsSeenThrough, is_copied, missing_copy_needs, sees_none, sees_some}
 use Rattle.row_copies.proofs.copying.copy_needs.Goals as goal
@@ -20,6 +21,6 @@ returns-in-Some-written_to c =
 
 pub returns : goal.returns
 returns c =
-    let sees : IsSeen (database c.args.tables.now) c.args.txn.now.events c.args.into.now c.in_ok-written-in-None.written.written c.in-Some.table.now.table = sees_none (database c.args.tables.now) c.args.txn.now c.args.into.now c.in-Some.table.now.table c.in_ok-written-in-None.written.written c.requires c.in-Some.ensures.table c.schema-schema.ensures.ascends c.in-None.ensures.writes c.in-None.ensures.shown c.in_ok-written-in-None.ensures.written in
-    let copied : IsCopied (database c.args.tables.now) c.args.txn.now.events c.args.from.now c.args.into.now c.args.map.now c.args.key.now c.in-Some.table.now.table c.in_ok-written-in-None.written.written c.in_ok-work.work = is_copied (database c.args.tables.now) c.args.txn.now c.args.from.now c.args.into.now c.args.map.now c.args.key.now c.in-Some.table.now.table c.in_ok-written-in-None.written.written c.schema-schema.result.now c.in_ok-work.work c.requires c.in-Some.ensures.table c.schema-schema.ensures.schema c.in_ok-work.ensures sees in
-    subst (λ (ls : List Lock). IfOk c.needs_of-in-None.result (λ locks. locks ≡ ls)) copied.needed c.needs_of-in-None.ensures
+    let sees : IsSeen (database c.args.tables.now) c.args.txn.now.events c.args.into.now nothing c.in-Some.table.now.table = sees_none (database c.args.tables.now) c.args.txn.now c.args.into.now c.in-Some.table.now.table nothing c.requires c.in-Some.ensures.table c.schema-schema.ensures.ascends c.in-None.ensures.writes c.in-None.ensures.shown refl in
+    let copied : IsCopied (database c.args.tables.now) c.args.txn.now.events c.args.from.now c.args.into.now c.args.map.now c.args.key.now c.in-Some.table.now.table nothing c.in_ok-work.work = is_copied (database c.args.tables.now) c.args.txn.now c.args.from.now c.args.into.now c.args.map.now c.args.key.now c.in-Some.table.now.table nothing c.schema-schema.result.now c.in_ok-work.work c.requires c.in-Some.ensures.table c.schema-schema.ensures.schema c.in_ok-work.ensures sees in
+    subst (λ (ls : List Lock). IfOk c.needs_of_unwritten.result (λ locks. locks ≡ ls)) copied.needed c.needs_of_unwritten.ensures

@@ -1,9 +1,10 @@
-use Rattle.std.proofs.Common.{◌≡◌, ◌∙◌, subst}
+use Rattle.std.proofs.Common.{◌≡◌, ◌∙◌, subst, refl}
 use Rattle.std.specs.Prelude.{IfOk}
 use Rattle.row_store.specs.Databases.{database}
 use Rattle.std.proofs.lemmas.Result.{IfOk-weaker}
 use Rattle.plain_server.specs.declared.work.StatementResult.{StatementResult}
 use Rattle.txn_session.proofs.Sayings.{has_schema}
+use Rattle.written_rows.specs.Written.{nothing}
 use Rattle.txn_session.proofs.SeenViews.{IsSeen}
 use Rattle.row_copies.proofs.Copies.{IsCopied, IsSeenThrough, is_copied, missing_copy, sees_none, sees_some}
 use Rattle.row_copies.proofs.copying.say_copy.Goals as goal
@@ -17,17 +18,11 @@ tell_of-requires c =
     let copied : IsCopied (database c.args.tables.now) c.args.txn.now.events c.args.from.now c.args.into.now c.args.map.now c.args.key.now c.in-Some.table.now.table c.in-Some-written_to.written.now.written c.in_ok-work.work = is_copied (database c.args.tables.now) c.args.txn.now c.args.from.now c.args.into.now c.args.map.now c.args.key.now c.in-Some.table.now.table c.in-Some-written_to.written.now.written c.schema-schema.result.now c.in_ok-work.work c.requires c.in-Some.ensures.table c.schema-schema.ensures.schema c.in_ok-work.ensures sees.seen in
     record { schema = sees.same; orderly = copied.orderly; sound = copied.sound }
 
-pub tell_of-requires-in-None-clause-orderly : goal.tell_of-requires-in-None-clause-orderly
-tell_of-requires-in-None-clause-orderly c =
-    let sees : IsSeen (database c.args.tables.now) c.args.txn.now.events c.args.into.now c.in_ok-written-in-None.written.written c.in-Some.table.now.table = sees_none (database c.args.tables.now) c.args.txn.now c.args.into.now c.in-Some.table.now.table c.in_ok-written-in-None.written.written c.requires c.in-Some.ensures.table c.schema-schema.ensures.ascends c.in-None.ensures.writes c.in-None.ensures.shown c.in_ok-written-in-None.ensures.written in
-    let copied : IsCopied (database c.args.tables.now) c.args.txn.now.events c.args.from.now c.args.into.now c.args.map.now c.args.key.now c.in-Some.table.now.table c.in_ok-written-in-None.written.written c.in_ok-work.work = is_copied (database c.args.tables.now) c.args.txn.now c.args.from.now c.args.into.now c.args.map.now c.args.key.now c.in-Some.table.now.table c.in_ok-written-in-None.written.written c.schema-schema.result.now c.in_ok-work.work c.requires c.in-Some.ensures.table c.schema-schema.ensures.schema c.in_ok-work.ensures sees in
-    copied.orderly
-
-pub tell_of-requires-in-None-clause-sound : goal.tell_of-requires-in-None-clause-sound
-tell_of-requires-in-None-clause-sound c =
-    let sees : IsSeen (database c.args.tables.now) c.args.txn.now.events c.args.into.now c.in_ok-written-in-None.written.written c.in-Some.table.now.table = sees_none (database c.args.tables.now) c.args.txn.now c.args.into.now c.in-Some.table.now.table c.in_ok-written-in-None.written.written c.requires c.in-Some.ensures.table c.schema-schema.ensures.ascends c.in-None.ensures.writes c.in-None.ensures.shown c.in_ok-written-in-None.ensures.written in
-    let copied : IsCopied (database c.args.tables.now) c.args.txn.now.events c.args.from.now c.args.into.now c.args.map.now c.args.key.now c.in-Some.table.now.table c.in_ok-written-in-None.written.written c.in_ok-work.work = is_copied (database c.args.tables.now) c.args.txn.now c.args.from.now c.args.into.now c.args.map.now c.args.key.now c.in-Some.table.now.table c.in_ok-written-in-None.written.written c.schema-schema.result.now c.in_ok-work.work c.requires c.in-Some.ensures.table c.schema-schema.ensures.schema c.in_ok-work.ensures sees in
-    copied.sound
+pub tell_of_unwritten-requires : goal.tell_of_unwritten-requires
+tell_of_unwritten-requires c =
+    let sees : IsSeen (database c.args.tables.now) c.args.txn.now.events c.args.into.now nothing c.in-Some.table.now.table = sees_none (database c.args.tables.now) c.args.txn.now c.args.into.now c.in-Some.table.now.table nothing c.requires c.in-Some.ensures.table c.schema-schema.ensures.ascends c.in-None.ensures.writes c.in-None.ensures.shown refl in
+    let copied : IsCopied (database c.args.tables.now) c.args.txn.now.events c.args.from.now c.args.into.now c.args.map.now c.args.key.now c.in-Some.table.now.table nothing c.in_ok-work.work = is_copied (database c.args.tables.now) c.args.txn.now c.args.from.now c.args.into.now c.args.map.now c.args.key.now c.in-Some.table.now.table nothing c.schema-schema.result.now c.in_ok-work.work c.requires c.in-Some.ensures.table c.schema-schema.ensures.schema c.in_ok-work.ensures sees in
+    record { orderly = copied.orderly; sound = copied.sound }
 
 pub returns-in-Some-written_to-clause-says : goal.returns-in-Some-written_to-clause-says
 returns-in-Some-written_to-clause-says c =
@@ -43,12 +38,12 @@ returns-in-Some-written_to-clause-schema c =
 
 pub returns-clause-says : goal.returns-clause-says
 returns-clause-says c =
-    let sees : IsSeen (database c.args.tables.now) c.args.txn.now.events c.args.into.now c.in_ok-written-in-None.written.written c.in-Some.table.now.table = sees_none (database c.args.tables.now) c.args.txn.now c.args.into.now c.in-Some.table.now.table c.in_ok-written-in-None.written.written c.requires c.in-Some.ensures.table c.schema-schema.ensures.ascends c.in-None.ensures.writes c.in-None.ensures.shown c.in_ok-written-in-None.ensures.written in
-    let copied : IsCopied (database c.args.tables.now) c.args.txn.now.events c.args.from.now c.args.into.now c.args.map.now c.args.key.now c.in-Some.table.now.table c.in_ok-written-in-None.written.written c.in_ok-work.work = is_copied (database c.args.tables.now) c.args.txn.now c.args.from.now c.args.into.now c.args.map.now c.args.key.now c.in-Some.table.now.table c.in_ok-written-in-None.written.written c.schema-schema.result.now c.in_ok-work.work c.requires c.in-Some.ensures.table c.schema-schema.ensures.schema c.in_ok-work.ensures sees in
-    subst (λ (s : StatementResult). IfOk c.tell_of-in-None.result (λ told. told.result ≡ s)) copied.said c.tell_of-in-None.ensures.says
+    let sees : IsSeen (database c.args.tables.now) c.args.txn.now.events c.args.into.now nothing c.in-Some.table.now.table = sees_none (database c.args.tables.now) c.args.txn.now c.args.into.now c.in-Some.table.now.table nothing c.requires c.in-Some.ensures.table c.schema-schema.ensures.ascends c.in-None.ensures.writes c.in-None.ensures.shown refl in
+    let copied : IsCopied (database c.args.tables.now) c.args.txn.now.events c.args.from.now c.args.into.now c.args.map.now c.args.key.now c.in-Some.table.now.table nothing c.in_ok-work.work = is_copied (database c.args.tables.now) c.args.txn.now c.args.from.now c.args.into.now c.args.map.now c.args.key.now c.in-Some.table.now.table nothing c.schema-schema.result.now c.in_ok-work.work c.requires c.in-Some.ensures.table c.schema-schema.ensures.schema c.in_ok-work.ensures sees in
+    subst (λ (s : StatementResult). IfOk c.tell_of_unwritten.result (λ told. told.result ≡ s)) copied.said c.tell_of_unwritten.ensures.says
 
 pub returns-clause-schema : goal.returns-clause-schema
 returns-clause-schema c =
-    let sees : IsSeen (database c.args.tables.now) c.args.txn.now.events c.args.into.now c.in_ok-written-in-None.written.written c.in-Some.table.now.table = sees_none (database c.args.tables.now) c.args.txn.now c.args.into.now c.in-Some.table.now.table c.in_ok-written-in-None.written.written c.requires c.in-Some.ensures.table c.schema-schema.ensures.ascends c.in-None.ensures.writes c.in-None.ensures.shown c.in_ok-written-in-None.ensures.written in
-    let copied : IsCopied (database c.args.tables.now) c.args.txn.now.events c.args.from.now c.args.into.now c.args.map.now c.args.key.now c.in-Some.table.now.table c.in_ok-written-in-None.written.written c.in_ok-work.work = is_copied (database c.args.tables.now) c.args.txn.now c.args.from.now c.args.into.now c.args.map.now c.args.key.now c.in-Some.table.now.table c.in_ok-written-in-None.written.written c.schema-schema.result.now c.in_ok-work.work c.requires c.in-Some.ensures.table c.schema-schema.ensures.schema c.in_ok-work.ensures sees in
-    IfOk-weaker c.tell_of-in-None.result _ _ (λ told same. has_schema (database c.args.tables.now) c.in-Some.table.now.table.schema copied.has told.writes same) c.tell_of-in-None.ensures.schema
+    let sees : IsSeen (database c.args.tables.now) c.args.txn.now.events c.args.into.now nothing c.in-Some.table.now.table = sees_none (database c.args.tables.now) c.args.txn.now c.args.into.now c.in-Some.table.now.table nothing c.requires c.in-Some.ensures.table c.schema-schema.ensures.ascends c.in-None.ensures.writes c.in-None.ensures.shown refl in
+    let copied : IsCopied (database c.args.tables.now) c.args.txn.now.events c.args.from.now c.args.into.now c.args.map.now c.args.key.now c.in-Some.table.now.table nothing c.in_ok-work.work = is_copied (database c.args.tables.now) c.args.txn.now c.args.from.now c.args.into.now c.args.map.now c.args.key.now c.in-Some.table.now.table nothing c.schema-schema.result.now c.in_ok-work.work c.requires c.in-Some.ensures.table c.schema-schema.ensures.schema c.in_ok-work.ensures sees in
+    IfOk-weaker c.tell_of_unwritten.result _ _ (λ told same. has_schema (database c.args.tables.now) c.in-Some.table.now.table.schema copied.has told.writes same) c.tell_of_unwritten.ensures.schema

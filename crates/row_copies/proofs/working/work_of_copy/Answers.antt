@@ -1,8 +1,9 @@
-use Rattle.std.proofs.Common.{◌≡◌, ap, ◌∙◌, subst}
+use Rattle.std.proofs.Common.{◌≡◌, ap, ◌∙◌, subst, refl}
 use Rattle.std.specs.Prelude.{IfOk}
 use Rattle.row_store.specs.Databases.{database}
 use Rattle.plain_server.specs.declared.work.Work.{Work}
 use Rattle.plain_server.specs.declared.work.Work.TheVariants as works
+use Rattle.written_rows.specs.Written.{nothing}
 use Rattle.txn_session.proofs.SeenViews.{IsSeen}
 use Rattle.row_copies.proofs.Copies.{IsSeenThrough, missing_work, seen_work, sees_none, sees_some}
 use Rattle.row_copies.proofs.working.work_of_copy.Goals as goal
@@ -15,9 +16,9 @@ work_from-requires c =
     let sees : IsSeenThrough (database c.args.tables.now) c.args.txn.now.events c.args.from.now c.in-Some.table.now.table c.in-Some-written_to.written.now = sees_some (database c.args.tables.now) c.args.txn.now c.args.from.now c.in-Some.table.now.table c.in-Some-written_to.written.now c.requires c.in-Some.ensures.table c.schema-schema.ensures.ascends c.in-Some-written_to.ensures.writes c.in-Some-written_to.ensures.shown in
     record { schema = sees.same; orderly = sees.seen.orderly }
 
-pub work_from-requires-in-None-clause-orderly : goal.work_from-requires-in-None-clause-orderly
-work_from-requires-in-None-clause-orderly c =
-    let sees : IsSeen (database c.args.tables.now) c.args.txn.now.events c.args.from.now c.in_ok-written-in-None.written.written c.in-Some.table.now.table = sees_none (database c.args.tables.now) c.args.txn.now c.args.from.now c.in-Some.table.now.table c.in_ok-written-in-None.written.written c.requires c.in-Some.ensures.table c.schema-schema.ensures.ascends c.in-None.ensures.writes c.in-None.ensures.shown c.in_ok-written-in-None.ensures.written in
+pub work_from_unwritten-requires : goal.work_from_unwritten-requires
+work_from_unwritten-requires c =
+    let sees : IsSeen (database c.args.tables.now) c.args.txn.now.events c.args.from.now nothing c.in-Some.table.now.table = sees_none (database c.args.tables.now) c.args.txn.now c.args.from.now c.in-Some.table.now.table nothing c.requires c.in-Some.ensures.table c.schema-schema.ensures.ascends c.in-None.ensures.writes c.in-None.ensures.shown refl in
     sees.orderly
 
 pub returns-in-Some-written_to : goal.returns-in-Some-written_to
@@ -25,7 +26,7 @@ returns-in-Some-written_to c =
     let sees : IsSeenThrough (database c.args.tables.now) c.args.txn.now.events c.args.from.now c.in-Some.table.now.table c.in-Some-written_to.written.now = sees_some (database c.args.tables.now) c.args.txn.now c.args.from.now c.in-Some.table.now.table c.in-Some-written_to.written.now c.requires c.in-Some.ensures.table c.schema-schema.ensures.ascends c.in-Some-written_to.ensures.writes c.in-Some-written_to.ensures.shown in
     subst (λ (w : Work). IfOk c.work_from.result (λ work. work ≡ w)) (seen_work (database c.args.tables.now) c.args.txn.now.events c.args.from.now c.args.map.now c.args.key.now c.args.into.now c.in-Some.table.now.table c.in-Some-written_to.written.now.written sees.seen) c.work_from.ensures
 
-pub returns-in_ok-written-in-None : goal.returns-in_ok-written-in-None
-returns-in_ok-written-in-None c =
-    let sees : IsSeen (database c.args.tables.now) c.args.txn.now.events c.args.from.now c.in_ok-written-in-None.written.written c.in-Some.table.now.table = sees_none (database c.args.tables.now) c.args.txn.now c.args.from.now c.in-Some.table.now.table c.in_ok-written-in-None.written.written c.requires c.in-Some.ensures.table c.schema-schema.ensures.ascends c.in-None.ensures.writes c.in-None.ensures.shown c.in_ok-written-in-None.ensures.written in
-    subst (λ (w : Work). IfOk c.work_from-in-None.result (λ work. work ≡ w)) (seen_work (database c.args.tables.now) c.args.txn.now.events c.args.from.now c.args.map.now c.args.key.now c.args.into.now c.in-Some.table.now.table c.in_ok-written-in-None.written.written sees) c.work_from-in-None.ensures
+pub returns-in-None : goal.returns-in-None
+returns-in-None c =
+    let sees : IsSeen (database c.args.tables.now) c.args.txn.now.events c.args.from.now nothing c.in-Some.table.now.table = sees_none (database c.args.tables.now) c.args.txn.now c.args.from.now c.in-Some.table.now.table nothing c.requires c.in-Some.ensures.table c.schema-schema.ensures.ascends c.in-None.ensures.writes c.in-None.ensures.shown refl in
+    subst (λ (w : Work). IfOk c.work_from_unwritten.result (λ work. work ≡ w)) (seen_work (database c.args.tables.now) c.args.txn.now.events c.args.from.now c.args.map.now c.args.key.now c.args.into.now c.in-Some.table.now.table nothing sees) c.work_from_unwritten.ensures
