@@ -4,9 +4,9 @@ ghost use Rattle.std.specs.Prelude.{◌≡◌, true, Some, IfOk, IsOk, OnOk, OnE
 ghost use Rattle.plain_server.specs.Conditions.{IsWellFormed, MayCall, MayPoll, is_free, is_freely_polled};
 ghost use Rattle.plain_server.specs.Jobs.{after_events};
 ghost use Rattle.plain_server.specs.Locking.{row_locks_of};
-ghost use Rattle.plain_server.specs.Serving.{calls, is_over, polled_over, polls};
+ghost use Rattle.plain_server.specs.Serving.{calls, done, is_over, polled_over, polls, without_waiting};
 ghost use Rattle.plain_server.specs.States.{is_exclusive};
-ghost use Rattle.server_desk.specs.Parts.{state_of, GoTogether, HaveWritten};
+ghost use Rattle.server_desk.specs.Parts.{state_of, GoTogether, HaveWritten, MayDo};
 
 use crate::committing::{commit, roll_back};
 use crate::doing::do_request;
@@ -109,6 +109,26 @@ fn stay_blocked<D: Data>(store: &mut D, desk: &mut Desk, session: u32, by: u32) 
     }
 }
 
+/// The session's request, which waited, is done, and waits no more.
+fn do_waiting<D: Data>(
+    store: &mut D,
+    desk: &mut Desk,
+    session: u32,
+    request: &Request,
+    locks: LockSet,
+) -> Result<Answer, AllocError>
+    requires together { GoTogether (D.committed store.old) (D.written store.old) desk.old }
+    requires may { MayDo (state_of (D.committed store.old) desk.old) session request.now locks }
+    ensures answer { IfOk result (λ answer. answer ≡ (done (state_of (D.committed store.old) desk.old) session request.now).answer) }
+    ensures ok { OnOk result (state_of (D.committed store.new) desk.new ≡ without_waiting session (done (state_of (D.committed store.old) desk.old) session request.now).after) }
+    ensures err { OnErr result (state_of (D.committed store.new) desk.new ≡ state_of (D.committed store.old) desk.old) }
+    ensures have { HaveWritten (D.written store.new) desk.new }
+{
+    let answer = do_request(store, desk, session, request, locks)?;
+    desk.end_wait(session);
+    Ok(answer)
+}
+
 /// A poll of a session: its request that waits is done where nobody blocks it by now. A poll of a request for exclusive
 /// names that stays blocked takes no memory.
 pub fn poll<D: Data>(store: &mut D, desk: &mut Desk, session: u32) -> Result<Answer, AllocError>
@@ -128,9 +148,7 @@ pub fn poll<D: Data>(store: &mut D, desk: &mut Desk, session: u32) -> Result<Ans
         Some(by) => Ok(stay_blocked(store, desk, session, by)),
         None => {
             let request = waiting.request.copy()?;
-            let answer = do_request(store, desk, session, &request, locks)?;
-            desk.end_wait(session);
-            Ok(answer)
+            do_waiting(store, desk, session, &request, locks)
         }
     }
 }
