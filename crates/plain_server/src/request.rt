@@ -10,7 +10,7 @@ use script_text::Statement;
 use std::alloc::AllocError;
 
 /// One call of a session.
-#[derive(Debug, Drop)]
+#[derive(Debug)]
 pub enum Request {
     /// BEGIN.
     Begin,
@@ -78,6 +78,48 @@ pub enum Request {
     ShowTables,
     /// The sessions that wait for names of tables exclusively.
     ShowWaiting,
+}
+
+// By hand: crates above then take it as one call, and don't drop each part on each path again.
+impl Drop for Request {
+    fn drop(self) {
+        match self {
+            Request::Do(_statement) => {}
+            Request::Ends(_table) | Request::Drop(_table) => {}
+            Request::ChunkEnd {
+                table: _table,
+                low: _low,
+                top: _top,
+                size: _,
+            } => {}
+            Request::BeginSpan {
+                table: _table,
+                span: _span,
+                size: _,
+            } => {}
+            Request::CopyRow {
+                from: _from,
+                into: _into,
+                map: _map,
+                key: _key,
+            } => {}
+            Request::LockTables(_names) => {}
+            Request::Create(_schema) => {}
+            Request::Rename(_pairs) => {}
+            Request::ReadLog {
+                position: _,
+                limit: _,
+                tables: _tables,
+            } => {}
+            Request::Begin
+            | Request::Commit
+            | Request::Rollback
+            | Request::Unlock
+            | Request::LogEnd
+            | Request::ShowTables
+            | Request::ShowWaiting => {}
+        }
+    }
 }
 
 impl Duplicate for Request {

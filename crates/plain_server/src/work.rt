@@ -30,7 +30,7 @@ pub enum Selection {
 pub type ColumnSets = Sequence<Option<Value>>;
 
 /// What a statement is to do.
-#[derive(Debug, Drop)]
+#[derive(Debug)]
 pub enum Work {
     /// Nothing: it is refused.
     Refuse(Answer),
@@ -56,6 +56,25 @@ pub enum Work {
         /// What is selected of them.
         selection: Selection,
     },
+}
+
+// By hand, as that of a request.
+impl Drop for Work {
+    fn drop(self) {
+        match self {
+            Work::Refuse(_answer) => {}
+            Work::Insert(_row) | Work::Copy(_row) | Work::Replace(_row) => {}
+            Work::Delete(_reach) => {}
+            Work::Update {
+                reach: _reach,
+                sets: _sets,
+            } => {}
+            Work::Select {
+                reach: _reach,
+                selection: _selection,
+            } => {}
+        }
+    }
 }
 
 /// What a statement says.
