@@ -7,7 +7,7 @@ use plain_server::Asked;
 use script_text::{Actor, Side};
 
 /// What an actor asks in its turn, and where its session is lost in it.
-#[derive(Debug, Drop)]
+#[derive(Debug)]
 pub struct Turn {
     /// Whose turn it is.
     pub actor: Actor,
@@ -17,7 +17,32 @@ pub struct Turn {
     pub asked: Asked,
 }
 
+// By hand, and by a call for what is asked: a function that lets a turn go, here or in a crate above, then has one call, and
+// doesn't prove the drop of each part again.
+impl Drop for Turn {
+    fn drop(self) {
+        let Turn {
+            actor: _,
+            side: _,
+            asked,
+        } = self;
+        drop(asked);
+    }
+}
+
 impl Turn {
+    /// What is asked. It takes no memory.
+    pub fn into_asked(self) -> Asked
+        ensures { result ≡ self.asked }
+    {
+        let Turn {
+            actor: _,
+            side: _,
+            asked,
+        } = self;
+        asked
+    }
+
     /// Whether the session is lost in the turn, in a call or between calls. It takes no memory.
     pub fn is_lost(&self) -> bool
         ensures { result ≡ is_lost_in self.now.side self.now.asked }

@@ -39,10 +39,10 @@ fn entry_of(turn: Turn, session: u32, heard: Heard) -> Entry
     Entry {
         actor: turn.actor,
         session,
-        asked: turn.asked,
         side: turn.side,
         answer: heard.answer,
         missed: heard.missed,
+        asked: turn.into_asked(),
     }
 }
 
