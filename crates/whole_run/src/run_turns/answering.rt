@@ -31,10 +31,10 @@ fn command_entry(turn: Turn) -> Entry
     Entry {
         actor: turn.actor,
         session: 0,
-        asked: turn.asked,
         side: None,
         answer: Answer::Ok(0),
         missed: None,
+        asked: turn.into_asked(),
     }
 }
 
