@@ -1,15 +1,16 @@
 -- What is given doesn't turn on the numbers of sessions that were made besides.
-use Rattle.std.proofs.Common.{◌≡◌, ℕ, true, false, List, Option, Some, None, refl, sym, ap, ◌∙◌, subst}
-use Rattle.std.specs.Prelude.{if◌then◌else◌, nat_lt}
+use Rattle.std.proofs.Common.{◌≡◌, ℕ, List, Option, Some, None, refl, ap, ◌∙◌}
+use Rattle.std.specs.Prelude.{if◌then◌else◌, is_some}
 use Rattle.script_text.specs.declared.actor.Actor.{Actor}
+use Rattle.script_text.specs.declared.operator.OperatorWord.{OperatorWord}
 use Rattle.script_text.specs.declared.actor.Actor.TheVariants.{Op, Insp, Copy, Apply, Lock, Ren, Client}
 use Rattle.plain_server.specs.declared.entry.Asked.TheVariants.{Poll}
 use Rattle.plain_server.specs.declared.entry.Entry.{Entry}
 use Rattle.plain_server.specs.States.{State, unread}
 use Rattle.plan_words.specs.PlanData.{PlanData}
 use Rattle.migration_program.specs.JournalWords.Sessions.{live_session}
-use Rattle.migration_program.specs.Tools.{Work, Course, SettingUp, Migrating, Tool, Moment, is_reverting, moment}
-use Rattle.migration_program.specs.Programs.{waits, in_transaction, rolls_back, copy_call, tool_call, calls, tool_asks, given}
+use Rattle.migration_program.specs.Tools.{Course, SettingUp, Migrating, Tool, is_reverting, moment}
+use Rattle.migration_program.specs.Programs.{waits, in_transaction, rolls_back, copy_call, tool_call, calls, tool_asks, commands, given}
 use Rattle.journal_facts.specs.RunLaws.Counting.{numbered, IsBehind}
 
 pub waits_same : (made : ℕ) (state : State) (session : Option ℕ) → waits (numbered made state) session ≡ waits state session
@@ -50,3 +51,8 @@ asks_is plan journal state tool actor behind is =
     ap (λ (s : State). tool_asks plan journal (record { server = s; tool = tool }) actor) behind.same
     ∙ asks_same plan state.made (moment plan journal).server journal tool actor
     ∙ ap (λ (t : Tool). tool_asks plan journal (record { server = (moment plan journal).server; tool = t }) actor) is
+
+-- a command is given where one is left
+pub command_left : (word : Option OperatorWord) → is_some word ≡ is_some (commands word)
+command_left None = refl
+command_left (Some word) = refl

@@ -1,13 +1,15 @@
 //! What the actors ask next, and when the run is over.
 
-ghost use Rattle.std.specs.Prelude.{◌≡◌, is_some, IfOk};
+ghost use Rattle.std.specs.Prelude.{◌≡◌, is_some, slice_get, IfOk};
 ghost use Rattle.plan_words.specs.PlanData.{PlanData};
+ghost use Rattle.migration_program.specs.JournalWords.Keeping.{words_of};
 ghost use Rattle.migration_program.specs.JournalWords.Clients.{clients_over};
 ghost use Rattle.migration_program.specs.Tools.{moment};
-ghost use Rattle.migration_program.specs.Programs.{tool_asks, given};
+ghost use Rattle.migration_program.specs.Programs.{tool_asks, commands, given};
 ghost use Rattle.migration_program.specs.Orders.{is_ready};
 ghost use Rattle.migration_program.specs.Verdicts.{is_over, has_ended, verdict_of};
 ghost use Rattle.journal_facts.specs.RunLaws.Counting.{IsBehind};
+ghost use Rattle.tool_calls.specs.ToolState.Meanings.{tool_of};
 ghost use Rattle.turn_book.specs.Books.{IsBook};
 
 use crate::book::Book;
@@ -19,7 +21,6 @@ use tool_calls::{Sight, commands, is_over, verdict};
 
 impl Book<'_> {
     /// What an actor of the tool but the operator asks next.
-    #[tactic(auto, using(crate::proofs::Givens::asks_is, crate::proofs::Seen::seen))]
     fn tool_asks<V: Serve>(
         &self,
         alloc: Global,
@@ -42,7 +43,6 @@ impl Book<'_> {
     }
 
     /// Whether an actor of the tool but the operator asks something next.
-    #[tactic(auto, using(crate::proofs::Givens::asks_is, crate::proofs::Seen::seen))]
     fn is_tool_ready<V: Serve>(&self, server: &V, actor: Actor) -> bool
         requires book { IsBook self.now.plan.now self.now.journal.items self.now }
         requires state { IsBehind (moment self.now.plan.now self.now.journal.items).server (V.state server.now) }
@@ -80,6 +80,13 @@ impl Book<'_> {
         }
     }
 
+    /// Whether a command is left to the operator.
+    fn has_command(&self) -> bool
+        ensures { result ≡ is_some (commands (slice_get (words_of self.now.plan.now) (tool_of self.now.tool).operator.taken)) }
+    {
+        self.tool.operator.next(self.plan).is_some()
+    }
+
     /// Whether the actor is ready: something is given to it. It takes no memory.
     #[tactic(auto, unfolding(migration_program::specs::Programs::given))]
     pub fn is_ready<V: Serve>(&self, server: &V, actor: Actor) -> bool
@@ -89,7 +96,7 @@ impl Book<'_> {
     {
         match actor {
             Actor::Client(client) => self.is_client_ready(client),
-            Actor::Op => commands(self.plan, &self.tool).is_some(),
+            Actor::Op => self.has_command(),
             Actor::Insp | Actor::Copy | Actor::Apply | Actor::Lock | Actor::Ren => {
                 self.is_tool_ready(server, actor)
             }
