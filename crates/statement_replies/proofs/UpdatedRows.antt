@@ -90,6 +90,9 @@ stays schema sets met rows written done old left going is =
       same = ap (behind done) (sym here) ∙ going.same;
     }
 
+neither : (b c : Bool) (still changed : Result (List Change) Answer) → b ≡ false → c ≡ false → cond b still (cond c (Err (refuses 1062)) changed) ≡ changed
+neither b c still changed one two = ap (λ (x : Bool). cond x still (cond c (Err (refuses 1062)) changed)) one ∙ ap (λ (x : Bool). cond x (Err (refuses 1062)) changed) two
+
 one_behind : (done : List Change) (change : Change) (result : Result (List Change) Answer) → behind (done ++ change ∷ []) result ≡ behind done (change_first change result)
 one_behind done change (Ok more) = ap {B = Result (List Change) Answer} Ok (append_assoc done (change ∷ []) more)
 one_behind done change (Err refusal) = refl
@@ -104,7 +107,7 @@ becomes schema key sets sound met rows written written' done done' old new left 
     let change : Change = changes.Update old (with_sets sets old) in
     let tests = is_change (same_row old (with_sets sets old)) (clashes_besides schema (with_sets sets old) old now) (with_sets sets old) new (sym is) in
     let here : updates schema sets (old ∷ left) (seen (key_places schema) written rows) ≡ change_first (changes.Update old (with_sets sets old)) (updates schema sets left (change_rows (key_places schema) (changes.Update old (with_sets sets old)) (seen (key_places schema) written rows))) =
-    rw (tests.0, tests.1) refl in
+    neither (same_row old (with_sets sets old)) (clashes_besides schema (with_sets sets old) old now) (updates schema sets left now) (change_first change (updates schema sets left (change_rows places change now))) tests.0 tests.1 in
     let one : IsChanged schema old (with_sets sets old) left (seen (key_places schema) written rows) = changed_one schema key sets sound old left now going.left_met going.is_table tests.1 in
     let own : changes.Update old new ≡ changes.Update old (with_sets sets old) = ap (changes.Update old) tests.2 in
     let then : seen (key_places schema) written' rows ≡ change_rows (key_places schema) (changes.Update old (with_sets sets old)) (seen (key_places schema) written rows) =
