@@ -59,18 +59,23 @@ impl Work {
         ensures { IfOk result (λ work. work_of work ≡ new_work plan.now plan.now.options.chunk_size 0 None) }
     {
         let options = plan.options();
-        Ok(Work {
-            copier: new_copier(plan)?,
-            chunk_tries: Tries::new(alloc),
-            applier: new_applier(alloc, plan)?,
-            batch_tries: Tries::new(alloc),
-            cutover: CutOver::new(
-                plan.table().copy()?,
-                options.drain_limit,
-                options.ok_to_drop_table,
-            ),
-            attempt_tries: Tries::new(alloc),
-        })
+        let table = plan.table().copy()?;
+        let copier = new_copier(plan)?;
+        match new_applier(alloc, plan) {
+            Ok(applier) => Ok(Work {
+                copier,
+                chunk_tries: Tries::new(alloc),
+                applier,
+                batch_tries: Tries::new(alloc),
+                cutover: CutOver::new(table, options.drain_limit, options.ok_to_drop_table),
+                attempt_tries: Tries::new(alloc),
+            }),
+            Err(error) => {
+                // By a call, so that its drop isn't proved part by part here.
+                drop(copier);
+                Err(error)
+            }
+        }
     }
 }
 

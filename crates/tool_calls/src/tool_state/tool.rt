@@ -43,17 +43,21 @@ pub struct Tool {
     pub spent: Tries,
 }
 
-// By hand: crates above then take it as one call, and don't prove the drop of each part again.
+// By hand: crates above then take it as one call, and don't prove the drop of each part again. The calls of `drop` have that of
+// each type proved once.
 impl Drop for Tool {
     fn drop(self) {
         let Tool {
             turns: _,
             operator: _operator,
             setup: _setup,
-            setup_tries: _setup_tries,
-            work: _work,
+            setup_tries,
+            work,
             reason: _reason,
-            spent: _spent,
+            spent,
         } = self;
+        drop(setup_tries);
+        drop(work);
+        drop(spent);
     }
 }
