@@ -42,10 +42,13 @@ impl Drop for Desk {
             alloc: _,
             limits: _,
             made: _,
-            log: _log,
-            waiting: _waiting,
-            sessions: _sessions,
+            log,
+            waiting,
+            sessions,
         } = self;
+        drop(log);
+        drop(waiting);
+        drop(sessions);
     }
 }
 

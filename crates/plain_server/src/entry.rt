@@ -39,17 +39,21 @@ pub struct Entry {
     pub missed: Option<Answer>,
 }
 
-// By hand, as that of the journal: crates above then take it as one call, and don't prove the drop of each part again.
+// By hand, as that of the journal: crates above then take it as one call, and don't prove the drop of each part again. The calls
+// of `drop` have that of each type proved once.
 impl Drop for Entry {
     fn drop(self) {
         let Entry {
             actor: _,
             session: _,
-            asked: _asked,
+            asked,
             side: _,
-            answer: _answer,
-            missed: _missed,
+            answer,
+            missed,
         } = self;
+        drop(asked);
+        drop(answer);
+        drop(missed);
     }
 }
 
@@ -85,7 +89,8 @@ pub struct Journal {
 
 impl Drop for Journal {
     fn drop(self) {
-        let Journal { entries: _entries } = self;
+        let Journal { entries } = self;
+        drop(entries);
     }
 }
 

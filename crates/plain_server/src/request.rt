@@ -80,37 +80,50 @@ pub enum Request {
     ShowWaiting,
 }
 
-// By hand: crates above then take it as one call, and don't drop each part on each path again.
+// By hand: crates above then take it as one call, and don't drop each part on each path again. The calls of `drop` have that of
+// each type proved once.
 impl Drop for Request {
     fn drop(self) {
         match self {
-            Request::Do(_statement) => {}
-            Request::Ends(_table) | Request::Drop(_table) => {}
+            Request::Do(statement) => drop(statement),
+            Request::Ends(table) | Request::Drop(table) => drop(table),
             Request::ChunkEnd {
-                table: _table,
-                low: _low,
-                top: _top,
+                table,
+                low,
+                top,
                 size: _,
-            } => {}
+            } => {
+                drop(table);
+                drop(low);
+                drop(top);
+            }
             Request::BeginSpan {
-                table: _table,
-                span: _span,
+                table,
+                span,
                 size: _,
-            } => {}
+            } => {
+                drop(table);
+                drop(span);
+            }
             Request::CopyRow {
-                from: _from,
-                into: _into,
-                map: _map,
-                key: _key,
-            } => {}
-            Request::LockTables(_names) => {}
-            Request::Create(_schema) => {}
-            Request::Rename(_pairs) => {}
+                from,
+                into,
+                map,
+                key,
+            } => {
+                drop(from);
+                drop(into);
+                drop(map);
+                drop(key);
+            }
+            Request::LockTables(names) => drop(names),
+            Request::Create(schema) => drop(schema),
+            Request::Rename(pairs) => drop(pairs),
             Request::ReadLog {
                 position: _,
                 limit: _,
-                tables: _tables,
-            } => {}
+                tables,
+            } => drop(tables),
             Request::Begin
             | Request::Commit
             | Request::Rollback

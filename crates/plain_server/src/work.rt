@@ -62,17 +62,17 @@ pub enum Work {
 impl Drop for Work {
     fn drop(self) {
         match self {
-            Work::Refuse(_answer) => {}
-            Work::Insert(_row) | Work::Copy(_row) | Work::Replace(_row) => {}
-            Work::Delete(_reach) => {}
-            Work::Update {
-                reach: _reach,
-                sets: _sets,
-            } => {}
-            Work::Select {
-                reach: _reach,
-                selection: _selection,
-            } => {}
+            Work::Refuse(answer) => drop(answer),
+            Work::Insert(row) | Work::Copy(row) | Work::Replace(row) => drop(row),
+            Work::Delete(reach) => drop(reach),
+            Work::Update { reach, sets } => {
+                drop(reach);
+                drop(sets);
+            }
+            Work::Select { reach, selection } => {
+                drop(reach);
+                drop(selection);
+            }
         }
     }
 }

@@ -62,10 +62,9 @@ pub struct Plan {
 // By hand: crates above then take it as one call, and don't prove the drop of each part again.
 impl Drop for Plan {
     fn drop(self) {
-        let Plan {
-            parts: _parts,
-            altered: _altered,
-        } = self;
+        let Plan { parts, altered } = self;
+        drop(parts);
+        drop(altered);
     }
 }
 

@@ -38,9 +38,11 @@ impl Drop for Store {
     fn drop(self) {
         let Store {
             alloc: _,
-            tables: _tables,
-            txns: _txns,
+            tables,
+            txns,
         } = self;
+        drop(tables);
+        drop(txns);
     }
 }
 
