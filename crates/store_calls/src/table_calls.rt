@@ -196,17 +196,27 @@ fn take(
     Ok(())
 }
 
+/// Both tables with the schema of a text of CREATE TABLE, and no rows.
+fn both_tables(alloc: Global, text: &str) -> Result<BothTables, CallFault> {
+    let schema = schema_of(alloc, text)?;
+    Ok(BothTables {
+        listed: ListedTable::new(alloc, schema.copy()?),
+        paged: Table::new(alloc, schema),
+    })
+}
+
+/// What the calls say, one after another.
+fn take_each(alloc: Global, both: &mut BothTables, calls: &str) -> Result<Text, CallFault> {
+    let mut told = Text::new(alloc);
+    for call in calls.split("; ") {
+        take(alloc, both, call, &mut told)?;
+    }
+    Ok(told)
+}
+
 /// What the calls say.
 pub fn answers(alloc: Global, input: &str) -> Result<Text, CallFault> {
     let (text, calls) = input.split_once("; ").ok_or(CallFault::Unread)?;
-    let schema = schema_of(alloc, text)?;
-    let mut both = BothTables {
-        listed: ListedTable::new(alloc, schema.copy()?),
-        paged: Table::new(alloc, schema),
-    };
-    let mut told = Text::new(alloc);
-    for call in calls.split("; ") {
-        take(alloc, &mut both, call, &mut told)?;
-    }
-    Ok(told)
+    let mut both = both_tables(alloc, text)?;
+    take_each(alloc, &mut both, calls)
 }
