@@ -1,5 +1,5 @@
-//! A book of turns up to a limit, with one worker, with four in threads, and with memory that is short once.
-ghost use Rattle.std.specs.Prelude.{◌≡◌, ◌+◌, ◌≤◌, length, All};
+//! A book of turns up to a limit, with four workers in threads, and with memory that is short once.
+ghost use Rattle.std.specs.Prelude.{All};
 ghost use Rattle.turn_desk.specs.Turns.{IsPassOf};
 
 use std::sync::Wait;
@@ -49,25 +49,6 @@ impl Book for Score {
 }
 
 #[test]
-fn one_worker_takes_two_turns(rt: HostRuntime) -> Result<(), Fail> {
-    let book = Score {
-        limit: 2,
-        short_at: 2,
-        entries: Vec::new(rt.alloc()),
-    };
-    let (desk, mut passes) = Desk::open(rt.alloc(), book, 1)?;
-    let answers = [
-        desk.turn(&rt, &mut passes[0]),
-        desk.turn(&rt, &mut passes[0]),
-        desk.turn(&rt, &mut passes[0]),
-    ];
-    assert_eq!(rt; answers, [Turned::Took, Turned::Took, Turned::Over]);
-    let book = desk.close(passes);
-    assert_eq!(rt; book.entries.len(), 2);
-    Ok(())
-}
-
-#[test]
 fn memory_is_short_at_the_fifth_turn(rt: HostRuntime) -> Result<(), Fail> {
     let book = Score {
         limit: 6,
@@ -86,38 +67,6 @@ fn memory_is_short_at_the_fifth_turn(rt: HostRuntime) -> Result<(), Fail> {
     assert_eq!(rt; desk.turn(&rt, &mut passes[0]), Turned::Took);
     let book = desk.close(passes);
     assert_eq!(rt; book.entries.len(), 5);
-    Ok(())
-}
-
-// Both see all that one of them has seen.
-fn meet_both_ways<B: Book>(desk: &Desk<B>, one: &mut Pass<B>, other: &mut Pass<B>)
-    requires one { IsPassOf desk.now one.old }
-    requires other { IsPassOf desk.now other.old }
-    ensures one { IsPassOf desk.now one.new }
-    ensures other { IsPassOf desk.now other.new }
-    ensures same { one.new.seen ≡ other.new.seen }
-{
-    desk.meet(one, other);
-    desk.meet(other, one);
-}
-
-#[test]
-fn two_meet_between_their_turns(rt: HostRuntime) -> Result<(), Fail> {
-    let book = Score {
-        limit: 3,
-        short_at: 3,
-        entries: Vec::new(rt.alloc()),
-    };
-    let (desk, mut passes) = Desk::open(rt.alloc(), book, 2)?;
-    let (left, right) = passes.as_mut_slice().split_at_mut(1);
-    assert_eq!(rt; desk.turn(&rt, &mut left[0]), Turned::Took);
-    meet_both_ways(&desk, &mut left[0], &mut right[0]);
-    assert_eq!(rt; desk.turn(&rt, &mut right[0]), Turned::Took);
-    meet_both_ways(&desk, &mut left[0], &mut right[0]);
-    assert_eq!(rt; desk.turn(&rt, &mut left[0]), Turned::Took);
-    assert_eq!(rt; desk.turn(&rt, &mut right[0]), Turned::Over);
-    let book = desk.close(passes);
-    assert_eq!(rt; book.entries.len(), 3);
     Ok(())
 }
 

@@ -18,53 +18,6 @@ fn text_source(alloc: Global, fail_at: Option<usize>) -> Result<BytesSource, All
     Ok(BytesSource::new(TEXT.to_vec(alloc)?, fail_at))
 }
 
-#[test]
-fn a_source_over_memory_gives_its_bytes_in_order(rt: HostRuntime) -> Result<(), Fail> {
-    let mut source = text_source(rt.alloc(), None)?;
-    let mut buffer = [b'-'; 3];
-    assert_eq!(rt; source.take(&mut buffer), Took::Some(3));
-    assert_eq!(rt; buffer.as_slice(), b"pla".as_slice());
-    assert_eq!(rt; source.take(&mut buffer), Took::Some(2));
-    assert_eq!(rt; buffer.as_slice(), b"n.a".as_slice());
-    assert_eq!(rt; source.take(&mut buffer), Took::End);
-    assert_eq!(rt; source.take(&mut buffer), Took::End);
-    assert_eq!(rt; source.faults(), 0);
-    Ok(())
-}
-
-#[test]
-fn a_source_over_memory_fails_before_the_byte_it_is_told(rt: HostRuntime) -> Result<(), Fail> {
-    let mut source = text_source(rt.alloc(), Some(2))?;
-    let mut buffer = [b'-'; 4];
-    assert_eq!(rt; source.take(&mut buffer), Took::Some(2));
-    assert_eq!(rt; buffer.as_slice(), b"pl--".as_slice());
-    assert_eq!(rt; source.take(&mut buffer), Took::Failed);
-    assert_eq!(rt; source.take(&mut buffer), Took::Failed);
-    assert_eq!(rt; source.faults(), 2);
-    // There is no byte at place 5 that a call could pass.
-    for fail_at in [5, 6] {
-        let mut source = text_source(rt.alloc(), Some(fail_at))?;
-        let mut buffer = [0; 9];
-        assert_eq!(rt; source.take(&mut buffer), Took::Some(5), "at {fail_at}");
-        assert_eq!(rt; source.take(&mut buffer), Took::End, "at {fail_at}");
-        assert_eq!(rt; source.faults(), 0, "at {fail_at}");
-    }
-    Ok(())
-}
-
-#[test]
-fn a_sink_over_memory_takes_bytes_up_to_its_place(rt: HostRuntime) {
-    let mut sink = BytesSink::new(rt.alloc(), Some(4));
-    assert_eq!(rt; sink.give(b"pla"), Gave::Some(3));
-    assert_eq!(rt; sink.give(b""), Gave::Some(0));
-    assert_eq!(rt; sink.give(b"n.n"), Gave::Some(1));
-    assert_eq!(rt; sink.give(b""), Gave::Some(0));
-    assert_eq!(rt; sink.give(b".n"), Gave::Failed);
-    assert_eq!(rt; sink.give(b".n"), Gave::Failed);
-    assert_eq!(rt; sink.held(), b"plan".as_slice());
-    assert_eq!(rt; sink.faults(), 2);
-}
-
 /// Gives or takes one byte a call, through another source or sink.
 #[derive(Drop)]
 struct OneByte<T>(T);
@@ -130,13 +83,6 @@ fn a_text_is_given_byte_for_byte(rt: HostRuntime) {
     assert!(rt; give_whole(&mut sink, TEXT).is_ok());
     assert_eq!(rt; sink.0.held(), TEXT);
     assert_eq!(rt; sink.0.faults(), 0);
-}
-
-#[test]
-fn an_empty_text_asks_nothing_of_the_sink(rt: HostRuntime) {
-    let mut sink = BytesSink::new(rt.alloc(), Some(0));
-    assert!(rt; give_whole(&mut sink, b"").is_ok());
-    assert_eq!(rt; sink.faults(), 0);
 }
 
 /// Is interrupted once before each byte, and breaks behind its last.
