@@ -1,6 +1,6 @@
 -- The words of a printed order.
 use Rattle.std.proofs.Common.{◌≡◌, ◌∙◌, ℕ, zero, suc, ◌+◌, ◌-◌, ◌<◌, ◌≤◌, ◌^◌, ◌==◌, min, Bool, true, false, not, ◌&&◌, ◌||◌, cond, nat_lt, nat_le, List, [], ◌∷◌, ◌++◌, length, take, drop, get_or, map, filter, position, Option, Some, None, option_map, refl, sym, ap, ap₂, arith, rules, codes, append-nil}
-use Rattle.std.proofs.lemmas.Bool.{and_from, and_parts}
+use Rattle.std.proofs.lemmas.Bool.{not-true, and_from, and_parts}
 use Rattle.std.proofs.lemmas.Bool.Decides.{nat_tests}
 use Rattle.std.proofs.lemmas.Fmt.{decimal_nonempty, digits_decimal, digits_value-decimal, first_decimal}
 use Rattle.std.proofs.lemmas.Str.Parse.{IsNumeralModel, numerals_by_value}
@@ -100,21 +100,17 @@ among clients (Client number) is = let most : number ≤ clients = is.1 in let n
 
 -- ---- a word is cut at its mark
 
-not_true : (b : Bool) → not b ≡ true → b ≡ false
-not_true true is = absurd (cc)
-not_true false is = refl
-
 no_mark : (word : List ℕ) → list_all is_plain word ≡ true → position_or_len (λ byte. byte == 42) word ≡ length word
 no_mark [] plain = refl
 no_mark (byte ∷ word) plain =
-    let other : (byte == 42) ≡ false = not_true _ ((and_parts (not (is_space byte)) _ ((and_parts _ _ plain).0)).1) in
+    let other : (byte == 42) ≡ false = not-true _ ((and_parts (not (is_space byte)) _ ((and_parts _ _ plain).0)).1) in
     let next : position_or_len (λ byte. byte == 42) word ≡ length word = no_mark word ((and_parts (is_plain byte) _ plain).1) in
     rw other (omega (arith, next))
 
 at_mark : (word rest : List ℕ) → list_all is_plain word ≡ true → position_or_len (λ byte. byte == 42) (word ++ 42 ∷ rest) ≡ length word
 at_mark [] rest plain = refl
 at_mark (byte ∷ word) rest plain =
-    let other : (byte == 42) ≡ false = not_true _ ((and_parts (not (is_space byte)) _ ((and_parts _ _ plain).0)).1) in
+    let other : (byte == 42) ≡ false = not-true _ ((and_parts (not (is_space byte)) _ ((and_parts _ _ plain).0)).1) in
     let next : position_or_len (λ byte. byte == 42) (word ++ 42 ∷ rest) ≡ length word = at_mark word rest ((and_parts (is_plain byte) _ plain).1) in
     rw other (omega (arith, next))
 
@@ -209,11 +205,11 @@ long_run run = long_word run.actor (times_text run.times)
 pub one_part : (word : List ℕ) → list_all is_dark word ≡ true → slice_split is_space word ≡ word ∷ []
 one_part [] dark = refl
 one_part (byte ∷ word) dark =
-    let other : is_space byte ≡ false = not_true _ ((and_parts _ _ dark).0) in
+    let other : is_space byte ≡ false = not-true _ ((and_parts _ _ dark).0) in
     rw other (ap (onto_first byte) (one_part word ((and_parts (is_dark byte) _ dark).1)))
 
 pub first_part : (word rest : List ℕ) → list_all is_dark word ≡ true → slice_split is_space (word ++ 32 ∷ rest) ≡ word ∷ slice_split is_space rest
 first_part [] rest dark = refl
 first_part (byte ∷ word) rest dark =
-    let other : is_space byte ≡ false = not_true _ ((and_parts _ _ dark).0) in
+    let other : is_space byte ≡ false = not-true _ ((and_parts _ _ dark).0) in
     rw other (ap (onto_first byte) (first_part word rest ((and_parts (is_dark byte) _ dark).1)))

@@ -2,7 +2,7 @@
 use Rattle.std.proofs.Common.{◌≡◌, ℕ, Bool, true, false, not, List, [], ◌∷◌, ◌++◌, cond, Option, Some, None, refl, sym, ap, ◌∙◌, subst}
 use Rattle.std.specs.Option.{option_map}
 use Rattle.std.specs.Str.{bytes_eq}
-use Rattle.std.proofs.lemmas.Bool.{true≢false, false≢true}
+use Rattle.std.proofs.lemmas.Bool.{not-true, true≢false, false≢true}
 use Rattle.event_codec.specs.declared.event.RowEvent.{RowEvent}
 use Rattle.event_codec.specs.declared.event.Change.{Change}
 use Rattle.gho_values.specs.declared.gho_schema.schema.Schema.{Schema}
@@ -93,10 +93,6 @@ resulted_same : (name : List ℕ) (state : State) (number : ℕ) (need : Need) (
 resulted_same name state number need result true = refl
 resulted_same name state number need result false = schema_events name state.tables (writes_of (session_of number state.sessions) ++ result.events)
 
-not_true : (b : Bool) → not b ≡ true → b ≡ false
-not_true true is = absurd (false≢true is)
-not_true false is = refl
-
 created_keeps : (name : List ℕ) (schema : Schema) (state : State) (number : ℕ) → bytes_eq schema.name name ≡ false → (stands : Bool) → Same name state (does (defined (created stands schema state.tables)) state number)
 created_keeps name schema state number off true = refl
 created_keeps name schema state number off false = ap (option_map (λ table. table.schema)) (behind_other name state.tables (record { schema = schema; rows = [] }) off)
@@ -123,8 +119,8 @@ within_same name state number (requests.LockTables names) keeps = at (all_stand 
   at true = refl
   at false = refl
 within_same name state number requests.Unlock keeps = refl
-within_same name state number (requests.Create schema) keeps = created_keeps name schema state number (not_true (bytes_eq schema.name name) keeps) (has_table schema.name state.tables)
-within_same name state number (requests.Drop dropped_name) keeps = dropped_keeps name dropped_name state number (not_true (bytes_eq name dropped_name) keeps) (has_table dropped_name state.tables)
+within_same name state number (requests.Create schema) keeps = created_keeps name schema state number (not-true (bytes_eq schema.name name) keeps) (has_table schema.name state.tables)
+within_same name state number (requests.Drop dropped_name) keeps = dropped_keeps name dropped_name state number (not-true (bytes_eq name dropped_name) keeps) (has_table dropped_name state.tables)
 within_same name state number (requests.Rename pairs) keeps = absurd (false≢true keeps)
 within_same name state number requests.LogEnd keeps = refl
 within_same name state number (requests.ReadLog position limit tables) keeps = refl

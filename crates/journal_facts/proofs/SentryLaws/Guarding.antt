@@ -1,7 +1,7 @@
 -- The sentry relation through the steps of an attempt.
 use Rattle.std.proofs.Common.{◌≡◌, ◌≢◌, ℕ, zero, suc, ◌+◌, ◌≤◌, Bool, true, false, cond, List, [], ◌∷◌, ◌++◌, length, take, drop, None, refl, sym, ap, ◌∙◌, subst, arith, inl, inr}
 use Rattle.std.specs.Prelude.{◌⊎◌}
-use Rattle.std.proofs.lemmas.Bool.{false≢true}
+use Rattle.std.proofs.lemmas.Bool.{false_from_ne_true, false≢true}
 use Rattle.std.proofs.lemmas.List.{append_assoc, drop-append-le, take-append-le, length-append}
 use Rattle.std.proofs.lemmas.List.Elements.{filter-append}
 use Rattle.std.specs.Str.{bytes_eq}
@@ -11,7 +11,7 @@ use Rattle.std.proofs.Math.Seq.{drop-append-add}
 use Rattle.row_store.specs.Databases.{has_table as has_table_name}
 use Rattle.metadata_locks.specs.Granting.{HeldName, holds, refuser_of_name}
 use Rattle.journal_facts.specs.SentryLaws.Sentries.{Scene, HasSentry, IsAlone, IsLocked, IsHinted, IsDrained, RenameWaits, MayExchange, BehindLock, BehindHint, BehindDrain, BehindRename, BehindDrop, BehindUnlock, BehindFailure, WhereItWaits, HoldsLock, AtEnd, Guards, OthersHold, OthersTurn, DropsSentry, FreesLock, OnlyFreesLock, KnowsHint, MayAnswer}
-use Rattle.journal_facts.proofs.SentryLaws.Holding.{refused_shared, waits_behind, not_true, one_or_two}
+use Rattle.journal_facts.proofs.SentryLaws.Holding.{refused_shared, waits_behind, one_or_two}
 use Rattle.changelog_table.specs.ToolNames.{log_name, old_name}
 use Rattle.changelog_table.specs.Hints.{hint_row, last_hint}
 use Rattle.migration_program.specs.declared.chunk_copier.copier.Copier.{Copier}
@@ -34,7 +34,7 @@ still_alone t r s l before after turn apart refused alone other differs = by (on
     lacked = alone s (λ same. apart (sym same))
 
     by : (other ≡ s) ⊎ (other ≢ s) → holds after.held other t false ≡ false
-    by (inl is) = ap (λ session. holds after.held session t false) is ∙ not_true (holds after.held s t false) (λ has. refused (turn.granted lacked has))
+    by (inl is) = ap (λ session. holds after.held session t false) is ∙ false_from_ne_true (holds after.held s t false) (λ has. refused (turn.granted lacked has))
     by (inr is) = turn.others other t false is ∙ alone other differs
 
 pub still_locked : (t : List ℕ) (r s l : ℕ) (before after : Scene) (turn : OthersTurn t r s before after) → l ≢ s → IsLocked t before.held l → IsLocked t after.held l

@@ -1,7 +1,7 @@
 -- Who holds a name, as the steps of an attempt change it.
 use Rattle.std.proofs.Common.{◌≡◌, ◌≢◌, ℕ, Bool, true, false, not, nat_eq, ◌&&◌, ◌||◌, cond, List, [], ◌∷◌, Option, Some, None, refl, sym, ◌∙◌, arith, inl, inr}
 use Rattle.std.specs.Prelude.{◌⊎◌}
-use Rattle.std.proofs.lemmas.Bool.{and_parts, false≢true, or_left, or_right}
+use Rattle.std.proofs.lemmas.Bool.{and_parts, false_from_ne_true, false≢true, or_left, or_right}
 use Rattle.std.proofs.lemmas.Bool.Decides.{nat_tests}
 use Rattle.std.specs.Cmp.Lexicographic.{pointwise}
 use Rattle.std.specs.List.{list_any}
@@ -12,10 +12,6 @@ use Rattle.metadata_locks.specs.declared.request.Waiter.{Waiter}
 
 pub both_none : (a b : Option ℕ) → a ≡ None → b ≡ None → least a b ≡ None
 both_none a b e f = rw e f
-
-pub not_true : (b : Bool) → (b ≡ true → ⊥) → b ≡ false
-not_true true never = absurd (never refl)
-not_true false never = refl
 
 -- a lock that a session holds refuses every other session
 refuses : (own on : Bool) (s : ℕ) → own ≡ false → on ≡ true → cond (not own && on) (Some s) None ≡ None → ⊥
@@ -78,12 +74,12 @@ pub granted_alone : (held : List HeldName) (waiting : List Waiter) (s other : �
 unfolding refuser_of_name
 granted_alone held waiting s other t apart lacks e =
     let both : least (least_holder held s t false) (least_waiter (ahead_of s waiting) s t) ≡ None = rw lacks at e in
-    not_true (holds held other t false) (λ has. not_alone held other s t false apart has ((none_of (least_holder held s t false) (least_waiter (ahead_of s waiting) s t) both).0))
+    false_from_ne_true (holds held other t false) (λ has. not_alone held other s t false apart has ((none_of (least_holder held s t false) (least_waiter (ahead_of s waiting) s t) both).0))
 
 -- a session is refused an exclusive lock on what another one holds
 pub refused_exclusive : (held : List HeldName) (waiting : List Waiter) (s l : ℕ) (t : List ℕ) → l ≢ s → holds held l t true ≡ true → holds held s t false ≡ false → refuser_of_name held waiting s t true ≡ None → ⊥
 refused_exclusive held waiting s l t apart own lacks e =
-    let weak : holds held s t true ≡ false = not_true (holds held s t true) (λ has. false≢true (sym lacks ∙ weaker held s t has)) in
+    let weak : holds held s t true ≡ false = false_from_ne_true (holds held s t true) (λ has. false≢true (sym lacks ∙ weaker held s t has)) in
     false≢true (sym (granted_alone held waiting s l t apart weak e) ∙ weaker held l t own)
 
 pub refused_shared : (held : List HeldName) (waiting : List Waiter) (s l : ℕ) (t : List ℕ) → l ≢ s → holds held l t true ≡ true → refuser_of_name held waiting s t false ≡ None → ⊥

@@ -1,7 +1,7 @@
 -- *The premises of the sentry relation from what the server gives.*
 use Rattle.std.proofs.Common.{◌≡◌, ◌≢◌, ℕ, nat_eq, Bool, true, false, not, ◌||◌, cond, List, [], ◌∷◌, refl, sym, ap, ◌∙◌, inl, inr}
 use Rattle.std.specs.Prelude.{◌⊎◌, Ok, Err}
-use Rattle.std.proofs.lemmas.Bool.{false≢true}
+use Rattle.std.proofs.lemmas.Bool.{false_from_ne_true, false≢true}
 use Rattle.std.proofs.lemmas.Slice.Eq.{bytes_eq-Decides}
 use Rattle.std.specs.List.{AllByRecursion, list_any}
 use Rattle.std.specs.Str.{bytes_eq}
@@ -14,7 +14,7 @@ use Rattle.journal_facts.specs.SentryLaws.Sentries.{scene, OthersHold, OthersTur
 use Rattle.journal_facts.specs.SentryLaws.Turning.{IsRenamed}
 use Rattle.journal_facts.specs.ServerLaws.Others.{TurnOf, IsGrantedName, MayWrite, IsAlone, held_at}
 use Rattle.journal_facts.specs.SentryLaws.Turns.{LocksAreTaken, LogsNothing, Defines}
-use Rattle.journal_facts.proofs.SentryLaws.Holding.{are_two, not_true}
+use Rattle.journal_facts.proofs.SentryLaws.Holding.{are_two}
 use Rattle.plain_server.specs.States.{State, names_in, waiters}
 use Rattle.plan_words.specs.PlanData.{PlanData}
 use Rattle.changelog_table.specs.ToolNames.{old_name, ghost_name}
@@ -98,7 +98,7 @@ drops_sentry t before after tables names none = record { gone = ap (has_table (o
 -- *The RENAME that is done* found the old table's name free
 exchange_free : (t : List ℕ) (pairs : List Pair) (pair : Pair) (tables after : Database) → rename_tables (pair ∷ pairs) tables ≡ Ok after → has_table pair.new tables ≡ false
 unfolding rename_tables
-exchange_free t pairs pair tables after e = not_true (has_table pair.new tables) (λ is. never is e)
+exchange_free t pairs pair tables after e = false_from_ne_true (has_table pair.new tables) (λ is. never is e)
   where
     never : has_table pair.new tables ≡ true → rename_tables (pair ∷ pairs) tables ≡ Ok after → ⊥
     never is e = by (rw is at e)

@@ -7,7 +7,7 @@ use Rattle.gho_values.specs.GhoSchema.Names.{same_name}
 use Rattle.gho_values.specs.SchemaRules.Names.{is_among, differ_from, names_differ}
 use Rattle.gho_values.proofs.SchemaRules.Lists.{position-some}
 use Rattle.alter_schema.specs.Columns.{column_place, has_column}
-use Rattle.std.proofs.lemmas.Bool.{or_parts, and_parts}
+use Rattle.std.proofs.lemmas.Bool.{not-true, or_parts, and_parts}
 use Rattle.std.proofs.Math.Bool.{or_assoc}
 use Rattle.gho_values.proofs.SchemaRules.SameNames.{other_name-turned}
 
@@ -121,10 +121,6 @@ unfolding differ_from
 apart-differ before [] all apart = refl
 apart-differ before (c ∷ columns) all apart = rw (all.0, apart-differ (before ++ c.name ∷ []) columns (none-further before c.name columns all.1 apart.0) apart.1) refl
 
-not_true : (b : Bool) → not b ≡ true → b ≡ false
-not_true true e = absurd cc
-not_true false e = refl
-
 differ-apart : (before : List (List ℕ)) (columns : List Column) → differ_from before (names_of columns) ≡ true → AllByRecursion (IsNoneOf before) columns × Apart columns
 unfolding differ_from
 differ-apart before [] e = (tt, tt)
@@ -132,7 +128,7 @@ differ-apart before (c ∷ columns) e =
     let p = and_parts (not (is_among before c.name)) (differ_from (before ++ c.name ∷ []) (names_of columns)) e in
     let rest = differ-apart (before ++ c.name ∷ []) columns p.1 in
     let n = none-nearer before c.name columns rest.0 in
-    ((not_true (is_among before c.name) p.0, n.0), (n.1, rest.1))
+    ((not-true (is_among before c.name) p.0, n.0), (n.1, rest.1))
 
 none_of-nothing : (columns : List Column) → AllByRecursion (IsNoneOf []) columns
 unfolding is_among

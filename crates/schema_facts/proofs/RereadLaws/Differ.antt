@@ -3,7 +3,7 @@ use Rattle.std.proofs.Common.{◌≡◌, ℕ, zero, suc, ◌+◌, ◌<◌, Bool,
 use Rattle.std.specs.Prelude.{position}
 use Rattle.std.specs.Char.{to_ascii_lowercase}
 use Rattle.std.specs.List.{list_any, slice_get, prefix_len, position_or_len, AllByRecursion}
-use Rattle.std.proofs.lemmas.Bool.{lt-ltb, and_parts, or_parts, or_right}
+use Rattle.std.proofs.lemmas.Bool.{not-true, lt-ltb, and_parts, or_parts, or_right}
 use Rattle.std.proofs.lemmas.Slice.Eq.{bytes_eq-Decides}
 use Rattle.gho_values.specs.GhoSchema.Names.{same_name}
 use Rattle.gho_values.specs.SchemaRules.Names.{is_among, differ_from, names_differ, place_of}
@@ -39,10 +39,6 @@ unfolding is_among
 more-none before name other none differs =
     any-append (λ (known : List ℕ). same_name known other) before (name ∷ []) ∙ rw (none, differs) refl
 
-not_true : (b : Bool) → not b ≡ true → b ≡ false
-not_true true e = absurd cc
-not_true false e = refl
-
 record Parted (before names : List (List ℕ)) : Type 0 where
   pub others : AllByRecursion (λ name. is_among before name ≡ false) names
   pub differ : Differ names
@@ -54,7 +50,7 @@ differ_from-parted before (name ∷ names) e =
     let two = and_parts (not (is_among before name)) (differ_from (before ++ name ∷ []) names) e in
     let rest = differ_from-parted (before ++ name ∷ []) names two.1 in
     record {
-      others = (not_true (is_among before name) two.0, All-weaker (λ (other : List ℕ). is_among (before ++ name ∷ []) other ≡ false) (λ (other : List ℕ). is_among before other ≡ false) (λ other no. (none-more before name other no).0) names rest.others);
+      others = (not-true (is_among before name) two.0, All-weaker (λ (other : List ℕ). is_among (before ++ name ∷ []) other ≡ false) (λ (other : List ℕ). is_among before other ≡ false) (λ other no. (none-more before name other no).0) names rest.others);
       differ = (All-weaker (λ (other : List ℕ). is_among (before ++ name ∷ []) other ≡ false) (λ (other : List ℕ). same_name name other ≡ false) (λ other no. (none-more before name other no).1) names rest.others, rest.differ);
     }
 

@@ -2,7 +2,7 @@
 use Rattle.std.proofs.Common.{◌≡◌, ℕ, zero, suc, ◌+◌, ◌<◌, ◌≤◌, Bool, true, false, not, ◌&&◌, ◌||◌, cond, ltb, List, [], ◌∷◌, ◌++◌, length, Option, Some, None, unwrap_or, Result, Ok, Err, refl, sym, ap, subst, ◌∙◌, map, arith, append_assoc, append-nil, length-append}
 use Rattle.std.specs.Prelude.{is_some, is_none, filter, count_by, position}
 use Rattle.std.specs.List.{filter_map, cons_option, list_all, list_any, slice_get, AllByRecursion}
-use Rattle.std.proofs.lemmas.Bool.{le-ltb, lt-ltb, and_parts}
+use Rattle.std.proofs.lemmas.Bool.{not-true, le-ltb, lt-ltb, and_parts}
 use Rattle.std.proofs.lemmas.List.{length-map, map-append}
 use Rattle.std.proofs.lemmas.List.Elements.{filter-append, filter_map-append}
 use Rattle.std.proofs.lemmas.List.Sums.{length-filter}
@@ -55,10 +55,6 @@ name-at columns place column at = rw at refl
 All-from-at : {X : Type 0} (P : X → Type 0) (xs : List X) → ((place : ℕ) (x : X) → slice_get xs place ≡ Some x → P x) → AllByRecursion P xs
 All-from-at P [] each = tt
 All-from-at P (x ∷ xs) each = (each zero x refl, All-from-at P xs (λ place y at. each (suc place) y at))
-
-not_true : (b : Bool) → not b ≡ true → b ≡ false
-not_true true e = absurd cc
-not_true false e = refl
 
 two-columns : (a b : Column) → there Column a ≡ there Column b → a.nullable ≡ false → b.nullable ≡ true → ⊥
 two-columns a b e first second = let same : a ≡ b = cc in let no : false ≡ true = sym first ∙ ap (λ (c : Column). c.nullable) same ∙ second in absurd cc
@@ -176,7 +172,7 @@ module _ (columns : List Column) (differ : Differ (names_of columns)) where
 
   not_null-some : (place : ℕ) (o : Option Column) → slice_get columns place ≡ o → is_not_null o ≡ true → AtPlace place
   not_null-some place None e is = absurd cc
-  not_null-some place (Some column) e is = record { column = column; at = e; not_null = not_true column.nullable is }
+  not_null-some place (Some column) e is = record { column = column; at = e; not_null = not-true column.nullable is }
 
   not-among : (places : List ℕ) (own : ℕ) (column : Column) → list_all (λ place. is_not_null (slice_get columns place)) places ≡ true → slice_get columns own ≡ Some column → column.nullable ≡ true → is_among (names_read columns places) column.name ≡ false
   unfolding is_among

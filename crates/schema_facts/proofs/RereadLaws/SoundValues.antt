@@ -19,17 +19,13 @@ use Rattle.gho_values.proofs.SchemaRules.Lists.{All-append}
 use Rattle.gho_values.proofs.SchemaRules.Steps.{there, some_is, some_if}
 use Rattle.schema_facts.specs.PrintLaws.Laws.{CanQuote}
 use Rattle.schema_facts.proofs.RereadLaws.Sound.{AreBytes, SoundText, Sound, All-take, prefix-passes}
-use Rattle.std.proofs.lemmas.Bool.{and_parts}
+use Rattle.std.proofs.lemmas.Bool.{not-true, and_parts}
 
 -- ---- names
 
-not_true : (b : Bool) → not b ≡ true → b ≡ false
-not_true true e = absurd cc
-not_true false e = refl
-
 before-quote : (bytes : List ℕ) → AllByRecursion (λ b. not (eqb b 96) ≡ true) bytes → CanQuote bytes
 before-quote [] all = tt
-before-quote (b ∷ bytes) all = (not_true (eqb b 96) all.0, before-quote bytes all.1)
+before-quote (b ∷ bytes) all = (not-true (eqb b 96) all.0, before-quote bytes all.1)
 
 name_inside-sound : (bytes : List ℕ) (b : Bool) (name : List ℕ) → value_of (cond b (Some (record { value = take (position_or_len (λ x. eqb x 96) bytes) bytes; length = position_or_len (λ x. eqb x 96) bytes + 1 })) None) ≡ Some name → CanQuote name
 name_inside-sound bytes true name e = subst CanQuote (some_is (take (position_or_len (λ x. eqb x 96) bytes) bytes) name e) (before-quote _ (prefix-passes (λ x. not (eqb x 96)) bytes))

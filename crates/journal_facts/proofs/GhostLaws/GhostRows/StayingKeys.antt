@@ -1,6 +1,6 @@
 -- A change that doesn't touch a key leaves its unique keys.
 use Rattle.std.proofs.Common.{◌≡◌, ℕ, zero, suc, Bool, true, false, not, ◌&&◌, ◌||◌, List, [], ◌∷◌, find, Some, None, refl, sym, ap, ◌∙◌, subst}
-use Rattle.std.proofs.lemmas.Bool.{false≢true, or_parts}
+use Rattle.std.proofs.lemmas.Bool.{false≢true, not-false, or_parts}
 use Rattle.std.specs.Ordering.{is_eq}
 use Rattle.std.specs.List.{slice_get}
 use Rattle.gho_values.specs.Comparing.{compare_keys}
@@ -21,14 +21,10 @@ use Rattle.row_store.proofs.FoundRows.{put_new}
 use Rattle.row_store.proofs.Orders.{is_Equal}
 use Rattle.plain_server.proofs.StatementLaws.OneRow.{own_key}
 
-not_false : (b : Bool) → not b ≡ false → b ≡ true
-not_false true is = refl
-not_false false is = absurd (false≢true (sym is))
-
 same_place : (index : Index) (before after : Row) → not (is_eq (compare_keys (key_of index.places before) (key_of index.places after))) ≡ false → key_of index.places before ≡ key_of index.places after
 same_place index before after is =
     tied_keys (key_of index.places before) (key_of index.places after)
-    (is_Equal (compare_keys (key_of index.places before) (key_of index.places after)) (not_false (is_eq (compare_keys (key_of index.places before) (key_of index.places after))) is))
+    (is_Equal (compare_keys (key_of index.places before) (key_of index.places after)) (not-false (is_eq (compare_keys (key_of index.places before) (key_of index.places after))) is))
 
 pub same_clash : (uniques : List Index) (before after other : Row) → changes_key uniques before after ≡ false → clash uniques after other ≡ clash uniques before other
 unfolding changes_key
