@@ -20,8 +20,8 @@ impl Calls for AllCalls {
                 lock_calls::answer(alloc, subject, call, input)
             }
             "event" | "key" | "table" => store_calls::answer(alloc, subject, call, input),
-            "database" => database_calls::answers(alloc, input),
-            "server" => server_calls::answers(alloc, input),
+            "database" if call == "calls" => database_calls::answers(alloc, input),
+            "server" if call == "calls" => server_calls::answers(alloc, input),
             _ => Err(CallFault::Unread),
         }
     }
