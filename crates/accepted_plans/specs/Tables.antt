@@ -11,7 +11,7 @@ use Rattle.plain_server.specs.declared.answer.Answer.TheVariants as answers
 use Rattle.plain_server.specs.declared.entry.Entry.{Entry}
 use Rattle.plain_server.specs.declared.request.Request.{Request}
 use Rattle.plan_words.specs.PlanData.{PlanData}
-use Rattle.changelog_table.specs.ToolNames.{old_name}
+use Rattle.gho_values.specs.ToolNames.{old_name}
 use Rattle.migration_program.specs.JournalWords.Histories.{about, entry_adds, is_alter, told_in}
 use Rattle.migration_program.specs.JournalWords.Journals.{state_at}
 

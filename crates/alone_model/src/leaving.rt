@@ -3,11 +3,11 @@
 ghost use Rattle.std.specs.Prelude.{◌≡◌, ◌++◌, filter, not, option_to_list, option_copied, IfOk, OnOk};
 ghost use Rattle.std.specs.List.{flat_map};
 ghost use Rattle.row_store.specs.Databases.{Database, find_table};
-ghost use Rattle.changelog_table.specs.ToolNames.{is_tool_name};
+ghost use Rattle.gho_values.specs.ToolNames.{is_tool_name};
 ghost use Rattle.migration_program.specs.JournalWords.Serials.{tables_left};
 
 use alone_statements::{PlainTable, PlainTables, find_table, plain_tables};
-use changelog_table::is_tool_name;
+use gho_values::tool_names::is_tool_name;
 use gho_values::{Duplicate, Name, Sequence};
 use plan_words::Plan;
 use std::alloc::{AllocError, Global};
@@ -33,7 +33,7 @@ fn clients_of(
 {
     let mut left = Sequence::new(alloc);
     for table in opening {
-        if is_tool_name(migrated, &table.schema().name) {
+        if is_tool_name(migrated.as_str(), table.schema().name.as_str()) {
             continue;
         }
         push_found(&mut left, find_table(&table.schema().name, tables))?;

@@ -8,7 +8,7 @@ use Rattle.gho_values.specs.declared.value.Value.TheVariants.{Num, Text}
 use Rattle.event_codec.specs.declared.event.RowEvent.{RowEvent}
 use Rattle.event_codec.specs.declared.event.Change.{Change}
 use Rattle.event_codec.specs.declared.event.Change.TheVariants.{Write}
-use Rattle.changelog_table.specs.ToolNames.{log_name}
+use Rattle.gho_values.specs.ToolNames.{log_name}
 
 -- the hint row of an attempt: its number, `cut-over`, and the number as text
 unfoldable pub hint_row : ℕ → List Value

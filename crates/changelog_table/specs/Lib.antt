@@ -1,3 +1,2 @@
-pub mod ToolNames
 pub mod ToolTables
 pub mod Hints

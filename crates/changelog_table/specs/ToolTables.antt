@@ -6,7 +6,7 @@ use Rattle.gho_values.specs.declared.kind.Kind.TheVariants.{Int, VarChar}
 use Rattle.gho_values.specs.declared.gho_schema.schema.Schema.{Schema}
 use Rattle.gho_values.specs.declared.gho_schema.schema.Column.{Column}
 use Rattle.gho_values.specs.declared.gho_schema.schema.Index.{Index}
-use Rattle.changelog_table.specs.ToolNames.{log_name, old_name}
+use Rattle.gho_values.specs.ToolNames.{log_name, old_name}
 
 -- the comment that tells the sentry from every other table of its name
 unfoldable pub sentry_comment : List ℕ

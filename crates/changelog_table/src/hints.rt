@@ -3,8 +3,8 @@
 ghost use Rattle.std.specs.Prelude.{◌≡◌, IfOk};
 ghost use Rattle.changelog_table.specs.Hints.{hint_row, hint_of, or_last, hint_in, last_hint};
 
-use crate::names::is_log_name;
 use event_codec::{Change, RowEvent};
+use gho_values::tool_names::is_log_name;
 use gho_values::{Chars, Name, Row, Sequence, Value};
 use itoa::Buffer;
 use std::alloc::{AllocError, Global};
@@ -55,7 +55,7 @@ pub fn last_hint(table: &Name, last: u128, events: &[RowEvent]) -> u128
 {
     let mut hint = last;
     for event in events {
-        if is_log_name(table, &event.table) {
+        if is_log_name(table.as_str(), event.table.as_str()) {
             hint = hint_in(hint, &event.change);
         }
     }

@@ -3,8 +3,8 @@
 ghost use Rattle.std.specs.Prelude.{◌≡◌, [], ◌∷◌, false, None, IfOk};
 ghost use Rattle.changelog_table.specs.ToolTables.{sentry_comment, not_null, first_is_primary, sentry_schema, log_schema};
 
-use crate::names::{log_name, old_name};
 use gho_values::gho_schema::{Column, Index, Indexes, Schema};
+use gho_values::tool_names::{log_name, old_name};
 use gho_values::{Chars, Kind, Name, Sequence};
 use std::alloc::{AllocError, Global};
 

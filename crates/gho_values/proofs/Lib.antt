@@ -1,5 +1,6 @@
 pub mod Escapes
 pub mod Orders
+mod Prefixes
 pub mod PrintedValues
 pub mod SpanLaws
 pub mod StoredValues

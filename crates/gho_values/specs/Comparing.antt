@@ -1,5 +1,5 @@
 -- The order of values and of keys. Numbers compare as numbers, texts and bytes by their bytes (MySQL's manual, "The binary Collation Compared to _bin Collations"); the order between kinds of value is this project's rule, and no column mixes them.
-use Rattle.std.specs.Prelude.{ℕ, List, [], ◌∷◌}
+use Rattle.std.specs.Prelude.{ℕ, List}
 use Rattle.std.specs.declared.cmp.Ordering.{Ordering}
 use Rattle.std.specs.Ordering.{nat_cmp, int_cmp}
 use Rattle.std.specs.Cmp.Lexicographic.{slice_cmp}

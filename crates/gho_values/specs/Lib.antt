@@ -7,3 +7,4 @@ pub mod ValueOrder
 pub mod GhoSchema
 pub mod AlterImage
 pub mod SchemaRules
+pub mod ToolNames

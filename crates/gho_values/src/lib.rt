@@ -1,6 +1,6 @@
 //! The values of MySQL's columns, and the lists, names and texts that every layer above is made of. In its modules: schemas
-//! (`gho_schema`), the clauses of ALTER TABLE and what they leave of a row (`alter_image`), and what is asked of names, keys,
-//! defaults and whole schemas (`schema_rules`).
+//! (`gho_schema`), the clauses of ALTER TABLE and what they leave of a row (`alter_image`), what is asked of names, keys,
+//! defaults and whole schemas (`schema_rules`), and the names of the tool's tables (`tool_names`).
 #![tactic(auto)]
 
 pub mod alter_image;
@@ -17,6 +17,7 @@ mod sequence;
 mod span;
 mod storing;
 mod text;
+pub mod tool_names;
 mod value;
 
 pub use comparing::compare;

@@ -6,5 +6,5 @@ mod limits;
 mod names;
 
 pub use defaults::{defaults_fit, stored_default};
-pub use limits::{is_column_name, is_reserved, is_table_name, is_tool_name};
+pub use limits::{is_column_name, is_reserved, is_table_name};
 pub use names::{first_column, free_name, is_among, names_differ, places_of};

@@ -15,7 +15,7 @@ use Rattle.script_text.specs.declared.script.ScriptWord.{ScriptWord}
 use Rattle.script_text.specs.declared.script.ScriptWord.TheVariants as words
 use Rattle.plain_server.specs.Alone.{Ran, outcome_if, alone, stays, lines_run, nothing_ran}
 use Rattle.plain_server.specs.Jobs.{change_table, after_events}
-use Rattle.changelog_table.specs.ToolNames.{is_tool_name, ghost_name, log_name, old_name}
+use Rattle.gho_values.specs.ToolNames.{is_tool_name, ghost_name, log_name, old_name}
 use Rattle.plan_words.specs.PlanData.{PlanData}
 use Rattle.migration_program.specs.JournalWords.Clients.{script_of}
 use Rattle.migration_program.specs.JournalWords.Serials as serials

@@ -13,7 +13,7 @@ use Rattle.plain_server.specs.Answers.{ok}
 use Rattle.plain_server.specs.Entries.{is_client, is_command}
 use Rattle.plain_server.specs.Jobs.{table_of}
 use Rattle.plain_server.specs.States.{State, session_of, is_in_transaction, is_waiting}
-use Rattle.changelog_table.specs.ToolNames.{is_tool_name}
+use Rattle.gho_values.specs.ToolNames.{is_tool_name}
 use Rattle.plan_words.specs.PlanData.{PlanData}
 use Rattle.migration_program.specs.JournalWords.Altering.{plan_altered_table}
 use Rattle.migration_program.specs.JournalWords.Journals.{state_at, IsFaithful}

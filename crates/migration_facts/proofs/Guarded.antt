@@ -13,7 +13,7 @@ use Rattle.plain_server.specs.declared.entry.Asked.TheVariants.{Call, Command, C
 use Rattle.plain_server.specs.declared.entry.Entry.{Entry}
 use Rattle.plain_server.specs.declared.request.Request.{Request}
 use Rattle.plan_words.specs.PlanData.{PlanData}
-use Rattle.changelog_table.specs.ToolNames.{old_name}
+use Rattle.gho_values.specs.ToolNames.{old_name}
 use Rattle.migration_program.specs.declared.chunk_copier.copier.Copier.{Copier}
 use Rattle.migration_program.specs.declared.event_applier.applier.Applier.{Applier}
 use Rattle.migration_program.specs.CutoverCore.CutOvers as cutovers

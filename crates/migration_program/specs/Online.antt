@@ -19,7 +19,7 @@ use Rattle.plain_server.specs.Entries.{request_in}
 use Rattle.plain_server.specs.Jobs.{table_of}
 use Rattle.plain_server.specs.States.{names_in, is_exclusive, tables_named}
 use Rattle.plan_words.specs.PlanData.{PlanData}
-use Rattle.changelog_table.specs.ToolNames.{ghost_name, log_name, is_tool_name}
+use Rattle.gho_values.specs.ToolNames.{ghost_name, log_name, is_tool_name}
 use Rattle.migration_program.specs.CutoverCore.CutOvers.{stands, may_succeed}
 use Rattle.migration_program.specs.Operators.{is_throttled}
 use Rattle.migration_program.specs.Tools.{Course, SettingUp, Migrating, Moment, moment}

@@ -13,7 +13,7 @@ use Rattle.plain_server.specs.declared.entry.Asked.{Asked}
 use Rattle.plain_server.specs.declared.entry.Asked.TheVariants.{Call, Poll, Command, Cut}
 use Rattle.plain_server.specs.States.{State, session_of, is_waiting, is_in_transaction, unread}
 use Rattle.plan_words.specs.PlanData.{PlanData}
-use Rattle.changelog_table.specs.ToolNames.{log_name}
+use Rattle.gho_values.specs.ToolNames.{log_name}
 use Rattle.migration_program.specs.JournalWords.Sessions.{live_session, IsInSession}
 use Rattle.migration_program.specs.JournalWords.Clients.{client_asks}
 use Rattle.migration_program.specs.JournalWords.Keeping.{words_of}

@@ -9,7 +9,7 @@ use Rattle.plain_server.specs.declared.listing.TableName.{TableName}
 use Rattle.plain_server.specs.declared.answer.Answer.TheVariants as answers
 use Rattle.plain_server.specs.declared.answer.KeyRange.{KeyRange}
 use Rattle.plan_words.specs.PlanData.{PlanData, new_schema}
-use Rattle.changelog_table.specs.ToolNames.{ghost_name, log_name, old_name}
+use Rattle.gho_values.specs.ToolNames.{ghost_name, log_name, old_name}
 use Rattle.changelog_table.specs.ToolTables.{log_schema}
 use Rattle.migration_program.specs.declared.cutover_core.cutover.Leftovers.{Leftovers}
 use Rattle.migration_program.specs.CutoverCore.Attempts.{has_name, first_name, without_first, is_clear}

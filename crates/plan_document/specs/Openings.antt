@@ -7,7 +7,7 @@ use Rattle.row_store.specs.Databases.{Database, TableRows, find_table, has_table
 use Rattle.gho_values.specs.SchemaRules.Results.{◌>>=◌}
 use Rattle.alter_schema.specs.Altering.{altered}
 use Rattle.alter_text.specs.Reading.{alter_at}
-use Rattle.changelog_table.specs.ToolNames.{ghost_name, old_name}
+use Rattle.gho_values.specs.ToolNames.{ghost_name, old_name}
 use Rattle.changelog_table.specs.ToolTables.{sentry_comment}
 use Rattle.plan_words.specs.declared.options.Options.{Options}
 use Rattle.plan_words.specs.PlanData.{Altered}

@@ -7,7 +7,7 @@ ghost use Rattle.plan_document.specs.Refusals.{Reads};
 
 use crate::fault::{PlanFault, PlanRefusal};
 use crate::limits::{OPEN_SELECT_LIMIT, STATEMENT_LIMIT};
-use changelog_table::{ghost_name, log_name, old_name};
+use gho_values::tool_names::{ghost_name, log_name, old_name};
 use gho_values::{Name, Names, Sequence};
 use plan_keys::KeyRefusal;
 use plan_words::Scripts;

@@ -5,7 +5,7 @@ use Rattle.std.proofs.lemmas.Grind.{flat_map-append}
 use Rattle.std.proofs.lemmas.List.{drop_all}
 use Rattle.std.specs.List.{flat_map, slice_get}
 use Rattle.row_store.specs.Databases.{StoredTable, TableRows, Database, database, find_table}
-use Rattle.changelog_table.specs.ToolNames.{is_tool_name}
+use Rattle.gho_values.specs.ToolNames.{is_tool_name}
 use Rattle.plan_words.specs.PlanData.{PlanData}
 use Rattle.migration_program.specs.JournalWords.Serials.{tables_left}
 use Rattle.table_lines.proofs.Steps.{from_here}

@@ -4,7 +4,7 @@ use Rattle.std.specs.Fmt.{decimal}
 use Rattle.std.specs.List.{flat_map}
 use Rattle.gho_values.specs.declared.value.Value.{Value}
 use Rattle.row_store.specs.Databases.{TableRows, Database, find_table}
-use Rattle.changelog_table.specs.ToolNames.{is_tool_name}
+use Rattle.gho_values.specs.ToolNames.{is_tool_name}
 use Rattle.plan_words.specs.PlanData.{PlanData}
 use Rattle.table_lines.specs.Tables.{row_lines, table_line}
 

@@ -6,9 +6,9 @@ ghost use Rattle.row_store.specs.Databases.{database, find_table};
 ghost use Rattle.table_lines.specs.Tables.{row_lines};
 ghost use Rattle.report_print.specs.Tables.{left_of, rows_text, table_text, tables_text};
 
-use changelog_table::is_tool_name;
 use client_lines::push_number_line;
 use gho_values::Text;
+use gho_values::tool_names::is_tool_name;
 use paged_tables::Tables;
 use paged_tables::row_pages::{SpanRows, Table};
 use plan_words::Plan;
@@ -73,7 +73,7 @@ fn push_left(
 ) -> Result<(), AllocError>
     ensures { OnOk result (into.new ≡ into.old ++ tables_text plan.now.options.show_tables (left_of plan.now opening.now.table (database tables.now))) }
 {
-    if is_tool_name(plan.table(), &opening.schema().name) {
+    if is_tool_name(plan.table().as_str(), opening.schema().name.as_str()) {
         Ok(())
     } else {
         push_found(into, plan.options().show_tables, opening, tables)

@@ -5,9 +5,10 @@ use Rattle.std.specs.Prelude.{count_by}
 use Rattle.std.specs.List.{list_all}
 use Rattle.table_words.specs.declared.code.SchemaCode.{SchemaCode}
 use Rattle.table_words.specs.declared.code.SchemaCode.TheVariants.{TooManyColumns, TooManyKeys, NameTooLong, ReservedName}
-use Rattle.gho_values.specs.SchemaRules.Limits.{is_column_name, is_tool_name, is_table_name, is_reserved}
+use Rattle.gho_values.specs.SchemaRules.Limits.{is_column_name, is_table_name, is_reserved}
 use Rattle.schema_text.specs.declared.parts.Parts.{Parts}
 use Rattle.gho_values.specs.SchemaRules.Reasons.{Reasons, first_reason}
+use Rattle.gho_values.specs.ToolNames.{is_tool_name}
 use Rattle.schema_text.specs.Declaring.{size_reasons}
 
 none_first : (holds : Bool) (code : SchemaCode) (others : Reasons SchemaCode) → first_reason ((holds, code) ∷ others) ≡ None → (holds ≡ false) × (first_reason others ≡ None)

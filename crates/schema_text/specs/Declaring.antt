@@ -19,7 +19,8 @@ use Rattle.gho_values.specs.SchemaRules.Defaults.{stored_default, defaults_fit, 
 use Rattle.gho_values.specs.SchemaRules.Names.{is_among, names_differ, places_of}
 use Rattle.schema_text.specs.Keys.{named_keys}
 use Rattle.gho_values.specs.SchemaRules.Reasons.{Reasons, first_reason, unless}
-use Rattle.gho_values.specs.SchemaRules.Limits.{is_column_name, is_tool_name, is_table_name, is_reserved}
+use Rattle.gho_values.specs.SchemaRules.Limits.{is_column_name, is_table_name, is_reserved}
+use Rattle.gho_values.specs.ToolNames.{is_tool_name}
 use Rattle.schema_text.specs.Parts.{parts_of}
 
 -- ---- names and limits

@@ -13,9 +13,10 @@ use crate::parts::{Parts, parts_of};
 use crate::written::{WrittenColumn, WrittenKey, WrittenTable};
 use gho_values::gho_schema::{Column, Columns, Index, Indexes, Schema, clustered_place};
 use gho_values::schema_rules::{
-    defaults_fit, is_among, is_column_name, is_reserved, is_table_name, is_tool_name, names_differ,
-    places_of, stored_default,
+    defaults_fit, is_among, is_column_name, is_reserved, is_table_name, names_differ, places_of,
+    stored_default,
 };
+use gho_values::tool_names::is_tool_name;
 use gho_values::{Chars, Duplicate, Name, Names, Sequence, StoreFault};
 use std::alloc::{AllocError, Global};
 use table_words::{SchemaCode, SchemaFault};
@@ -75,7 +76,7 @@ fn size_reason(
 ) -> Result<Option<SchemaCode>, AllocError>
     ensures { IfOk result (λ reason. reason ≡ first_reason (size_reasons migrated.now name.now parts.now)) }
 {
-    let is_tool = is_tool_name(alloc, migrated, name)?;
+    let is_tool = is_tool_name(migrated, name);
     Ok(if !(is_table_name(is_tool, name) && are_column_names(parts.columns.as_slice())) {
         Some(SchemaCode::NameTooLong)
     } else if is_reserved(is_tool, name) {

@@ -1,7 +1,7 @@
 -- What the code looks at besides the tool's record and the server's state. (This project's rule.)
 use Rattle.std.specs.Prelude.{◌≡◌, ℕ, List, [], ◌∷◌}
 use Rattle.plain_server.specs.States.{State, load}
-use Rattle.changelog_table.specs.ToolNames.{log_name}
+use Rattle.gho_values.specs.ToolNames.{log_name}
 use Rattle.tool_calls.specs.declared.tool_state.tool.Tool.{Tool}
 
 -- *Seen*: the names are those whose events the applier reads, and so many transactions of clients are open

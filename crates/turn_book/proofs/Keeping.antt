@@ -19,7 +19,7 @@ use Rattle.migration_program.specs.JournalWords.Journals.{after_entry}
 use Rattle.migration_program.specs.JournalWords.Sessions.{live_session, session_left}
 use Rattle.migration_program.specs.JournalWords.Histories.{history, entry_adds, is_alter}
 use Rattle.migration_program.specs.Orders.{actors}
-use Rattle.changelog_table.specs.ToolNames.{log_name}
+use Rattle.gho_values.specs.ToolNames.{log_name}
 use Rattle.migration_program.specs.Tools as program
 use Rattle.migration_program.specs.Tools.{Moment, new_tool, took, after_turn, moment}
 use Rattle.tool_calls.specs.declared.tool_state.tool.Tool.{Tool}

@@ -7,7 +7,7 @@ use Rattle.script_text.specs.declared.script.ScriptLine.{ScriptLine}
 use Rattle.plain_server.specs.declared.entry.Entry.{Entry}
 use Rattle.plain_server.specs.Entries.{same_actor}
 use Rattle.plain_server.specs.States.{State, load}
-use Rattle.changelog_table.specs.ToolNames.{log_name}
+use Rattle.gho_values.specs.ToolNames.{log_name}
 use Rattle.plan_words.specs.PlanData.{PlanData}
 use Rattle.migration_program.specs.JournalWords.Sessions.{live_session}
 use Rattle.migration_program.specs.JournalWords.Clients.{script_of, client_at}

@@ -3,13 +3,13 @@
 ghost use Rattle.std.specs.Prelude.{◌≡◌, [], ◌∷◌, map, IfOk};
 ghost use Rattle.script_text.specs.declared.actor.Actor.TheVariants.{Op, Insp, Copy, Apply, Lock, Ren};
 ghost use Rattle.migration_program.specs.Orders.{actors};
-ghost use Rattle.changelog_table.specs.ToolNames.{log_name};
+ghost use Rattle.gho_values.specs.ToolNames.{log_name};
 ghost use Rattle.turn_book.specs.Books.{free_seat, free_client, IsBook};
 
 use crate::book::Book;
 use actor_seats::ActorSeat;
 use actor_seats::client_turns::ClientSeat;
-use changelog_table::log_name;
+use gho_values::tool_names::log_name;
 use gho_values::{Duplicate, Name, Names, Sequence};
 use plan_words::Plan;
 use script_text::Actor;

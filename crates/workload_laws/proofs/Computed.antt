@@ -15,6 +15,7 @@ use Rattle.table_words.specs.Scope as t6
 use Rattle.table_words.specs.Tokens as t7
 use Rattle.gho_values.specs.SchemaRules.Defaults as r1
 use Rattle.gho_values.specs.SchemaRules.Limits as r2
+use Rattle.gho_values.specs.ToolNames as r4
 use Rattle.gho_values.specs.SchemaRules.Names as r3
 use Rattle.gho_values.specs.SchemaRules.Lawful.{IsLawful}
 use Rattle.schema_text.specs.Columns as c1
@@ -39,7 +40,7 @@ use Rattle.workload_laws.specs.Rows.{table_schema}
 use Rattle.workload_laws.specs.WorkloadDocument.Texts.{alter_text, table_name, create_text}
 
 pub schema_read : c6.schema_at table_name create_text ≡ Ok table_schema
-unfolding s1.half s1.text_number s1.character_count s1.in_range s1.text_within s1.stores s2.clustered_among s3.same_name w1.front_at w2.text_inside w2.name_inside w3.words_behind t1.attribute_at t2.key_mismatch t2.names_at t2.key_columns_at t2.key_name_at t2.key_at t3.kind_word t3.width_at t3.length_at t3.kind_behind t3.kind_at t4.listed t4.gathered t5.behind_keyword t5.behind_sign t5.keyword_at t5.sign_at t5.behind_name t5.name_at t5.number_at t5.text_at t5.literal_at t5.any_word_at t6.is_other_kind t6.is_no_item t6.mismatch t7.is_keyword t7.same_sign t7.text_words r1.defaults_fit r2.is_name_length r2.is_tool_name r3.is_among r3.differ_from r3.place_of r3.places_of r3.spelled r3.numbered r3.first_free r3.first_column c1.column_attribute_at c1.column_attributes_at c1.column_at c2.declared_column c2.declared_columns c2.schema_of c2.declared c3.named_keys c4.value_words c4.passed_at c4.set_at c4.comment_at c4.charset_at c4.default_charset_at c4.option_at c4.options_at c5.parts_of c6.schema_at c7.primary_item_at c7.behind_key_word c7.item_at c7.items_at c7.table_at c7.written
+unfolding s1.half s1.text_number s1.character_count s1.in_range s1.text_within s1.stores s2.clustered_among s3.same_name w1.front_at w2.text_inside w2.name_inside w3.words_behind t1.attribute_at t2.key_mismatch t2.names_at t2.key_columns_at t2.key_name_at t2.key_at t3.kind_word t3.width_at t3.length_at t3.kind_behind t3.kind_at t4.listed t4.gathered t5.behind_keyword t5.behind_sign t5.keyword_at t5.sign_at t5.behind_name t5.name_at t5.number_at t5.text_at t5.literal_at t5.any_word_at t6.is_other_kind t6.is_no_item t6.mismatch t7.is_keyword t7.same_sign t7.text_words r1.defaults_fit r2.is_name_length r4.ghost_name r4.log_name r4.old_name r3.is_among r3.differ_from r3.place_of r3.places_of r3.spelled r3.numbered r3.first_free r3.first_column c1.column_attribute_at c1.column_attributes_at c1.column_at c2.declared_column c2.declared_columns c2.schema_of c2.declared c3.named_keys c4.value_words c4.passed_at c4.set_at c4.comment_at c4.charset_at c4.default_charset_at c4.option_at c4.options_at c5.parts_of c6.schema_at c7.primary_item_at c7.behind_key_word c7.item_at c7.items_at c7.table_at c7.written
 schema_read = refl
 
 pub alter_read : alter_at table_name alter_text ≡ Ok clauses

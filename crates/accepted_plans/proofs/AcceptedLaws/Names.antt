@@ -9,10 +9,10 @@ use Rattle.std.proofs.lemmas.List.Elements.{filter-append}
 use Rattle.std.proofs.lemmas.List.Sums.{count_by-le-length, length-filter}
 use lib.Utf8.{encode, next}
 use Rattle.gho_values.specs.Storing.{character_count}
-use Rattle.gho_values.specs.SchemaRules.Limits.{is_name_length, tool_name, is_tool_name, is_table_name}
+use Rattle.gho_values.specs.SchemaRules.Limits.{is_name_length, is_table_name}
 use Rattle.plain_server.specs.Conditions.{IsTableName}
-use Rattle.changelog_table.specs.ToolNames.{ghost_name, log_name, old_name}
-use Rattle.plain_server.proofs.StatementLaws.Tests.{are_same}
+use Rattle.gho_values.specs.ToolNames.{ghost_name, is_tool_name, log_name, old_name}
+use Rattle.journal_facts.proofs.Naming.{migrated_no_tool}
 
 -- CHARACTERS
 
@@ -121,22 +121,6 @@ names_fit table is text =
     let ends : (ending : List ℕ) → length ending ≡ 4 → count_by begins ending ≡ 4 → IsEnding (codes "_") ending = λ ending size count. record { front_size = refl; front_count = refl; ending_size = size; ending_count = count } in
     (itself table room, (longer (codes "_") (codes "_gho") table (ends (codes "_gho") refl refl) room, (longer (codes "_") (codes "_ghc") table (ends (codes "_ghc") refl refl) room, (longer (codes "_") (codes "_del") table (ends (codes "_del") refl refl) room, tt))))
 
--- the migrated table has none of its tool's names
-not_ending : (table ending : List ℕ) → bytes_eq table (tool_name table ending) ≡ false
-not_ending table ending = by (bytes_eq table (tool_name table ending)) refl where
-  by : (b : Bool) → bytes_eq table (tool_name table ending) ≡ b → b ≡ false
-  by true is =
-      let same = ap length (are_same table (tool_name table ending) is) in
-      let inner = length-append table ending in
-      let outer = length-append (codes "_") (table ++ ending) in
-      let one : length (codes "_") ≡ 1 = refl in
-      absurd (omega (arith, same, inner, outer, one))
-  by false is = refl
-
-no_tool : (table : List ℕ) → is_tool_name table table ≡ false
-unfolding is_tool_name
-no_tool table = rw (not_ending table (codes "_gho"), not_ending table (codes "_ghc"), not_ending table (codes "_del")) refl
-
 -- *The migrated table's name has at most 59 characters*
 pub migrated_fits : (table : List ℕ) → is_table_name (is_tool_name table table) table ≡ true → is_name_length 59 table ≡ true
-migrated_fits table is = subst (λ (b : Bool). is_table_name b table ≡ true) (no_tool table) is
+migrated_fits table is = subst (λ (b : Bool). is_table_name b table ≡ true) (migrated_no_tool table) is

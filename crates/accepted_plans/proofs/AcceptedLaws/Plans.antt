@@ -34,7 +34,7 @@ use Rattle.plan_tables.specs.Tables.{IsSound, tables_of}
 use Rattle.accepted_plans.specs.AcceptedLaws.PlanLaws.PlanLaws.{IsAccepted, ReadPlansAreAccepted}
 use Rattle.turn_reader.specs.Turns.{turns_of}
 use Rattle.plain_server.specs.Jobs.{table_of}
-use Rattle.changelog_table.specs.ToolNames.{ghost_name, log_name, old_name, is_tool_name}
+use Rattle.gho_values.specs.ToolNames.{ghost_name, log_name, old_name, is_tool_name}
 use Rattle.migration_program.specs.JournalWords.Keeping.{words_of}
 use Rattle.journal_facts.specs.Plans.{names_of, script_names}
 use Rattle.journal_facts.specs.MachineLaws.Scripts.{LinesFit}

@@ -7,7 +7,8 @@ use Rattle.row_store.specs.Databases.{TableRows, Database, has_table, is_named, 
 use Rattle.row_store.specs.Laws.{PutKeepsTables}
 use Rattle.gho_values.proofs.SchemaRules.Lists.{All-append, All-weaker}
 use Rattle.gho_values.proofs.SchemaRules.Steps.{bind_ok, ok_is, kept_out, some_is}
-use Rattle.gho_values.specs.SchemaRules.Limits.{is_tool_name, is_table_name, is_name_length}
+use Rattle.gho_values.specs.SchemaRules.Limits.{is_table_name, is_name_length}
+use Rattle.gho_values.specs.ToolNames.{is_tool_name}
 use Rattle.schema_text.specs.Laws.{ReadSchemasAreLawful}
 use Rattle.schema_text.specs.Reading.{schema_at}
 use Rattle.schema_facts.specs.RereadLaws.Laws.{ReadSchemasAreDeclared}

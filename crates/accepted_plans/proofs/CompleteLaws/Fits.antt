@@ -20,7 +20,7 @@ use Rattle.plain_server.specs.Entries.{is_client, is_command}
 use Rattle.plain_server.specs.Jobs.{after_events}
 use Rattle.plain_server.specs.States.{State, session_of, view, writes_of}
 use Rattle.plan_words.specs.PlanData.{PlanData, new_map}
-use Rattle.changelog_table.specs.ToolNames.{ghost_name}
+use Rattle.gho_values.specs.ToolNames.{ghost_name}
 use Rattle.migration_program.specs.JournalWords.Journals.{opens, state_at}
 use Rattle.migration_program.specs.declared.chunk_copier.copier.CopyStep.{CopyStep}
 use Rattle.migration_program.specs.declared.chunk_copier.copier.CopyStep.TheVariants.{Copying}

@@ -19,7 +19,7 @@ use Rattle.plain_server.specs.Locking.{blocker, need}
 use Rattle.plain_server.specs.Serving.{called_unless, calls, serves}
 use Rattle.plain_server.specs.States.{State, names_in}
 use Rattle.plan_words.specs.PlanData.{PlanData}
-use Rattle.changelog_table.specs.ToolNames.{log_name, old_name}
+use Rattle.gho_values.specs.ToolNames.{log_name, old_name}
 use Rattle.migration_program.specs.JournalWords.Journals.{opens, state_at}
 use Rattle.migration_program.specs.JournalWords.Sessions.{live_session, session_in, session_left}
 use Rattle.migration_program.specs.ChunkCopier.Copiers as copiers

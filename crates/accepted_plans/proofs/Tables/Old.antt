@@ -17,7 +17,7 @@ use Rattle.plain_server.specs.declared.entry.Entry.{Entry}
 use Rattle.plain_server.specs.declared.request.Request.{Request}
 use Rattle.plain_server.specs.declared.request.Request.TheVariants as requests
 use Rattle.plan_words.specs.PlanData.{PlanData}
-use Rattle.changelog_table.specs.ToolNames.{ghost_name, old_name}
+use Rattle.gho_values.specs.ToolNames.{ghost_name, old_name}
 use Rattle.migration_program.specs.CutoverCore.Attempts as attempts
 use Rattle.migration_program.specs.CutoverCore.Attempts.{exchange, renamer_call}
 use Rattle.migration_program.specs.declared.cutover_core.cutover.Clearing.TheVariants.{Drops, Looking}

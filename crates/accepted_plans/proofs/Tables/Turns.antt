@@ -25,7 +25,7 @@ use Rattle.plain_server.specs.declared.request.Request.{Request}
 use Rattle.plain_server.specs.declared.request.Request.TheVariants as requests
 use Rattle.plain_server.specs.declared.session.Waiting.{Waiting}
 use Rattle.plan_words.specs.PlanData.{PlanData}
-use Rattle.changelog_table.specs.ToolNames.{ghost_name, is_tool_name, log_name, old_name}
+use Rattle.gho_values.specs.ToolNames.{ghost_name, is_tool_name, log_name, old_name}
 use Rattle.migration_program.specs.JournalWords.Histories as histories
 use Rattle.migration_program.specs.JournalWords.Histories.{asked_about, request_waiting, told_in}
 use Rattle.migration_program.specs.JournalWords.Journals.{IsFaithful, may_lose, opens, opens_if, state_at}

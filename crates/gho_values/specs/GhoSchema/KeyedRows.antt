@@ -1,5 +1,5 @@
 -- What rows kept by their key stand for.
-use Rattle.std.specs.Prelude.{◌≡◌, ℕ, List, map}
+use Rattle.std.specs.Prelude.{ℕ, List, map}
 use Rattle.gho_values.specs.declared.value.Value.{Value}
 use Rattle.gho_values.specs.GhoSchema.Rows.{key_of}
 

@@ -1,5 +1,5 @@
 -- Names of columns and keys: which are one, which are free, and the places that the names of a key's columns stand for.
-use Rattle.std.specs.Prelude.{codes, ℕ, zero, suc, ◌+◌, Bool, true, false, not, ◌&&◌, ◌==◌, if◌then◌else◌, List, [], ◌∷◌, ◌++◌, length, find, position, unwrap_or, Option}
+use Rattle.std.specs.Prelude.{codes, ℕ, zero, suc, ◌+◌, Bool, true, not, ◌&&◌, ◌==◌, if◌then◌else◌, List, [], ◌∷◌, ◌++◌, length, find, position, unwrap_or, Option}
 use Rattle.std.specs.Fmt.{decimal}
 use Rattle.std.specs.List.{filter_map, list_any}
 use Rattle.gho_values.specs.GhoSchema.Names.{same_name}

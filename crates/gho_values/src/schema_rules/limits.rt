@@ -1,12 +1,10 @@
 //! How long names may be, and which names of tables are kept.
 
-ghost use Rattle.std.specs.Prelude.{◌≡◌, IfOk};
-ghost use Rattle.std.specs.Str.{bytes_eq};
+ghost use Rattle.std.specs.Prelude.{◌≡◌};
 ghost use Rattle.gho_values.specs.GhoSchema.Names.{is_kept};
-ghost use Rattle.gho_values.specs.SchemaRules.Limits.{is_name_length, is_column_name, tool_name, is_tool_name, is_table_name, is_reserved};
+ghost use Rattle.gho_values.specs.SchemaRules.Limits.{is_name_length, is_column_name, is_table_name, is_reserved};
 
 use crate::character_count;
-use std::alloc::{AllocError, Global};
 
 const COLUMN_NAME_LIMIT: usize = 64;
 
@@ -25,27 +23,6 @@ pub fn is_column_name(name: &str) -> bool
     ensures { result ≡ is_column_name name.now }
 {
     is_name_length(COLUMN_NAME_LIMIT, name)
-}
-
-fn is_named(alloc: Global, migrated: &str, ending: &str, name: &str) -> Result<bool, AllocError>
-    ensures { IfOk result (λ is. is ≡ bytes_eq name.now (tool_name migrated.now ending.now)) }
-{
-    let mut tool = String::from_str(alloc, "_")?;
-    tool.push_str(migrated)?;
-    tool.push_str(ending)?;
-    Ok(name == tool.as_str())
-}
-
-/// Whether a table of this name is one of the migration's own.
-#[tactic(auto, unfolding(crate::specs::SchemaRules::Limits::is_tool_name))]
-pub fn is_tool_name(alloc: Global, migrated: &str, name: &str) -> Result<bool, AllocError>
-    ensures { IfOk result (λ is. is ≡ is_tool_name migrated.now name.now) }
-{
-    Ok(
-        is_named(alloc, migrated, "_gho", name)?
-            || is_named(alloc, migrated, "_ghc", name)?
-            || is_named(alloc, migrated, "_del", name)?,
-    )
 }
 
 /// Whether a table may have this name, by its length.

@@ -14,7 +14,7 @@ use Rattle.plain_server.specs.Entries.{answer_at}
 use Rattle.plain_server.specs.Reading.{events_in}
 use Rattle.plain_server.specs.States.{State, session_of, is_in_transaction, holds_tables, is_waiting, waiting_of, has_work, locked_names, kept_names}
 use Rattle.plan_words.specs.PlanData.{PlanData}
-use Rattle.changelog_table.specs.ToolNames.{old_name}
+use Rattle.gho_values.specs.ToolNames.{old_name}
 use Rattle.changelog_table.specs.ToolTables.{sentry_schema}
 use Rattle.migration_program.specs.declared.chunk_copier.copier.Copier.{Copier}
 use Rattle.migration_program.specs.declared.chunk_copier.copier.CopyRange.{CopyRange}

@@ -16,7 +16,7 @@ use Rattle.plain_server.specs.declared.session.Waiting.{Waiting}
 use Rattle.plain_server.specs.Entries.{is_client}
 use Rattle.plain_server.specs.States.{State, session_of, is_in_transaction, holds_tables, waiting_of}
 use Rattle.plan_words.specs.PlanData.{PlanData}
-use Rattle.changelog_table.specs.ToolNames.{old_name}
+use Rattle.gho_values.specs.ToolNames.{old_name}
 use Rattle.migration_program.specs.JournalWords.Journals.{state_at, IsAnswered}
 use Rattle.migration_program.specs.JournalWords.Clients.{client_at, client_asks, is_inside, word_asks}
 use Rattle.migration_program.specs.JournalWords.Sessions.{live_session, IsSeated, KeepsSessions}

@@ -6,7 +6,7 @@ use Rattle.plain_server.specs.declared.answer.Answer.TheVariants as answers
 use Rattle.plain_server.specs.declared.listing.TableName.{TableName}
 use Rattle.plain_server.specs.declared.request.Request.{Request}
 use Rattle.plain_server.specs.declared.request.Request.TheVariants as requests
-use Rattle.changelog_table.specs.ToolNames.{ghost_name, old_name}
+use Rattle.gho_values.specs.ToolNames.{ghost_name, old_name}
 use Rattle.changelog_table.specs.ToolTables.{sentry_schema}
 use Rattle.migration_program.specs.declared.cutover_core.cutover.Clearing.{Clearing}
 use Rattle.migration_program.specs.declared.cutover_core.cutover.Clearing.TheVariants.{Looking, Drops}

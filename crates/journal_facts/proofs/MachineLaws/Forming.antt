@@ -14,7 +14,7 @@ use Rattle.plain_server.specs.declared.entry.Entry.{Entry}
 use Rattle.plain_server.specs.declared.request.Request.{Request}
 use Rattle.plain_server.specs.declared.request.Request.TheVariants as requests
 use Rattle.plan_words.specs.PlanData.{PlanData}
-use Rattle.changelog_table.specs.ToolNames.{log_name, old_name}
+use Rattle.gho_values.specs.ToolNames.{log_name, old_name}
 use Rattle.changelog_table.specs.ToolTables.{log_schema, sentry_schema}
 use Rattle.migration_program.specs.JournalWords.Clients.{word_asks}
 use Rattle.migration_program.specs.declared.chunk_copier.copier.CopyStep.{CopyStep}

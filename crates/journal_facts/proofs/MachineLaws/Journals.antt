@@ -17,7 +17,7 @@ use Rattle.plain_server.specs.declared.request.Request.TheVariants as requests
 use Rattle.plain_server.specs.Entries.{same_actor, is_client, is_cut}
 use Rattle.plain_server.specs.States.{State, has_work}
 use Rattle.plan_words.specs.PlanData.{PlanData}
-use Rattle.changelog_table.specs.ToolNames.{old_name}
+use Rattle.gho_values.specs.ToolNames.{old_name}
 use Rattle.migration_program.specs.JournalWords.Journals.{after_entry, state_at, IsAnswered, IsFaithful}
 use Rattle.migration_program.specs.JournalWords.Sessions.{live_session}
 use Rattle.migration_program.specs.JournalWords.Clients.{client_asks, client_at, line_asks}

@@ -24,7 +24,7 @@ use Rattle.plain_server.specs.Reading.{end_in, keys_in}
 use Rattle.plain_server.specs.States.{has_work}
 use Rattle.plain_server.specs.StatementLaws.Databases.{IsOrderly}
 use Rattle.plan_words.specs.PlanData.{PlanData}
-use Rattle.changelog_table.specs.ToolNames.{ghost_name}
+use Rattle.gho_values.specs.ToolNames.{ghost_name}
 use Rattle.migration_program.specs.JournalWords.Journals.{state_at, IsFaithful}
 use Rattle.migration_program.specs.JournalWords.Keeping.{words_of}
 use Rattle.migration_program.specs.JournalWords.Sessions.{live_session}

@@ -27,7 +27,7 @@ use Rattle.plain_server.specs.declared.request.Request.TheVariants as requests
 use Rattle.plain_server.specs.Entries.{same_actor}
 use Rattle.plain_server.specs.States.{has_work}
 use Rattle.plan_words.specs.PlanData.{PlanData}
-use Rattle.changelog_table.specs.ToolNames.{ghost_name, log_name, old_name}
+use Rattle.gho_values.specs.ToolNames.{ghost_name, log_name, old_name}
 use Rattle.changelog_table.specs.ToolTables.{sentry_schema}
 use Rattle.migration_program.specs.JournalWords.Histories as histories
 use Rattle.migration_program.specs.JournalWords.Histories.{Alter, alters, adds, entry_adds, history, is_alter, renames_away, request_waiting, told_in, waits_behind, waits_in}

@@ -12,7 +12,7 @@ use Rattle.plain_server.specs.declared.answer.Answer.TheVariants as answers
 use Rattle.plain_server.specs.declared.listing.TableName.{TableName}
 use Rattle.plain_server.specs.declared.outcome.Task.TheVariants as tasks
 use Rattle.plan_words.specs.PlanData.{PlanData}
-use Rattle.changelog_table.specs.ToolNames.{ghost_name}
+use Rattle.gho_values.specs.ToolNames.{ghost_name}
 use Rattle.migration_program.specs.ChunkCopier.Copiers as copiers
 use Rattle.migration_program.specs.EventApplier.Appliers as appliers
 use Rattle.migration_program.specs.declared.cutover_core.cutover.Clearing.TheVariants.{Looking, Drops}

@@ -5,7 +5,7 @@ use Rattle.std.specs.Str.{bytes_eq}
 use Rattle.std.proofs.lemmas.Bool.{false≢true, or_left, or_right}
 use Rattle.std.proofs.lemmas.List.Folds.{list_any-append}
 use Rattle.std.proofs.Math.Bool.{or-false}
-use Rattle.changelog_table.specs.ToolNames.{ghost_name, log_name, old_name}
+use Rattle.gho_values.specs.ToolNames.{ghost_name, log_name, old_name}
 use Rattle.plan_words.specs.PlanData.{PlanData}
 use Rattle.migration_program.proofs.ProgramLaws.Naming.{is_known}
 use Rattle.journal_facts.specs.Plans.{client_names}

@@ -20,7 +20,7 @@ use Rattle.plain_server.specs.declared.request.Request.{Request}
 use Rattle.plain_server.specs.declared.request.Request.TheVariants as requests
 use Rattle.plain_server.specs.Entries.{same_actor, is_client}
 use Rattle.plan_words.specs.PlanData.{PlanData, old_schema}
-use Rattle.changelog_table.specs.ToolNames.{ghost_name, log_name}
+use Rattle.gho_values.specs.ToolNames.{ghost_name, log_name}
 use Rattle.changelog_table.specs.ToolTables.{log_schema}
 use Rattle.migration_program.specs.JournalWords.Clients.{client_at, word_asks}
 use Rattle.migration_program.specs.JournalWords.Journals.{state_at, IsFaithful, opening}

@@ -16,7 +16,7 @@ use Rattle.plain_server.specs.declared.entry.Entry.{Entry}
 use Rattle.plain_server.specs.declared.entry.Asked.TheVariants.{Call, Poll}
 use Rattle.plain_server.specs.States.{State}
 use Rattle.plan_words.specs.PlanData.{PlanData}
-use Rattle.changelog_table.specs.ToolNames.{old_name}
+use Rattle.gho_values.specs.ToolNames.{old_name}
 use Rattle.changelog_table.specs.ToolTables.{sentry_schema}
 use Rattle.migration_program.specs.declared.cutover_core.cutover.CutOver.{CutOver}
 use Rattle.migration_program.specs.declared.cutover_core.cutover.Phase.{Phase}

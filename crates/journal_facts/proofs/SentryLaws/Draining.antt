@@ -9,7 +9,7 @@ use Rattle.plain_server.specs.declared.answer.Answer.TheVariants as answers
 use Rattle.journal_facts.specs.SentryLaws.Sentries.{IsDrained, KnowsHint}
 use Rattle.journal_facts.proofs.SentryLaws.Guarding.{none_behind}
 use Rattle.plain_server.specs.declared.answer.Answer.{Answer}
-use Rattle.changelog_table.specs.ToolNames.{log_name}
+use Rattle.gho_values.specs.ToolNames.{log_name}
 use Rattle.changelog_table.specs.Hints.{last_hint, hint_in}
 use Rattle.migration_program.specs.declared.chunk_copier.copier.Copier.{Copier}
 use Rattle.migration_program.specs.declared.event_applier.applier.Applier.{Applier}

@@ -12,7 +12,7 @@ use Rattle.row_store.specs.Databases.{has_table as has_table_name}
 use Rattle.metadata_locks.specs.Granting.{HeldName, holds, refuser_of_name}
 use Rattle.journal_facts.specs.SentryLaws.Sentries.{Scene, HasSentry, IsAlone, IsLocked, IsHinted, IsDrained, RenameWaits, MayExchange, BehindLock, BehindHint, BehindDrain, BehindRename, BehindDrop, BehindUnlock, BehindFailure, WhereItWaits, HoldsLock, AtEnd, Guards, OthersHold, OthersTurn, DropsSentry, FreesLock, OnlyFreesLock, KnowsHint, MayAnswer}
 use Rattle.journal_facts.proofs.SentryLaws.Holding.{refused_shared, waits_behind, one_or_two}
-use Rattle.changelog_table.specs.ToolNames.{log_name, old_name}
+use Rattle.gho_values.specs.ToolNames.{log_name, old_name}
 use Rattle.changelog_table.specs.Hints.{hint_row, last_hint}
 use Rattle.migration_program.specs.declared.chunk_copier.copier.Copier.{Copier}
 use Rattle.migration_program.specs.declared.event_applier.applier.Applier.{Applier}

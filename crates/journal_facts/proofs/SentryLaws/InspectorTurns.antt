@@ -8,7 +8,7 @@ use Rattle.journal_facts.proofs.SentryLaws.Fitting.{failed_fits, ends_with}
 use Rattle.journal_facts.proofs.SentryLaws.OtherTurns.{inspector_guards}
 use Rattle.plain_server.specs.declared.answer.Answer.{Answer}
 use Rattle.plain_server.specs.declared.listing.TableName.{TableName}
-use Rattle.changelog_table.specs.ToolNames.{ghost_name}
+use Rattle.gho_values.specs.ToolNames.{ghost_name}
 use Rattle.migration_program.specs.declared.chunk_copier.copier.Copier.{Copier}
 use Rattle.migration_program.specs.declared.event_applier.applier.Applier.{Applier}
 use Rattle.migration_program.specs.declared.cutover_core.cutover.CutOver.{CutOver}

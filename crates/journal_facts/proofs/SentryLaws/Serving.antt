@@ -17,7 +17,7 @@ use Rattle.journal_facts.specs.SentryLaws.Turns.{LocksAreTaken, LogsNothing, Def
 use Rattle.journal_facts.proofs.SentryLaws.Holding.{are_two}
 use Rattle.plain_server.specs.States.{State, names_in, waiters}
 use Rattle.plan_words.specs.PlanData.{PlanData}
-use Rattle.changelog_table.specs.ToolNames.{old_name, ghost_name}
+use Rattle.gho_values.specs.ToolNames.{old_name, ghost_name}
 use Rattle.migration_program.specs.CutoverCore.Attempts.{exchange}
 use Rattle.migration_program.specs.EventApplier.Appliers.{events_of}
 

@@ -6,7 +6,7 @@ use Rattle.script_text.specs.declared.operator.OperatorWord.TheVariants.{ChunkSi
 use Rattle.gho_values.specs.SchemaRules.Lawful.{IsLawful}
 use Rattle.plain_server.specs.Conditions.{IsTableName}
 use Rattle.plan_words.specs.PlanData.{PlanData, new_schema}
-use Rattle.changelog_table.specs.ToolNames.{ghost_name, log_name, old_name}
+use Rattle.gho_values.specs.ToolNames.{ghost_name, log_name, old_name}
 use Rattle.migration_program.specs.JournalWords.Keeping.{words_of}
 use Rattle.journal_facts.specs.MachineLaws.Scripts.{ScriptsFit}
 

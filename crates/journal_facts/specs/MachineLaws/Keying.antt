@@ -24,7 +24,7 @@ use Rattle.plain_server.specs.declared.request.Request.{Request}
 use Rattle.plain_server.specs.declared.request.Request.TheVariants as requests
 use Rattle.plain_server.specs.StatementLaws.Databases.{IsOrderly}
 use Rattle.plan_words.specs.PlanData.{PlanData, old_schema, new_map}
-use Rattle.changelog_table.specs.ToolNames.{ghost_name}
+use Rattle.gho_values.specs.ToolNames.{ghost_name}
 use Rattle.migration_program.specs.JournalWords.Journals.{state_at}
 use Rattle.journal_facts.specs.MachineLaws.Tabling.{ghost_schema}
 

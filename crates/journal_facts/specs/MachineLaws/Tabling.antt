@@ -7,7 +7,7 @@ use Rattle.gho_values.specs.declared.gho_schema.schema.Schema.{Schema}
 use Rattle.row_store.specs.Databases.{Database, find_table}
 use Rattle.plain_server.specs.declared.request.Request.{Request}
 use Rattle.plan_words.specs.PlanData.{PlanData, old_schema, new_schema}
-use Rattle.changelog_table.specs.ToolNames.{ghost_name}
+use Rattle.gho_values.specs.ToolNames.{ghost_name}
 use Rattle.migration_program.specs.declared.cutover_core.cutover.Phase.TheVariants.{Resting}
 use Rattle.migration_program.specs.Setups.{Setup, Listing, Clearing, MakingLog, MakingGhost, Marking, Reaching, Ready, setup_call}
 use Rattle.migration_program.specs.Tools.{Course, SettingUp, Migrating, Work}

@@ -12,7 +12,7 @@ use Rattle.metadata_locks.specs.declared.request.Waiter.{Waiter}
 use Rattle.migration_program.specs.EventApplier.Appliers as appliers
 use Rattle.plain_server.specs.declared.answer.Answer.{Answer}
 use Rattle.plain_server.specs.States.{State, waiters, names_held}
-use Rattle.changelog_table.specs.ToolNames.{log_name, old_name}
+use Rattle.gho_values.specs.ToolNames.{log_name, old_name}
 use Rattle.changelog_table.specs.Hints.{hint_row, last_hint}
 use Rattle.migration_program.specs.declared.chunk_copier.copier.Copier.{Copier}
 use Rattle.migration_program.specs.declared.event_applier.applier.Applier.{Applier}

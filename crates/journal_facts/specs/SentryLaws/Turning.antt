@@ -11,7 +11,7 @@ use Rattle.plain_server.specs.declared.answer.Answer.TheVariants as answers
 use Rattle.migration_program.specs.ChunkCopier.Copiers as copiers
 use Rattle.migration_program.specs.EventApplier.Appliers as appliers
 use Rattle.journal_facts.specs.SentryLaws.Sentries.{scene, Guards, Fits, MayAnswer, LockerMay, LockerServes, RenamerServes, InspectorMay, InspectorTurns, InspectorWrites, OthersTurn, Rests, HasTurned}
-use Rattle.changelog_table.specs.ToolNames.{old_name}
+use Rattle.gho_values.specs.ToolNames.{old_name}
 use Rattle.changelog_table.specs.ToolTables.{sentry_schema}
 use Rattle.plain_server.specs.declared.request.Request.{Request}
 use Rattle.plain_server.specs.declared.answer.Answer.{Answer}

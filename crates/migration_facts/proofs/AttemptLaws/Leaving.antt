@@ -22,7 +22,7 @@ use Rattle.plain_server.specs.Serving.{Served, does, done, without_waiting, call
 use Rattle.plain_server.specs.Showing.{tables_shown}
 use Rattle.plain_server.specs.States.{State, session_of, is_in_transaction, view, waiting_of}
 use Rattle.plan_words.specs.PlanData.{PlanData}
-use Rattle.changelog_table.specs.ToolNames.{ghost_name, old_name}
+use Rattle.gho_values.specs.ToolNames.{ghost_name, old_name}
 use Rattle.migration_program.specs.JournalWords.Histories.{told_in}
 use Rattle.migration_program.specs.JournalWords.Journals.{opens, state_at}
 use Rattle.migration_program.specs.CutoverCore.Attempts.{exchange}

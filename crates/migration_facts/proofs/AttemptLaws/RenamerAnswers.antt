@@ -6,7 +6,7 @@ use Rattle.plain_server.specs.declared.answer.Answer.{Answer}
 use Rattle.plain_server.specs.declared.answer.Answer.TheVariants as answers
 use Rattle.plain_server.specs.declared.request.Request.{Request}
 use Rattle.plan_words.specs.PlanData.{PlanData, old_schema}
-use Rattle.changelog_table.specs.ToolNames.{ghost_name, old_name}
+use Rattle.gho_values.specs.ToolNames.{ghost_name, old_name}
 use Rattle.migration_program.specs.declared.cutover_core.cutover.Clearing.TheVariants.{Looking, Drops}
 use Rattle.migration_program.specs.declared.cutover_core.cutover.Hold.{Hold}
 use Rattle.migration_program.specs.declared.cutover_core.cutover.Phase.{Phase}

@@ -14,7 +14,7 @@ use Rattle.plain_server.specs.declared.request.Request.{Request}
 use Rattle.plain_server.specs.declared.request.Request.TheVariants as requests
 use Rattle.plain_server.specs.Showing.{tables_shown}
 use Rattle.plan_words.specs.PlanData.{PlanData}
-use Rattle.changelog_table.specs.ToolNames.{ghost_name, log_name, old_name}
+use Rattle.gho_values.specs.ToolNames.{ghost_name, log_name, old_name}
 use Rattle.changelog_table.specs.ToolTables.{log_schema}
 use Rattle.migration_program.specs.declared.cutover_core.cutover.Leftovers.{Leftovers}
 use Rattle.migration_program.specs.CutoverCore.Attempts.{is_clear, first_name, without_first, has_name}

@@ -22,7 +22,7 @@ use Rattle.plain_server.specs.Entries.{same_actor, is_cut}
 use Rattle.plain_server.specs.Showing.{tables_shown}
 use Rattle.plain_server.specs.States.{State, has_work}
 use Rattle.plan_words.specs.PlanData.{PlanData}
-use Rattle.changelog_table.specs.ToolNames.{ghost_name, old_name}
+use Rattle.gho_values.specs.ToolNames.{ghost_name, old_name}
 use Rattle.changelog_table.specs.ToolTables.{sentry_schema}
 use Rattle.migration_program.specs.JournalWords.Journals.{state_at, may_lose, IsFaithful}
 use Rattle.migration_program.specs.declared.cutover_core.cutover.Clearing.{Clearing as Cleared}

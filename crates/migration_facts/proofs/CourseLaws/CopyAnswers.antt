@@ -32,7 +32,7 @@ use Rattle.event_codec.specs.declared.event.Change.TheVariants.{Write}
 use Rattle.plain_server.specs.Serving.{does, done}
 use Rattle.plain_server.specs.States.{State, session_of, is_in_transaction, tables_named, writes_of, view}
 use Rattle.plan_words.specs.PlanData.{PlanData, old_schema, new_map}
-use Rattle.changelog_table.specs.ToolNames.{ghost_name}
+use Rattle.gho_values.specs.ToolNames.{ghost_name}
 use Rattle.migration_program.specs.JournalWords.Journals.{opens, state_at}
 use Rattle.journal_facts.specs.Holdings.{face_in}
 use Rattle.migration_facts.proofs.MigrationLaws.CopyLaws.Rows.{copies_image}

@@ -8,7 +8,7 @@ use Rattle.gho_values.specs.SchemaRules.Lawful.{IsLawful}
 use Rattle.alter_schema.specs.Altering.{altered}
 use Rattle.row_store.specs.Databases.{TableRows, find_table}
 use Rattle.plan_words.specs.PlanData.{Altered, PlanData, altered_by, new_altered, new_map, new_schema, no_schema, old_schema}
-use Rattle.changelog_table.specs.ToolNames.{ghost_name}
+use Rattle.gho_values.specs.ToolNames.{ghost_name}
 use Rattle.journal_facts.specs.Plans.{IsSerialPlan}
 use Rattle.journal_facts.specs.GhostLaws.GhostRows.Timelines.{IsPlanned, Migration}
 use Rattle.journal_facts.specs.GhostLaws.Holding.{Clustered}

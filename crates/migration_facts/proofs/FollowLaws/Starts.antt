@@ -22,7 +22,7 @@ use Rattle.plain_server.specs.Entries.{is_command, is_cut, same_actor}
 use Rattle.plain_server.specs.Jobs.{table_of}
 use Rattle.plain_server.specs.States.{State}
 use Rattle.plan_words.specs.PlanData.{PlanData}
-use Rattle.changelog_table.specs.ToolNames.{ghost_name, log_name}
+use Rattle.gho_values.specs.ToolNames.{ghost_name, log_name}
 use Rattle.changelog_table.specs.ToolTables.{log_schema}
 use Rattle.migration_program.specs.JournalWords.Journals.{opens, state_at, state_behind}
 use Rattle.migration_program.specs.JournalWords.Sessions.{live_session}

@@ -21,7 +21,7 @@ use Rattle.plain_server.specs.declared.entry.Entry.{Entry}
 use Rattle.plain_server.specs.Entries.{same_actor, is_cut}
 use Rattle.plain_server.specs.States.{State, is_of}
 use Rattle.plan_words.specs.PlanData.{PlanData}
-use Rattle.changelog_table.specs.ToolNames.{log_name, ghost_name}
+use Rattle.gho_values.specs.ToolNames.{log_name, ghost_name}
 use Rattle.changelog_table.specs.Hints.{hint_row, hint_if, hint_of, or_last, hint_in, last_hint}
 use Rattle.migration_program.specs.JournalWords.Journals.{state_at}
 use Rattle.migration_program.specs.declared.cutover_core.cutover.Clearing.TheVariants.{Looking, Drops}

@@ -11,7 +11,7 @@ use Rattle.event_codec.specs.declared.event.RowEvent.{RowEvent}
 use Rattle.plain_server.specs.declared.entry.Entry.{Entry}
 use Rattle.plain_server.specs.States.{State, is_of, unread}
 use Rattle.plan_words.specs.PlanData.{PlanData}
-use Rattle.changelog_table.specs.ToolNames.{log_name}
+use Rattle.gho_values.specs.ToolNames.{log_name}
 use Rattle.changelog_table.specs.Hints.{last_hint}
 use Rattle.migration_program.specs.JournalWords.Histories.{history, is_alter}
 use Rattle.migration_program.specs.JournalWords.Journals.{state_at}

@@ -8,7 +8,7 @@ use Rattle.event_codec.specs.declared.event.RowEvent.{RowEvent}
 use Rattle.plain_server.specs.declared.entry.Entry.{Entry}
 use Rattle.plain_server.specs.declared.session.Limits.{Limits}
 use Rattle.plain_server.specs.States.{State, opened}
-use Rattle.changelog_table.specs.ToolNames.{ghost_name}
+use Rattle.gho_values.specs.ToolNames.{ghost_name}
 use Rattle.migration_program.specs.declared.chunk_copier.copier.Copier.{Copier}
 use Rattle.migration_program.specs.declared.chunk_copier.copier.CopyStep.TheVariants.{Choosing}
 use Rattle.migration_program.specs.declared.event_applier.applier.Applier.{Applier}

@@ -26,7 +26,7 @@ use Rattle.plain_server.specs.declared.request.Request.{Request}
 use Rattle.plain_server.specs.declared.request.Request.TheVariants as requests
 use Rattle.plain_server.specs.declared.session.Waiting.{Waiting}
 use Rattle.plan_words.specs.PlanData.{PlanData}
-use Rattle.changelog_table.specs.ToolNames.{ghost_name, old_name}
+use Rattle.gho_values.specs.ToolNames.{ghost_name, old_name}
 use Rattle.migration_program.specs.CutoverCore.Attempts as cutovers
 use Rattle.migration_program.specs.CutoverCore.Attempts.{clears, exchange, is_free}
 use Rattle.migration_program.specs.declared.cutover_core.cutover.Clearing.{Clearing}

@@ -29,7 +29,7 @@ use Rattle.plain_server.specs.Entries.{is_client, is_command}
 use Rattle.plain_server.specs.Jobs.{after_events}
 use Rattle.plain_server.specs.States.{State, session_of, view, writes_of}
 use Rattle.plan_words.specs.PlanData.{PlanData, new_map, old_schema}
-use Rattle.changelog_table.specs.ToolNames.{ghost_name}
+use Rattle.gho_values.specs.ToolNames.{ghost_name}
 use Rattle.migration_program.specs.JournalWords.Journals.{opens, state_at}
 use Rattle.migration_program.specs.JournalWords.Sessions.{live_session}
 use Rattle.migration_program.specs.ChunkCopier.Copiers as copiers

@@ -3,7 +3,7 @@ use Rattle.std.specs.Prelude.{◌≡◌, ℕ, List, [], ◌∷◌, ◌++◌, Som
 use Rattle.gho_values.specs.GhoSchema.Clustering.{clustered_place}
 use Rattle.plain_server.specs.declared.entry.Entry.{Entry}
 use Rattle.plain_server.specs.declared.session.Limits.{Limits}
-use Rattle.changelog_table.specs.ToolNames.{ghost_name}
+use Rattle.gho_values.specs.ToolNames.{ghost_name}
 use Rattle.journal_facts.specs.Scenes.{Scene}
 use Rattle.journal_facts.specs.Turns.{IsSceneRun, scene_state}
 use Rattle.journal_facts.specs.GhostLaws.GhostRows.Moments.{Row}

@@ -14,7 +14,7 @@ use Rattle.script_text.specs.declared.statement.Statement.{Statement}
 use Rattle.plain_server.specs.declared.request.Request.TheVariants as requests
 use Rattle.plain_server.specs.Jobs.{table_of}
 use Rattle.plan_words.specs.PlanData.{PlanData, new_schema}
-use Rattle.changelog_table.specs.ToolNames.{ghost_name, log_name, old_name}
+use Rattle.gho_values.specs.ToolNames.{ghost_name, log_name, old_name}
 use Rattle.changelog_table.specs.ToolTables.{log_schema, sentry_schema}
 use Rattle.migration_program.specs.declared.cutover_core.cutover.Leftovers.{Leftovers}
 use Rattle.migration_program.specs.CutoverCore.Attempts.{first_name, exchange, writes_hint}

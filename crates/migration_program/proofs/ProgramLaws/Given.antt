@@ -16,7 +16,7 @@ use Rattle.plain_server.specs.Entries.{request_in}
 use Rattle.plan_words.specs.PlanData.{PlanData}
 use Rattle.migration_program.specs.JournalWords.Sessions.{live_session}
 use Rattle.migration_program.specs.JournalWords.Keeping.{words_of}
-use Rattle.changelog_table.specs.ToolNames.{ghost_name}
+use Rattle.gho_values.specs.ToolNames.{ghost_name}
 use Rattle.migration_program.specs.declared.chunk_copier.copier.Copier.{Copier}
 use Rattle.migration_program.specs.declared.chunk_copier.copier.CopyRange.{CopyRange}
 use Rattle.migration_program.specs.declared.chunk_copier.copier.CopyStep.{CopyStep}

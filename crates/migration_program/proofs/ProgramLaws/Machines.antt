@@ -5,7 +5,7 @@ use Rattle.gho_values.specs.declared.gho_schema.schema.Schema.{Schema}
 use Rattle.plain_server.specs.declared.answer.Answer.{Answer}
 use Rattle.plain_server.specs.declared.answer.Answer.TheVariants as answers
 use Rattle.plan_words.specs.PlanData.{PlanData}
-use Rattle.changelog_table.specs.ToolNames.{ghost_name}
+use Rattle.gho_values.specs.ToolNames.{ghost_name}
 use Rattle.migration_program.specs.declared.chunk_copier.copier.Copier.{Copier}
 use Rattle.migration_program.specs.declared.chunk_copier.copier.CopyStep.{CopyStep}
 use Rattle.migration_program.specs.declared.chunk_copier.copier.CopyStep.TheVariants as copying

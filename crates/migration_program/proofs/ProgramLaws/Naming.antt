@@ -6,7 +6,7 @@ use Rattle.std.specs.Str.{bytes_eq}
 use Rattle.std.proofs.Math.Bool.{or-true}
 use Rattle.std.proofs.lemmas.List.{length-append}
 use Rattle.std.proofs.lemmas.Slice.Eq.{bytes_eq-Decides}
-use Rattle.changelog_table.specs.ToolNames.{ghost_name, log_name, old_name, is_tool_name}
+use Rattle.gho_values.specs.ToolNames.{ghost_name, log_name, old_name, is_tool_name}
 use Rattle.migration_program.specs.declared.cutover_core.cutover.Leftovers.{Leftovers}
 use Rattle.migration_program.specs.CutoverCore.Attempts.{first_name}
 

@@ -22,7 +22,7 @@ use Rattle.migration_program.specs.declared.chunk_copier.copier.CopyStep.TheVari
 use Rattle.migration_program.specs.declared.chunk_copier.copier.Copier.{Copier}
 use Rattle.plain_server.specs.declared.outcome.Progress.{Progress}
 use Rattle.plain_server.specs.declared.outcome.Progress.TheVariants.{Going, TaskDone, TaskFailed, Unfit}
-use Rattle.changelog_table.specs.ToolNames.{ghost_name}
+use Rattle.gho_values.specs.ToolNames.{ghost_name}
 use Rattle.plain_server.specs.Reading.{keys_in, end_in}
 
 abbrev pub is_empty_range : Option CopyRange → Bool

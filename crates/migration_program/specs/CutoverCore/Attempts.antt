@@ -24,7 +24,7 @@ use Rattle.migration_program.specs.declared.cutover_core.cutover.Phase.TheVarian
 use Rattle.migration_program.specs.declared.cutover_core.cutover.Hold.{Hold}
 use Rattle.migration_program.specs.declared.cutover_core.cutover.Hold.TheVariants.{Nothing, Locks}
 use Rattle.migration_program.specs.declared.cutover_core.cutover.CutOver.{CutOver}
-use Rattle.changelog_table.specs.ToolNames.{ghost_name, log_name, old_name}
+use Rattle.gho_values.specs.ToolNames.{ghost_name, log_name, old_name}
 use Rattle.changelog_table.specs.ToolTables.{sentry_comment, sentry_schema}
 use Rattle.changelog_table.specs.Hints.{hint_row}
 

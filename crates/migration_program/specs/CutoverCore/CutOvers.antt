@@ -7,7 +7,7 @@ use Rattle.plain_server.specs.declared.listing.ShownWaiter.{ShownWaiter}
 use Rattle.plain_server.specs.declared.answer.Answer.TheVariants as answers
 use Rattle.plain_server.specs.declared.outcome.Progress.{Progress}
 use Rattle.plain_server.specs.declared.outcome.Progress.TheVariants.{Going, TaskDone, TaskFailed}
-use Rattle.changelog_table.specs.ToolNames.{ghost_name, log_name, old_name}
+use Rattle.gho_values.specs.ToolNames.{ghost_name, log_name, old_name}
 use Rattle.migration_program.specs.declared.cutover_core.cutover.Role.{Role}
 use Rattle.migration_program.specs.declared.cutover_core.cutover.Role.TheVariants.{Inspector, Locker, Renamer}
 use Rattle.migration_program.specs.declared.cutover_core.cutover.Stage.{Stage}

@@ -36,7 +36,7 @@ use Rattle.migration_program.specs.declared.event_applier.applier.ApplyStep.TheV
 use Rattle.migration_program.specs.declared.event_applier.applier.Applier.{Applier}
 use Rattle.plain_server.specs.declared.outcome.Progress.{Progress}
 use Rattle.plain_server.specs.declared.outcome.Progress.TheVariants.{Going, TaskDone, TaskFailed, Unfit}
-use Rattle.changelog_table.specs.ToolNames.{log_name}
+use Rattle.gho_values.specs.ToolNames.{log_name}
 use Rattle.changelog_table.specs.Hints.{last_hint}
 use Rattle.plain_server.specs.Reading.{events_in}
 

@@ -8,7 +8,7 @@ use Rattle.row_store.specs.Databases.{TableRows, Database, find_table, with_chan
 use Rattle.plain_server.specs.declared.entry.Entry.{Entry}
 use Rattle.plan_words.specs.PlanData.{PlanData}
 use Rattle.migration_program.specs.JournalWords.Altering.{plan_altered_table}
-use Rattle.changelog_table.specs.ToolNames.{is_tool_name}
+use Rattle.gho_values.specs.ToolNames.{is_tool_name}
 use Rattle.migration_program.specs.JournalWords.Journals.{state_at}
 use Rattle.migration_program.specs.JournalWords.Clients.{client_at}
 use Rattle.plain_server.specs.Alone.{alone, lines_run, nothing_ran}

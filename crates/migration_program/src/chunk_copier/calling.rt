@@ -5,7 +5,7 @@ ghost use Rattle.migration_program.specs.ChunkCopier.Copiers.{low_end, key_at, c
 
 use crate::chunk_copier::copier::{Copier, CopyRange, CopyStep};
 use crate::chunk_copier::reading::{end_told, keys_told};
-use changelog_table::ghost_name;
+use gho_values::tool_names::ghost_name;
 use gho_values::{Bound, Duplicate, Key, Sequence, Span};
 use plain_server::{Entry, Request};
 use std::alloc::{AllocError, Global};

@@ -5,7 +5,8 @@ ghost use Rattle.std.specs.Option.{is_some};
 ghost use Rattle.migration_program.specs.CutoverCore.Attempts.{exchange, locker_at, unlocks, locker_call, writes_hint, inspector_at, is_free, clears, inspector_call, renamer_call, next};
 
 use crate::cutover_core::cutover::{Clearing, CutOver, Hold, Phase, Role, Stage};
-use changelog_table::{ghost_name, hint_row, log_name, old_name, sentry_schema};
+use changelog_table::{hint_row, sentry_schema};
+use gho_values::tool_names::{ghost_name, log_name, old_name};
 use gho_values::{Duplicate, Name, Sequence};
 use plain_server::Request;
 use row_store::Pair;

@@ -1,14 +1,15 @@
 //! Which of the tool's tables stand, and which of them are still to be dropped.
 
 ghost use Rattle.std.specs.Prelude.{◌≡◌, IfOk};
-ghost use Rattle.changelog_table.specs.ToolNames.{ghost_name, log_name, old_name};
+ghost use Rattle.gho_values.specs.ToolNames.{ghost_name, log_name, old_name};
 ghost use Rattle.migration_program.specs.CutoverCore.Attempts.{is_clear, first_name, without_first, has_name, has_sentry};
 
 use crate::cutover_core::cutover::Leftovers;
-use changelog_table::{
-    SENTRY_COMMENT, ghost_name, is_ghost_name, is_log_name, is_old_name, log_name, old_name,
-};
+use changelog_table::SENTRY_COMMENT;
 use gho_values::Name;
+use gho_values::tool_names::{
+    ghost_name, is_ghost_name, is_log_name, is_old_name, log_name, old_name,
+};
 use plain_server::TableNames;
 use std::alloc::{AllocError, Global};
 
@@ -16,10 +17,7 @@ use std::alloc::{AllocError, Global};
 pub fn lists_new_table(table: &Name, tables: &TableNames) -> bool
     ensures { result ≡ has_name (ghost_name table.now) tables.now }
 {
-    tables
-        .as_slice()
-        .iter()
-        .any(|listed| is_ghost_name(table, &listed.name))
+    tables.as_slice().iter().any(|listed| is_ghost_name(table.as_str(), listed.name.as_str()))
 }
 
 /// Whether the changelog is listed. It takes no memory.
@@ -29,7 +27,7 @@ pub fn lists_log(table: &Name, tables: &TableNames) -> bool
     tables
         .as_slice()
         .iter()
-        .any(|listed| is_log_name(table, &listed.name))
+        .any(|listed| is_log_name(table.as_str(), listed.name.as_str()))
 }
 
 /// Whether a table is listed that has the name of the sentry and of the table from before. It takes no memory.
@@ -39,7 +37,7 @@ pub fn lists_old_table(table: &Name, tables: &TableNames) -> bool
     tables
         .as_slice()
         .iter()
-        .any(|listed| is_old_name(table, &listed.name))
+        .any(|listed| is_old_name(table.as_str(), listed.name.as_str()))
 }
 
 /// Whether the sentry is listed, and no other table of its name. It takes no memory.
@@ -48,7 +46,8 @@ pub(crate) fn lists_sentry(table: &Name, tables: &TableNames) -> bool
     ensures { result ≡ has_sentry table.now tables.now }
 {
     tables.as_slice().iter().any(|listed| {
-        is_old_name(table, &listed.name) && listed.comment.as_str() == SENTRY_COMMENT
+        is_old_name(table.as_str(), listed.name.as_str())
+            && listed.comment.as_str() == SENTRY_COMMENT
     })
 }
 

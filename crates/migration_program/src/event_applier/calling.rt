@@ -2,13 +2,13 @@
 
 ghost use Rattle.std.specs.Prelude.{◌≡◌, [], ◌∷◌, IfOk};
 ghost use Rattle.plain_server.specs.declared.request.Request.TheVariants as requests;
-ghost use Rattle.changelog_table.specs.ToolNames.{log_name};
+ghost use Rattle.gho_values.specs.ToolNames.{log_name};
 ghost use Rattle.migration_program.specs.EventApplier.Appliers.{starts, says, call_at, next, unfit_key};
 
 use crate::event_applier::applier::{Applier, ApplyStep};
 use crate::event_applier::planning::row_done;
-use changelog_table::log_name;
 use gho_values::gho_schema::key_of;
+use gho_values::tool_names::log_name;
 use gho_values::{Duplicate, Key, Sequence};
 use plain_server::{Entry, Request};
 use std::alloc::{AllocError, Global};

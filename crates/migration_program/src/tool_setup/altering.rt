@@ -2,12 +2,12 @@
 
 ghost use Rattle.std.specs.Prelude.{◌≡◌, IfOk};
 ghost use Rattle.plan_words.specs.PlanData.{new_schema, new_map};
-ghost use Rattle.changelog_table.specs.ToolNames.{ghost_name};
+ghost use Rattle.gho_values.specs.ToolNames.{ghost_name};
 
-use changelog_table::ghost_name;
 use gho_values::Duplicate;
 use gho_values::alter_image::ColumnMap;
 use gho_values::gho_schema::Schema;
+use gho_values::tool_names::ghost_name;
 use plan_words::Plan;
 use std::alloc::{AllocError, Global};
 

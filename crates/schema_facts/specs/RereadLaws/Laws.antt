@@ -7,7 +7,8 @@ use Rattle.gho_values.specs.declared.gho_schema.schema.Schema.{Schema}
 use Rattle.gho_values.specs.SchemaRules.Defaults.{defaults_fit}
 use Rattle.gho_values.specs.SchemaRules.Names.{names_differ}
 use Rattle.gho_values.specs.SchemaRules.Lawful.{IsLawful}
-use Rattle.gho_values.specs.SchemaRules.Limits.{is_column_name, is_tool_name, is_table_name, is_reserved}
+use Rattle.gho_values.specs.SchemaRules.Limits.{is_column_name, is_table_name, is_reserved}
+use Rattle.gho_values.specs.ToolNames.{is_tool_name}
 use Rattle.schema_print.specs.Printing.{printed_schema}
 use Rattle.schema_text.specs.Reading.{schema_at}
 use Rattle.schema_facts.specs.PrintLaws.Laws.{CanPrint}

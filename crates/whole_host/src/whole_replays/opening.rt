@@ -2,10 +2,10 @@
 
 ghost use Rattle.std.specs.Prelude.{◌≡◌, [], ◌∷◌, IfOk};
 ghost use Rattle.migration_program.specs.JournalWords.Journals.{opening};
-ghost use Rattle.changelog_table.specs.ToolNames.{log_name};
+ghost use Rattle.gho_values.specs.ToolNames.{log_name};
 ghost use Rattle.accepted_plans.specs.AcceptedLaws.Laws.{WasRead};
 
-use changelog_table::log_name;
+use gho_values::tool_names::log_name;
 use gho_values::{Duplicate, Names, Sequence};
 use journal_laws::accepted_runs::accepted_laws::laws::read_plans_are_serial;
 use journal_laws::accepted_runs::accepted_laws::option_laws::read_options_allow;

@@ -9,7 +9,7 @@ use Rattle.gho_values.specs.declared.gho_schema.schema.Schema.{Schema}
 use Rattle.gho_values.specs.declared.alter_image.map.MapColumn.{MapColumn}
 use Rattle.plain_server.specs.declared.request.Request.TheVariants as requests
 use Rattle.changelog_table.specs.Hints.{hint_row, hint_of}
-use Rattle.changelog_table.specs.ToolNames.{log_name}
+use Rattle.gho_values.specs.ToolNames.{log_name}
 use Rattle.changelog_table.specs.ToolTables.{sentry_schema}
 use Rattle.migration_program.specs.ChunkCopier.Copiers as copier
 use Rattle.migration_program.specs.EventApplier.Appliers as applier

@@ -1,7 +1,7 @@
 -- The text of a workload is read as its plan.
 use Rattle.std.proofs.Common.{◌≡◌, ℕ, false, nat_lt, [], ◌∷◌, length, Some, Ok, refl, arith}
 use Rattle.std.proofs.lemmas.Bool.Decides.{nat_tests}
-use Rattle.changelog_table.specs.ToolNames.{ghost_name, old_name}
+use Rattle.gho_values.specs.ToolNames.{ghost_name, old_name}
 use Rattle.order_reader.specs.Operators.{commands_from}
 use Rattle.turn_reader.specs.Turns.{runs_from}
 use Rattle.plan_document.specs.Openings.{opening_of}

@@ -6,7 +6,7 @@ use Rattle.std.proofs.lemmas.List.Sums.{count_by-le-length, sum_by-cons}
 use Rattle.std.specs.List.{count_by, range_with_len}
 use Rattle.script_text.specs.declared.script.ScriptLine.{ScriptLine}
 use Rattle.script_text.specs.declared.script.ScriptWord.TheVariants.{Do}
-use Rattle.changelog_table.specs.ToolNames.{ghost_name, log_name, old_name}
+use Rattle.gho_values.specs.ToolNames.{ghost_name, log_name, old_name}
 use Rattle.plan_tables.specs.Rows.{next_number}
 use Rattle.plan_document.specs.Clients.{is_statement, is_open_select, line_count, client_script, tool_names, clients_of}
 use Rattle.plan_document.specs.Walks.{each_from}

@@ -2,7 +2,7 @@ use Rattle.std.proofs.Common.{◌≡◌, ◌++◌, drop, filter, not}
 use Rattle.std.specs.Prelude.{option_to_list}
 use Rattle.std.specs.List.{flat_map}
 use Rattle.row_store.specs.Databases.{find_table}
-use Rattle.changelog_table.specs.ToolNames.{is_tool_name}
+use Rattle.gho_values.specs.ToolNames.{is_tool_name}
 use Rattle.alone_model.proofs.leaving.clients_of.Given as goal
 
 -- those of the other names follow

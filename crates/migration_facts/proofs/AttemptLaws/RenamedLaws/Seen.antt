@@ -20,7 +20,7 @@ use Rattle.plain_server.specs.declared.request.Request.{Request}
 use Rattle.plain_server.specs.declared.request.Request.TheVariants as requests
 use Rattle.plain_server.specs.Entries.{is_client, same_actor}
 use Rattle.plan_words.specs.PlanData.{PlanData}
-use Rattle.changelog_table.specs.ToolNames.{ghost_name}
+use Rattle.gho_values.specs.ToolNames.{ghost_name}
 use Rattle.migration_program.specs.JournalWords.Histories as histories
 use Rattle.migration_program.specs.JournalWords.Histories.{adds, alters, entry_adds, history, is_alter, told_in}
 use Rattle.migration_program.specs.JournalWords.Journals.{state_at, may_lose, IsFaithful}

@@ -17,7 +17,7 @@ use Rattle.migration_program.specs.declared.cutover_core.cutover.Role.TheVariant
 use Rattle.migration_program.specs.declared.cutover_core.cutover.Role.{Role}
 use Rattle.migration_program.specs.declared.cutover_core.cutover.Stage.{Stage}
 use Rattle.migration_program.specs.declared.cutover_core.cutover.Stage.TheVariants.{Guarding, Locking, Hinting, Draining, Drained, Showing, Dropping, Unlocking, Exchanging}
-use Rattle.changelog_table.specs.ToolNames.{ghost_name}
+use Rattle.gho_values.specs.ToolNames.{ghost_name}
 use Rattle.migration_program.specs.CutoverCore.Attempts.{is_clear, without_first, has_name, has_sentry}
 use Rattle.migration_program.specs.CutoverCore.CutOvers as cutovers
 use Rattle.migration_program.specs.CutoverCore.CutOvers.{failed, is_bad, locker_stage, begun, locker_phase, is_resting, finishing, seen, inspector_stage, ending_after, finishing_after, inspector_phase, waits_phase, renamer_phase, may_succeed, drained, ended, is_ending}

@@ -25,7 +25,7 @@ use Rattle.plain_server.specs.Entries.{same_actor, is_client, is_command, is_cut
 use Rattle.plain_server.specs.Serving.{serves}
 use Rattle.plain_server.specs.States.{State, has_work, view}
 use Rattle.plan_words.specs.PlanData.{PlanData, new_map}
-use Rattle.changelog_table.specs.ToolNames.{ghost_name}
+use Rattle.gho_values.specs.ToolNames.{ghost_name}
 use Rattle.migration_program.specs.JournalWords.Clients.{client_at, word_asks}
 use Rattle.migration_program.specs.JournalWords.Journals.{opens, state_at, IsFaithful}
 use Rattle.migration_program.specs.JournalWords.Sessions.{live_session}

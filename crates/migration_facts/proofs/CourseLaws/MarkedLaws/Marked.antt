@@ -19,7 +19,7 @@ use Rattle.plain_server.specs.declared.request.Request.{Request}
 use Rattle.plain_server.specs.declared.request.Request.TheVariants as requests
 use Rattle.plain_server.specs.Entries.{is_client}
 use Rattle.plan_words.specs.PlanData.{Altered, PlanData}
-use Rattle.changelog_table.specs.ToolNames.{ghost_name, log_name, old_name, is_tool_name}
+use Rattle.gho_values.specs.ToolNames.{ghost_name, log_name, old_name, is_tool_name}
 use Rattle.migration_program.specs.CutoverCore.Attempts.{exchange}
 use Rattle.migration_program.specs.JournalWords.Altering.{altered_table, imaged, plan_altered_table}
 use Rattle.migration_program.specs.JournalWords.Histories as histories

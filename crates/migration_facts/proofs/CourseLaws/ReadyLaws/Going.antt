@@ -18,7 +18,7 @@ use Rattle.plain_server.specs.declared.request.Request.{Request}
 use Rattle.plain_server.specs.Entries.{answer_at, is_cut}
 use Rattle.plain_server.specs.States.{State, has_work}
 use Rattle.plan_words.specs.PlanData.{PlanData}
-use Rattle.changelog_table.specs.ToolNames.{ghost_name}
+use Rattle.gho_values.specs.ToolNames.{ghost_name}
 use Rattle.migration_program.specs.JournalWords.Journals.{state_at, IsFaithful}
 use Rattle.migration_program.proofs.JournalWords.Answers.{answer_more, answer_here}
 use Rattle.migration_program.specs.ChunkCopier.Copiers as copiers

@@ -15,7 +15,7 @@ use Rattle.plain_server.specs.declared.request.Request.{Request}
 use Rattle.plain_server.specs.declared.request.Request.TheVariants as requests
 use Rattle.plain_server.specs.Jobs.{table_of}
 use Rattle.plan_words.specs.PlanData.{PlanData}
-use Rattle.changelog_table.specs.ToolNames.{ghost_name, log_name, is_tool_name}
+use Rattle.gho_values.specs.ToolNames.{ghost_name, log_name, is_tool_name}
 use Rattle.migration_program.specs.JournalWords.Clients.{client_at, client_asks, word_asks}
 use Rattle.migration_program.specs.JournalWords.Histories.{renames_away, takes_away}
 use Rattle.migration_program.specs.JournalWords.Keeping.{words_of}

@@ -22,7 +22,7 @@ use Rattle.plain_server.specs.Entries.{is_client, is_command}
 use Rattle.plain_server.specs.Jobs.{table_of}
 use Rattle.plain_server.specs.States.{State, session_of, is_in_transaction}
 use Rattle.plan_words.specs.PlanData.{PlanData}
-use Rattle.changelog_table.specs.ToolNames.{ghost_name, log_name, old_name, is_tool_name}
+use Rattle.gho_values.specs.ToolNames.{ghost_name, log_name, old_name, is_tool_name}
 use Rattle.migration_program.specs.JournalWords.Histories as histories
 use Rattle.migration_program.specs.JournalWords.Histories.{Alter, adds, alters, entry_adds, is_alter, request_waiting, takes_away, told_in}
 use Rattle.migration_program.specs.JournalWords.Journals.{state_at, IsFaithful}

@@ -4,7 +4,7 @@ use Rattle.std.specs.Str.{bytes_eq}
 use Rattle.std.proofs.lemmas.List.{append_cancel_left, take-append-drop}
 use Rattle.event_codec.specs.declared.event.RowEvent.{RowEvent}
 use Rattle.migration_program.specs.EventApplier.Appliers.{events_of}
-use Rattle.changelog_table.specs.ToolNames.{log_name}
+use Rattle.gho_values.specs.ToolNames.{log_name}
 use Rattle.journal_facts.proofs.SentryLaws.Draining.{IsRead, on_both}
 
 none_front : (t : List ℕ) (a b : List RowEvent) → events_of t (a ++ b) ≡ [] → events_of t a ≡ []

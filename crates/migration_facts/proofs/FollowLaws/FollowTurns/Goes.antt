@@ -18,7 +18,7 @@ use Rattle.plain_server.specs.declared.session.Limits.{Limits}
 use Rattle.plain_server.specs.Entries.{same_actor, is_command, is_cut}
 use Rattle.plain_server.specs.States.{State, has_work}
 use Rattle.plan_words.specs.PlanData.{PlanData}
-use Rattle.changelog_table.specs.ToolNames.{ghost_name}
+use Rattle.gho_values.specs.ToolNames.{ghost_name}
 use Rattle.migration_program.specs.JournalWords.Journals.{may_lose, opens, state_at}
 use Rattle.migration_program.specs.JournalWords.Keeping.{words_of}
 use Rattle.migration_program.specs.JournalWords.Sessions.{live_session, session_left}

@@ -17,7 +17,7 @@ use Rattle.plain_server.specs.Entries.{same_actor, is_client, is_command}
 use Rattle.plain_server.specs.Jobs.{table_of}
 use Rattle.plain_server.specs.States.{State}
 use Rattle.plan_words.specs.PlanData.{PlanData}
-use Rattle.changelog_table.specs.ToolNames.{ghost_name, log_name, old_name, is_tool_name}
+use Rattle.gho_values.specs.ToolNames.{ghost_name, log_name, old_name, is_tool_name}
 use Rattle.migration_program.specs.JournalWords.Journals.{opens, state_at}
 use Rattle.migration_program.specs.CutoverCore.Attempts as cutovers
 use Rattle.migration_program.specs.Programs.{given, IsGiven, tool_call}

@@ -14,7 +14,7 @@ use Rattle.plain_server.specs.Entries.{is_command, is_cut, same_actor}
 use Rattle.plain_server.specs.Jobs.{table_of}
 use Rattle.plain_server.specs.States.{State}
 use Rattle.plan_words.specs.PlanData.{PlanData}
-use Rattle.changelog_table.specs.ToolNames.{is_tool_name, log_name}
+use Rattle.gho_values.specs.ToolNames.{is_tool_name, log_name}
 use Rattle.migration_program.specs.JournalWords.Journals.{may_lose, opens, state_at}
 use Rattle.migration_program.specs.declared.cutover_core.cutover.Clearing.{Clearing}
 use Rattle.migration_program.specs.declared.cutover_core.cutover.Clearing.TheVariants.{Looking, Drops}

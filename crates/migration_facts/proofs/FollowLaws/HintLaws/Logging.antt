@@ -20,7 +20,7 @@ use Rattle.plain_server.specs.Entries.{is_cut}
 use Rattle.plain_server.specs.Jobs.{job_of, job_says}
 use Rattle.plain_server.specs.Locking.{need_within}
 use Rattle.plain_server.specs.States.{State}
-use Rattle.changelog_table.specs.ToolNames.{log_name}
+use Rattle.gho_values.specs.ToolNames.{log_name}
 use Rattle.migration_program.specs.JournalWords.Journals.{may_lose, opens}
 use Rattle.journal_facts.specs.Scenes.{Besides, Scene, SessionHold, Stored, no_hold}
 use Rattle.journal_facts.specs.Holdings.{face_of, stored}

@@ -9,7 +9,7 @@ use Rattle.plain_server.specs.declared.entry.Entry.{Entry}
 use Rattle.plain_server.specs.declared.request.Request.{Request}
 use Rattle.plan_words.specs.PlanData.{PlanData}
 use Rattle.changelog_table.specs.Hints.{last_hint}
-use Rattle.changelog_table.specs.ToolNames.{log_name}
+use Rattle.gho_values.specs.ToolNames.{log_name}
 use Rattle.migration_program.specs.JournalWords.Journals.{state_at}
 use Rattle.migration_program.specs.Setups.{Setup}
 use Rattle.migration_program.specs.Tools.{Course, Migrating, SettingUp, moment, stopped}

@@ -14,7 +14,7 @@ use Rattle.plain_server.specs.Answers.{refuses}
 use Rattle.plain_server.specs.Deeds.{Deed, deed}
 use Rattle.plain_server.specs.Showing.{ReadEvent, behind_last, events_given, events_read, read_from}
 use Rattle.plain_server.specs.States.{State, is_of}
-use Rattle.changelog_table.specs.ToolNames.{log_name}
+use Rattle.gho_values.specs.ToolNames.{log_name}
 use Rattle.migration_program.specs.JournalWords.Journals.{opens}
 use Rattle.journal_facts.specs.Scenes.{Scene}
 use Rattle.journal_facts.specs.Turns.{IsSceneRun, IsTold, about, scene_state}

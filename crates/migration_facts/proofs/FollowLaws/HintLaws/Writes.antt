@@ -29,7 +29,7 @@ use Rattle.plain_server.specs.Checking.{◌>>=◌, beside, new_row, or_refused, 
 use Rattle.plain_server.specs.Jobs.{events_of, job_of, job_says, result_in}
 use Rattle.plain_server.specs.Saying.{only, tells}
 use Rattle.changelog_table.specs.Hints.{hint_if, hint_in, hint_of, hint_row, last_hint, or_last}
-use Rattle.changelog_table.specs.ToolNames.{log_name}
+use Rattle.gho_values.specs.ToolNames.{log_name}
 use Rattle.journal_facts.proofs.SentryLaws.Hinting.{HintsBelow}
 
 -- THE FIRST VALUE

@@ -10,7 +10,7 @@ use Rattle.plain_server.specs.declared.answer.Answer.TheVariants as answers
 use Rattle.plain_server.specs.declared.listing.TableName.{TableName}
 use Rattle.plain_server.specs.declared.request.Request.{Request}
 use Rattle.plain_server.specs.declared.request.Request.TheVariants as requests
-use Rattle.changelog_table.specs.ToolNames.{ghost_name, log_name, old_name}
+use Rattle.gho_values.specs.ToolNames.{ghost_name, log_name, old_name}
 use Rattle.changelog_table.specs.ToolTables.{sentry_schema}
 use Rattle.migration_program.specs.CutoverCore.Attempts.{clears, first_name, has_name, has_sentry, inspector_call, is_clear, is_free, without_first, writes_hint}
 use Rattle.migration_program.specs.CutoverCore.CutOvers.{attempts_after, drained, ended, failed, finishing, inspector_phase, inspector_stage, is_bad, is_done, left_at_end, locker_phase, renamer_phase, seen, sentry_alone, waits_phase}

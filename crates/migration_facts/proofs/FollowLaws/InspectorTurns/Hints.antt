@@ -36,7 +36,7 @@ use Rattle.plain_server.specs.declared.session.Waiting.{Waiting}
 use Rattle.plain_server.specs.declared.work.StatementResult.{StatementResult}
 use Rattle.plain_server.specs.declared.work.Work.TheVariants as works
 use Rattle.changelog_table.specs.Hints.{hint_row}
-use Rattle.changelog_table.specs.ToolNames.{log_name}
+use Rattle.gho_values.specs.ToolNames.{log_name}
 use Rattle.changelog_table.specs.ToolTables.{log_schema}
 use Rattle.migration_program.specs.CutoverCore.Attempts.{writes_hint}
 use Rattle.journal_facts.specs.Turns.{about, request_of}

@@ -20,7 +20,7 @@ use Rattle.plain_server.specs.declared.entry.Entry.{Entry}
 use Rattle.plain_server.specs.declared.request.Request.{Request}
 use Rattle.plain_server.specs.declared.request.Request.TheVariants as requests
 use Rattle.plan_words.specs.PlanData.{PlanData}
-use Rattle.changelog_table.specs.ToolNames.{log_name}
+use Rattle.gho_values.specs.ToolNames.{log_name}
 use Rattle.changelog_table.specs.ToolTables.{log_schema}
 use Rattle.migration_program.specs.CutoverCore.Attempts as cutovers
 use Rattle.migration_program.specs.CutoverCore.Attempts.{exchange}

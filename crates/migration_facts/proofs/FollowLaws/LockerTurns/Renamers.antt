@@ -23,7 +23,7 @@ use Rattle.plain_server.specs.declared.entry.Entry.{Entry}
 use Rattle.plain_server.specs.declared.request.Request.{Request}
 use Rattle.plain_server.specs.declared.session.Waiting.{Waiting}
 use Rattle.plan_words.specs.PlanData.{PlanData}
-use Rattle.changelog_table.specs.ToolNames.{ghost_name, old_name}
+use Rattle.gho_values.specs.ToolNames.{ghost_name, old_name}
 use Rattle.migration_program.specs.declared.chunk_copier.copier.Copier.{Copier}
 use Rattle.migration_program.specs.declared.event_applier.applier.Applier.{Applier}
 use Rattle.migration_program.specs.CutoverCore.Attempts.{exchange}

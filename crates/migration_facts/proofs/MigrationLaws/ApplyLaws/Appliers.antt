@@ -37,7 +37,7 @@ use Rattle.plain_server.specs.Reading.{events_in}
 use Rattle.plain_server.specs.Saying.{tells}
 use Rattle.plain_server.specs.Showing.{ReadEvent, behind_last, events_read, read_from}
 use Rattle.plain_server.specs.States.{State}
-use Rattle.changelog_table.specs.ToolNames.{log_name}
+use Rattle.gho_values.specs.ToolNames.{log_name}
 use Rattle.migration_program.specs.JournalWords.Journals.{opens}
 use Rattle.migration_program.proofs.JournalWords.Answers.{answer_here}
 use Rattle.migration_program.specs.declared.event_applier.applier.Applier.{Applier}

@@ -41,7 +41,7 @@ use Rattle.plain_server.specs.Locking.{need_within, span_lock, span_needs}
 use Rattle.plain_server.specs.Needing.{lock_on}
 use Rattle.plain_server.specs.Reading.{end_in, keys_in}
 use Rattle.plain_server.specs.States.{State}
-use Rattle.changelog_table.specs.ToolNames.{ghost_name}
+use Rattle.gho_values.specs.ToolNames.{ghost_name}
 use Rattle.migration_program.specs.JournalWords.Journals.{opens}
 use Rattle.migration_program.proofs.JournalWords.Answers.{answer_here}
 use Rattle.migration_program.specs.declared.chunk_copier.copier.Chunk.{Chunk}

@@ -4,7 +4,7 @@ use Rattle.std.specs.List.{list_any}
 use Rattle.row_store.specs.Databases.{Database}
 use Rattle.plain_server.specs.declared.entry.Entry.{Entry}
 use Rattle.plan_words.specs.PlanData.{PlanData}
-use Rattle.changelog_table.specs.ToolNames.{ghost_name}
+use Rattle.gho_values.specs.ToolNames.{ghost_name}
 use Rattle.migration_program.specs.JournalWords.Histories.{history, is_alter}
 use Rattle.migration_program.specs.JournalWords.Journals.{state_at, IsFaithful}
 use Rattle.migration_program.specs.declared.cutover_core.cutover.Clearing.TheVariants.{Looking, Drops}

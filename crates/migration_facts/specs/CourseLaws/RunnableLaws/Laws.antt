@@ -9,7 +9,7 @@ use Rattle.plain_server.specs.StatementLaws.Covering.{IsOrderlyTable}
 use Rattle.plain_server.specs.Conditions.{IsTableName}
 use Rattle.plan_words.specs.PlanData.{PlanData, Altered, altered_by}
 use Rattle.plan_words.specs.KeptRows.{KeepsRows}
-use Rattle.changelog_table.specs.ToolNames.{ghost_name, log_name, old_name}
+use Rattle.gho_values.specs.ToolNames.{ghost_name, log_name, old_name}
 use Rattle.migration_program.specs.JournalWords.Keeping.{words_of}
 use Rattle.journal_facts.specs.MachineLaws.Forming.{SizeFits}
 use Rattle.journal_facts.specs.MachineLaws.Runnable.{IsRunnable}

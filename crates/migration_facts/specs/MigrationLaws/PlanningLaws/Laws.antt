@@ -6,7 +6,7 @@ use Rattle.gho_values.specs.GhoSchema.Tables.{IsTable}
 use Rattle.gho_values.specs.declared.alter_image.clause.Clause.{Clause}
 use Rattle.gho_values.specs.SchemaRules.Lawful.{IsLawful}
 use Rattle.alter_schema.specs.Altering.{altered}
-use Rattle.changelog_table.specs.ToolNames.{ghost_name}
+use Rattle.gho_values.specs.ToolNames.{ghost_name}
 use Rattle.plan_words.specs.PlanData.{Altered}
 use Rattle.journal_facts.specs.GhostLaws.GhostRows.Timelines.{Migration, IsPlanned}
 

@@ -2,9 +2,9 @@
 
 ghost use Rattle.std.specs.Prelude.{◌≡◌, ◌++◌, codes, IfOk};
 ghost use Rattle.std.specs.Str.{bytes_eq};
-ghost use Rattle.changelog_table.specs.ToolNames.{ghost_name, log_name, old_name, is_tool_name};
+ghost use Rattle.gho_values.specs.ToolNames.{ghost_name, log_name, old_name, is_tool_name};
 
-use gho_values::Name;
+use crate::Name;
 use std::alloc::{AllocError, Global};
 
 /// The migrated table's name between a low line and an ending.
@@ -43,13 +43,13 @@ pub fn old_name(alloc: Global, table: &Name) -> Result<Name, AllocError>
 
 /// Whether a name is the migrated table's between a low line and an ending.
 #[tactic(auto, using(crate::proofs::Prefixes::prefix))]
-fn is_name_with(table: &Name, ending: &str, name: &Name) -> bool
+fn is_name_with(table: &str, ending: &str, name: &str) -> bool
     ensures { result ≡ bytes_eq name.now (codes "_" ++ table.now ++ ending.now) }
 {
-    let Some(rest) = name.as_str().as_bytes().strip_prefix(b"_") else {
+    let Some(rest) = name.as_bytes().strip_prefix(b"_") else {
         return false;
     };
-    match rest.strip_prefix(table.as_str().as_bytes()) {
+    match rest.strip_prefix(table.as_bytes()) {
         Some(rest) => *rest == *ending.as_bytes(),
         None => false,
     }
@@ -57,7 +57,7 @@ fn is_name_with(table: &Name, ending: &str, name: &Name) -> bool
 
 /// Whether a table is the new one, as it is named before it takes the migrated table's name. It takes no memory.
 #[tactic(auto, unfolding(crate::specs::ToolNames::ghost_name))]
-pub fn is_ghost_name(table: &Name, name: &Name) -> bool
+pub fn is_ghost_name(table: &str, name: &str) -> bool
     ensures { result ≡ bytes_eq name.now (ghost_name table.now) }
 {
     is_name_with(table, "_gho", name)
@@ -65,7 +65,7 @@ pub fn is_ghost_name(table: &Name, name: &Name) -> bool
 
 /// Whether a table is the changelog, by its name. It takes no memory.
 #[tactic(auto, unfolding(crate::specs::ToolNames::log_name))]
-pub fn is_log_name(table: &Name, name: &Name) -> bool
+pub fn is_log_name(table: &str, name: &str) -> bool
     ensures { result ≡ bytes_eq name.now (log_name table.now) }
 {
     is_name_with(table, "_ghc", name)
@@ -73,14 +73,14 @@ pub fn is_log_name(table: &Name, name: &Name) -> bool
 
 /// Whether a table has the name of the sentry and of the table from before. It takes no memory.
 #[tactic(auto, unfolding(crate::specs::ToolNames::old_name))]
-pub fn is_old_name(table: &Name, name: &Name) -> bool
+pub fn is_old_name(table: &str, name: &str) -> bool
     ensures { result ≡ bytes_eq name.now (old_name table.now) }
 {
     is_name_with(table, "_del", name)
 }
 
 /// Whether a table has one of the tool's three names. It takes no memory.
-pub fn is_tool_name(table: &Name, name: &Name) -> bool
+pub fn is_tool_name(table: &str, name: &str) -> bool
     ensures { result ≡ is_tool_name table.now name.now }
 {
     is_ghost_name(table, name) || is_log_name(table, name) || is_old_name(table, name)
