@@ -12,7 +12,7 @@ use row_store::{Table as PlainTable, Tables as PlainTables};
 use std::alloc::{AllocError, Global};
 
 /// Copies of tables.
-pub fn copy_of(alloc: Global, tables: &NameMap<Table>) -> Result<NameMap<Table>, AllocError>
+pub fn copied_tables(alloc: Global, tables: &NameMap<Table>) -> Result<NameMap<Table>, AllocError>
     requires { AreNamed tables.now }
     ensures tables { IfOk result (λ copy. database (stored copy.values) ≡ database (stored tables.now.values)) }
     ensures named { IfOk result AreNamed }

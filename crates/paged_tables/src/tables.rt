@@ -6,7 +6,7 @@ ghost use Rattle.row_store.specs.declared.tables.AddFault.{AddFault};
 ghost use Rattle.paged_tables.specs.PagedDatabases.{stored_of};
 
 use crate::adding::add_new;
-use crate::copying::{copy_of, paged_tables};
+use crate::copying::{copied_tables, paged_tables};
 use crate::finding::{has_name, named, place_of};
 use crate::renaming::rename_from;
 use crate::row_pages::Table;
@@ -98,7 +98,7 @@ impl Tables {
         ensures { IfOk result (λ copy. database copy ≡ database self.now) }
     {
         Ok(Tables {
-            tables: copy_of(alloc, &self.tables)?,
+            tables: copied_tables(alloc, &self.tables)?,
         })
     }
 

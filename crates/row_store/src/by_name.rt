@@ -56,7 +56,10 @@ pub(crate) fn add_new(tables: &mut NameMap<Table>, table: Table) -> Result<(), A
 }
 
 /// Copies of tables.
-pub(crate) fn copy_of(alloc: Global, tables: &NameMap<Table>) -> Result<NameMap<Table>, AllocError>
+pub(crate) fn copied_tables(
+    alloc: Global,
+    tables: &NameMap<Table>,
+) -> Result<NameMap<Table>, AllocError>
     requires { AreNamed tables.now }
     ensures tables { IfOk result (λ copy. database copy.values ≡ database tables.now.values) }
     ensures named { IfOk result AreNamed }

@@ -3,7 +3,7 @@
 ghost use Rattle.std.specs.Prelude.{◌≡◌, ◌≤◌, ◌<◌, ◌+◌, ◌==◌, true, [], ◌∷◌, ◌++◌, length, slice_get, option_map, option_and_then, option_copied, IfOk, OnOk, OnErr, IfErr, IsSome, IsSomeAnd};
 ghost use Rattle.row_store.specs.Databases.{database, find_table, has_table, find_stored, others, spare_in, put_row, remove_row, row_at_key, IsNewIn, NamesDiffer, rename_tables, IsRenameFault, spares};
 
-use crate::by_name::{add_new, copy_of, has_name, named, place_of, rename_from};
+use crate::by_name::{add_new, copied_tables, has_name, named, place_of, rename_from};
 use crate::renaming::{Pairs, RenameFault};
 use crate::table::Table;
 use gho_values::{Key, Name, Row};
@@ -114,7 +114,7 @@ impl Tables {
         ensures { IfOk result (λ copy. database copy ≡ database self.now) }
     {
         Ok(Tables {
-            tables: copy_of(alloc, &self.tables)?,
+            tables: copied_tables(alloc, &self.tables)?,
         })
     }
 

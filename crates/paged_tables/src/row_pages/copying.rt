@@ -35,7 +35,7 @@ pub fn table_of(alloc: Global, schema: Schema, rows: &[Row]) -> Result<Table, Al
 }
 
 /// A copy of a table, with what room it may have.
-pub fn copy_of(alloc: Global, table: &Table) -> Result<Table, AllocError>
+pub fn copied_table(alloc: Global, table: &Table) -> Result<Table, AllocError>
     ensures { IfOk result (λ copy. copy.table ≡ table.now.table) }
 {
     let schema = table.schema();

@@ -12,7 +12,7 @@ ghost use Rattle.paged_tables.specs.RowPages.StoredRows.{ArePagesOfRows};
 
 use crate::row_pages::by_key::{order_by, places_at};
 use crate::row_pages::clashing::{clash_in, earlier, first_clash};
-use crate::row_pages::copying::{copy_of, table_of};
+use crate::row_pages::copying::{copied_table, table_of};
 use crate::row_pages::indexes::{KeyIndex, add_all, make_indexes, reserve_all, take_all};
 use crate::row_pages::places::{Sought, found, place_of_row, row_with_key};
 use crate::row_pages::span_rows::SpanRows;
@@ -75,7 +75,7 @@ impl Table {
     pub fn copy_table(&self, alloc: Global) -> Result<Table, AllocError>
         ensures { IfOk result (λ copy. copy.table ≡ self.now.table) }
     {
-        copy_of(alloc, self)
+        copied_table(alloc, self)
     }
 
     /// What its columns and keys are. The rows stand in order of the clustered key.

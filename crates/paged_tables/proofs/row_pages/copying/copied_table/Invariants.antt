@@ -1,5 +1,5 @@
 use Rattle.std.proofs.Common.{◌≡◌, ◌≤◌, ◌++◌, length}
-use Rattle.paged_tables.proofs.row_pages.copying.copy_of.Given as goal
+use Rattle.paged_tables.proofs.row_pages.copying.copied_table.Given as goal
 
 -- the rows that are put and those that are left are all, and there is room for these
 abbrev pub invariant-loop-row : goal.invariant-loop-row

@@ -2,7 +2,7 @@ use Rattle.std.proofs.Common.{◌≡◌, ◌∙◌, ◌∷◌, ◌++◌, List, s
 use Rattle.gho_values.specs.GhoSchema.Rows.{key_places}
 use Rattle.row_store.proofs.Orders.{Row}
 use Rattle.paged_tables.proofs.RowPages.PutLast.{next_ascends}
-use Rattle.paged_tables.proofs.row_pages.copying.copy_of.Goals as goal
+use Rattle.paged_tables.proofs.row_pages.copying.copied_table.Goals as goal
 
 pub put_last-requires-clause-last : goal.put_last-requires-clause-last
 put_last-requires-clause-last c =

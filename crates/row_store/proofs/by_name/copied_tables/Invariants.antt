@@ -1,7 +1,7 @@
 use Rattle.std.proofs.Common.{◌≡◌, take}
 use Rattle.row_store.specs.Databases.{database}
 use Rattle.row_store.specs.KeptByName.{AreNamed}
-use Rattle.row_store.proofs.by_name.copy_of.Given as goal
+use Rattle.row_store.proofs.by_name.copied_tables.Given as goal
 
 -- the tables so far are copied, each under its name
 abbrev pub invariant-loop-place : goal.invariant-loop-place

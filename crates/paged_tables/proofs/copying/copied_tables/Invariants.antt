@@ -1,7 +1,7 @@
 use Rattle.std.proofs.Common.{◌≡◌, take}
 use Rattle.row_store.specs.Databases.{database}
 use Rattle.paged_tables.specs.PagedDatabases.{stored, AreNamed}
-use Rattle.paged_tables.proofs.copying.copy_of.Given as goal
+use Rattle.paged_tables.proofs.copying.copied_tables.Given as goal
 
 -- the tables so far are copied, each under its name
 abbrev pub invariant-loop-place : goal.invariant-loop-place
