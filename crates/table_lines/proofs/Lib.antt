@@ -1,2 +1,2 @@
-mod SortedNames
+pub mod SortedNames
 pub mod Steps
