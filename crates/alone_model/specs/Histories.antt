@@ -1,9 +1,9 @@
 -- *A history alone*: what happened, one thing after the other, with nobody beside it. (MySQL's manual, "Transaction
 -- Isolation Levels", under SERIALIZABLE; the order is that in which transactions ended, this project's rule.)
-use Rattle.std.specs.Prelude.{List, [], ◌∷◌, ◌++◌, map, Option, Some, None}
-use Rattle.std.specs.List.{AllByRecursion, flat_map}
+use Rattle.std.specs.Prelude.{List, [], ◌∷◌, ◌++◌, Option, Some, None}
+use Rattle.std.specs.List.{AllByRecursion}
 use Rattle.std.specs.Option.{option_and_then}
-use Rattle.row_store.specs.Databases.{TableRows, Database}
+use Rattle.row_store.specs.Databases.{Database}
 use Rattle.gho_values.specs.SchemaRules.Lawful.{IsLawful}
 use Rattle.plain_server.specs.Alone.{alone}
 use Rattle.plain_server.specs.declared.transaction.Reply.{Reply}

@@ -41,12 +41,9 @@ fn imaged(
     map: &[MapColumn],
     rows: &[Row],
 ) -> Result<Option<PlainTable>, AllocError>
+    requires { length map.now < 2 ^ 32 }
     ensures { IfOk result (λ made. made ≡ imaged (Some (schema, map.now)) rows.now) }
 {
-    // There is no memory for a table of so many columns.
-    if map.len() > u32::MAX as usize {
-        return Err(AllocError);
-    }
     match images(alloc, map, rows)? {
         Some(rows) => Ok(Some(PlainTable::new(schema, rows))),
         None => Ok(None),
