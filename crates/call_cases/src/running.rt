@@ -1,21 +1,15 @@
 //! The run over the lines of files.
 
-use crate::line::Line;
-use crate::reading::CallFault;
+use crate::calls::answer;
+use case_lines::{CallFault, Line};
 use gho_values::Text;
 use std::alloc::{AllocError, Global};
 use std::rt::Files;
 use std::{fs, io};
 
-/// The calls that a program runs.
-pub trait Calls {
-    /// What a call answers to its input.
-    fn answer(alloc: Global, call: &str, input: &str) -> Result<Text, CallFault>;
-}
-
 /// What the line's call answers, or that it could not be read.
-fn told_answer<C: Calls>(alloc: Global, line: &Line<'_>) -> Result<Text, AllocError> {
-    match C::answer(alloc, line.call, line.input.as_str()) {
+fn told_answer(alloc: Global, line: &Line<'_>) -> Result<Text, AllocError> {
+    match answer(alloc, line.call, line.input.as_str()) {
         Ok(answer) => Ok(answer),
         Err(CallFault::Memory) => Err(AllocError),
         Err(CallFault::Unread) => {
@@ -27,14 +21,14 @@ fn told_answer<C: Calls>(alloc: Global, line: &Line<'_>) -> Result<Text, AllocEr
 }
 
 /// Whether the line's call answers as it says. Where it doesn't, says what it answers.
-fn is_as_expected<C: Calls, R: Print + AllocGlobal>(rt: &R, text: &str) -> io::Result<bool> {
+fn is_as_expected<R: Print + AllocGlobal>(rt: &R, text: &str) -> io::Result<bool> {
     match Line::new(rt.alloc(), text)? {
         None => {
             println!(rt; "{text}\n    is no line")?;
             Ok(false)
         }
         Some(line) => {
-            let answer = told_answer::<C>(rt.alloc(), &line)?;
+            let answer = told_answer(rt.alloc(), &line)?;
             let expected = answer.as_str() == line.answer.as_str();
             if !expected {
                 println!(rt; "{text}\n    answers {}", answer.as_str())?;
@@ -45,24 +39,24 @@ fn is_as_expected<C: Calls, R: Print + AllocGlobal>(rt: &R, text: &str) -> io::R
 }
 
 /// Runs the lines of a file, but for those that are empty or begin with a number sign.
-fn run_lines<C: Calls, R: Print + AllocGlobal>(rt: &R, name: &str, text: &str) -> io::Result<()> {
+fn run_lines<R: Print + AllocGlobal>(rt: &R, name: &str, text: &str) -> io::Result<()> {
     let mut lines = 0u64;
     let mut expected = 0u64;
     for line in text.lines() {
         if !line.is_empty() && !line.starts_with('#') {
             lines = lines.saturating_add(1);
-            expected = expected.saturating_add(u64::from(is_as_expected::<C, R>(rt, line)?));
+            expected = expected.saturating_add(u64::from(is_as_expected(rt, line)?));
         }
     }
     println!(rt; "{name}: {expected} of {lines} calls answer as expected")
 }
 
 /// Runs the lines of the files that the file `files` names, and says of which the call answers otherwise.
-pub fn run_files<C: Calls, R: Print + AllocGlobal + Files>(rt: &R) -> io::Result<()> {
+pub fn run_files<R: Print + AllocGlobal + Files>(rt: &R) -> io::Result<()> {
     let names = fs::read_to_string(rt, "files")?;
     for name in names.lines() {
         let text = fs::read_to_string(rt, name)?;
-        run_lines::<C, R>(rt, name, text.as_str())?;
+        run_lines(rt, name, text.as_str())?;
     }
     Ok(())
 }
