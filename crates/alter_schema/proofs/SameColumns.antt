@@ -1,12 +1,9 @@
 -- Comparing the columns of two keys one after the other, as a loop does.
-use Rattle.std.proofs.Common.{◌≡◌, ◌≢◌, ℕ, suc, ◌+◌, ◌<◌, ◌≤◌, Bool, true, false, ◌&&◌, List, [], ◌∷◌, length, drop, get_or, Option, refl, sym, ap, ◌∙◌}
+use Rattle.std.proofs.Common.{◌≡◌, ◌≢◌, ℕ, suc, ◌+◌, ◌<◌, ◌≤◌, Bool, true, false, List, [], ◌∷◌, length, drop, get_or, Option, refl, sym, ap, ◌∙◌}
 use Rattle.std.specs.List.{slice_get}
+use Rattle.std.proofs.Math.Bool.{and-false}
 use Rattle.std.proofs.lemmas.List.{drop_more, drop_all}
 use Rattle.alter_schema.specs.Altering.{is_origin, same_columns}
-
-and_false : (b : Bool) → (b && false) ≡ false
-and_false true = refl
-and_false false = refl
 
 -- keys of different lengths have different columns
 pub lengths_differ : (origins : List (Option ℕ)) (places old : List ℕ) → length places ≢ length old → same_columns origins places old ≡ false
@@ -14,7 +11,7 @@ unfolding same_columns
 lengths_differ origins [] [] ne = absurd (ne refl)
 lengths_differ origins [] (b ∷ old) ne = refl
 lengths_differ origins (p ∷ places) [] ne = refl
-lengths_differ origins (p ∷ places) (b ∷ old) ne = rw (lengths_differ origins places old (λ e. ne (ap suc e))) (and_false (is_origin (slice_get origins p) b))
+lengths_differ origins (p ∷ places) (b ∷ old) ne = rw (lengths_differ origins places old (λ e. ne (ap suc e))) (and-false (is_origin (slice_get origins p) b))
 
 module _ (origins : List (Option ℕ)) (places old : List ℕ) (i : ℕ) (total : Bool) where
   pub goes_on : i < length places → i < length old → is_origin (slice_get origins (get_or places i 0)) (get_or old i 0) ≡ true → same_columns origins (drop i places) (drop i old) ≡ total → same_columns origins (drop (i + 1) places) (drop (i + 1) old) ≡ total

@@ -1,7 +1,7 @@
 -- How far a client is in its script, as the code keeps it.
 use Rattle.std.proofs.Common.{◌≡◌, ℕ, suc, ◌+◌, ◌-◌, ◌<◌, ◌≤◌, ◌^◌, ◌==◌, Bool, true, false, not, cond, List, [], ◌∷◌, ◌++◌, length, take, drop, get_or, Option, Some, None, is_some, refl, sym, ◌∙◌, ap, ap₂, arith}
 use Rattle.std.proofs.lemmas.Bool.Decides.{nat_tests}
-use Rattle.std.proofs.lemmas.List.{drop_all, drop_more, length-append, length-drop, take_all}
+use Rattle.std.proofs.lemmas.List.{drop_all, drop_more, length-append, take_rest}
 use Rattle.std.proofs.lemmas.List.Sums.{fold-append}
 use Rattle.std.specs.Prelude.{unwrap_or}
 use Rattle.script_text.specs.declared.actor.Actor.TheVariants.{Client}
@@ -97,14 +97,11 @@ replies_found plan journal number script is = walk plan number [] journal ∙ ap
 
 -- ---- the script behind a transaction, line by line
 
-rest : (lines : List ScriptLine) (place : ℕ) → take (length lines - place) (drop place lines) ≡ drop place lines
-rest lines place = take_all (length lines - place) (drop place lines) (let size : length (drop place lines) ≡ length lines - place = length-drop place lines in omega (arith, size))
-
 pub ends_here : (lines : List ScriptLine) (place : ℕ) (line : ScriptLine) → place < length lines → line ≡ get_or lines place line → closes line.word ≡ true → behind_transaction (drop place lines) ≡ behind_transaction lines
     → take (length lines - (place + 1)) (drop (place + 1) lines) ≡ behind_transaction lines
 ends_here lines place line within at is so_far =
     let here : behind_transaction (drop place lines) ≡ drop (place + 1) lines = rw (drop_more lines place line within) (rw (sym at) (rw is refl)) in
-    rest lines (place + 1) ∙ sym here ∙ so_far
+    take_rest lines (place + 1) ∙ sym here ∙ so_far
 
 pub goes_on : (lines : List ScriptLine) (place : ℕ) (line : ScriptLine) → place < length lines → line ≡ get_or lines place line → closes line.word ≡ false → behind_transaction (drop place lines) ≡ behind_transaction lines
     → behind_transaction (drop (place + 1) lines) ≡ behind_transaction lines

@@ -3,6 +3,7 @@ use Rattle.std.proofs.Common.{◌≡◌, ℕ, ◌+◌, ◌==◌, Bool, true, fal
 use Rattle.std.specs.Prelude.{is_some}
 use Rattle.std.specs.List.{slice_get}
 use Rattle.std.proofs.lemmas.Bool.{false≢true}
+use Rattle.std.proofs.lemmas.Option.{same_Some}
 use Rattle.script_text.specs.declared.actor.Actor.{Actor}
 use Rattle.script_text.specs.declared.actor.Actor.TheVariants.{Op, Insp, Copy, Apply, Lock, Ren, Client}
 use Rattle.script_text.specs.declared.loss.Loss.{Loss}
@@ -29,19 +30,16 @@ pub data Comes (plan : PlanData) (journal : List Entry) (actor : Actor) (turn : 
   Cuts : cut_due plan journal ≡ Some turn.actor → turn.side ≡ None → turn.asked ≡ Cut → Comes plan journal actor turn
   Gives : cut_due plan journal ≡ None → turn.actor ≡ actor → given plan journal turn.actor ≡ Some turn.asked → turn.side ≡ side_due plan journal turn.actor → Comes plan journal actor turn
 
-some_turn : (one other : Turn) → Some one ≡ Some other → one ≡ other
-some_turn one other same = cc
-
 pub comes : (plan : PlanData) (journal : List Entry) (actor : Actor) (turn : Turn) → due plan journal actor ≡ Some turn → Comes plan journal actor turn
 unfolding due
 comes plan journal actor turn is = by (cut_due plan journal) refl is
   where
     gives : (asked : Option Asked) → cut_due plan journal ≡ None → given plan journal actor ≡ asked → given_turn plan journal actor asked ≡ Some turn → Comes plan journal actor turn
     gives None none given_so same = absurd (cc)
-    gives (Some asked) none given_so same = subst (Comes plan journal actor) (some_turn (own_turn plan journal actor asked) turn same) (Gives none refl given_so refl)
+    gives (Some asked) none given_so same = subst (Comes plan journal actor) (same_Some (own_turn plan journal actor asked) turn same) (Gives none refl given_so refl)
 
     by : (cut : Option Actor) → cut_due plan journal ≡ cut → due_by plan journal actor cut ≡ Some turn → Comes plan journal actor turn
-    by (Some other) at same = subst (Comes plan journal actor) (some_turn (cut_turn other) turn same) (Cuts at refl refl)
+    by (Some other) at same = subst (Comes plan journal actor) (same_Some (cut_turn other) turn same) (Cuts at refl refl)
     by None none same = gives (given plan journal actor) none refl same
 
 -- WHAT IS GIVEN IS A CALL, A POLL OR A COMMAND

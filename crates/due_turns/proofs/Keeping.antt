@@ -1,6 +1,7 @@
 -- A journal that a run keeps is kept with the turn that is due.
 use Rattle.std.proofs.Common.{◌≡◌, ◌≢◌, ℕ, ◌+◌, ◌<◌, false, not, List, [], Option, Some, None, refl, sym, ap, ◌∙◌, subst, arith}
 use Rattle.std.proofs.lemmas.Bool.{true≢false, false≢true}
+use Rattle.std.proofs.lemmas.Option.{none-some}
 use Rattle.script_text.specs.declared.actor.Actor.{Actor}
 use Rattle.script_text.specs.declared.actor.Actor.TheVariants.{Op, Insp, Copy, Apply, Lock, Ren, Client}
 use Rattle.plain_server.specs.Along.{Along-more}
@@ -120,10 +121,7 @@ module _ (plan : PlanData) (journal : List Entry) (server : State) (actor : Acto
 
   followed : IsFollowed plan journal entry
   unfolding entry_on
-  followed = record { given = follows_given; session = seated turn.asked (live_session journal turn.actor) (λ cut none. no (cut_session cut).number (sym none ∙ (cut_session cut).is)) refl }
-    where
-      no : (n : ℕ) → None ≡ Some n → ⊥
-      no n same = cc
+  followed = record { given = follows_given; session = seated turn.asked (live_session journal turn.actor) (λ cut none. none-some (cut_session cut).number (sym none ∙ (cut_session cut).is)) refl }
 
   pub turn_kept : IsKeptWith plan journal server entry
   turn_kept = record {

@@ -3,11 +3,12 @@ use Rattle.std.proofs.Common.{◌≡◌, ◌≢◌, ℕ, zero, suc, ◌+◌, ◌
 use Rattle.std.specs.Int.{w8, w32, w64, w128, from_be_bytes, cast_signed}
 use Rattle.std.specs.List.{AllByRecursion}
 use Rattle.std.specs.Str.{IsUtf8, is_utf8}
-use Rattle.std.proofs.lemmas.Bool.{and_parts}
+use Rattle.std.proofs.lemmas.Bool.{and_parts, eqb-true, leb-true}
 use Rattle.std.proofs.lemmas.Bool.Decides.{nat_tests}
 use Rattle.std.proofs.lemmas.Int.{of_z-to_z}
 use Rattle.std.proofs.lemmas.List.{append-nil, take_at, take-append-drop, length-take-le}
 use Rattle.std.proofs.lemmas.Nat.{be_bytes_4, be_bytes_8}
+use Rattle.std.proofs.lemmas.Option.{cond_some}
 use Rattle.std.proofs.lemmas.Str.{IsUtf8-from_is_utf8}
 use Rattle.std.proofs.Math.Facts.{Fits-lt-pow}
 use Rattle.gho_values.specs.declared.value.Value.{Value}
@@ -58,12 +59,6 @@ both_ok {A} {B} a c b d e = (ap (first a) e, ap (second b) e)
     second default (Ok p) = p.1
     second default (Err fault) = default
 
-at_most : (n m : ℕ) → nat_le n m ≡ true → n ≤ m
-at_most n m e = grind (arith, nat_tests)
-
-alike : (n m : ℕ) → nat_eq n m ≡ true → n ≡ m
-alike n m e = grind (arith, nat_tests)
-
 apart : (n m : ℕ) → nat_eq n m ≡ false → n ≢ m
 apart n m e = λ same. grind (arith, nat_tests)
 
@@ -82,7 +77,7 @@ taken_parts fault n bytes prefix rest e =
     let c : (nat_le n (length bytes) ≡ true) × (pair (take n bytes) (drop n bytes) ≡ Ok (prefix, rest)) = chosen (nat_le n (length bytes)) (Ok (take n bytes, drop n bytes)) fault (prefix, rest) e in
     let p : (take n bytes ≡ prefix) × (drop n bytes ≡ rest) = both_ok (take n bytes) prefix (drop n bytes) rest c.1 in (
       sym (take-append-drop n bytes) ∙ ap (λ f. f ++ drop n bytes) p.0 ∙ ap (λ r. prefix ++ r) p.1,
-      ap length (sym p.0) ∙ length-take-le n bytes (at_most n (length bytes) c.0),
+      ap length (sym p.0) ∙ length-take-le n bytes (leb-true n (length bytes) c.0),
     )
 
 length_there : (size : List ℕ) → Bytes size → length size ≡ 4 → length_bytes (from_be_bytes w32 size) ≡ size
@@ -138,10 +133,6 @@ low_of high low fits = omega arith
 both_fit : (high low : ℕ) → high < 2 ^ 64 → low < 2 ^ 64 → high * 2 ^ 64 + low < 2 ^ 128
 both_fit high low p q = omega arith
 
-some_of : {A : Type 0} (b : Bool) (a v : A) → cond b (Some a) None ≡ Some v → (b ≡ true) × (a ≡ v)
-some_of true a v e = (refl, cc)
-some_of false a v e = absurd cc
-
 number_encoded : (high low : List ℕ) → Bytes high → Bytes low → length high ≡ 8 → length low ≡ 8 → number_bytes (cast_signed w128 (from_be_bytes w64 high * 2 ^ 64 + from_be_bytes w64 low)) ≡ high ++ low
 unfolding number_bytes
 number_encoded high low all_high all_low eight_high eight_low =
@@ -168,7 +159,7 @@ number_parts bytes value rest all e =
     let those : Bytes low × Bytes last = parts low last (subst Bytes q.0 these.1) in
     let z : ℤ = cast_signed w128 (from_be_bytes w64 high * 2 ^ 64 + from_be_bytes w64 low) in
     let r : (number_of (from_be_bytes w64 high) (from_be_bytes w64 low) ≡ Some value) × (last ≡ rest) = both_ok (number_of (from_be_bytes w64 high) (from_be_bytes w64 low)) (Some value) last rest v.2 in
-    let n : (is_number z ≡ true) × (Num z ≡ value) = some_of (is_number z) (Num z) value r.0 in
+    let n : (is_number z ≡ true) × (Num z ≡ value) = cond_some (is_number z) (Num z) value r.0 in
     let split : bytes ≡ number_bytes z ++ last = p.0 ∙ ap (λ m. high ++ m) q.0 ∙ sym (append_assoc high low last) ∙ ap (λ b. b ++ last) (sym (number_encoded high low these.0 those.0 p.1 q.1)) in
     let there : IsValueAt (1 ∷ bytes) (Num z) last = record { split = ap (λ b. 1 ∷ b) split; encoded = n.0; held = tt; behind = those.1 } in
     subst (λ v. IsValueAt (1 ∷ bytes) v rest) n.1 (subst (λ l. IsValueAt (1 ∷ bytes) (Num z) l) r.1 there)
@@ -181,7 +172,7 @@ text_parts bytes value rest all e =
     let last : List ℕ = w.0.1 in
     let p : IsSizedAt bytes text last = sized_parts BadLength bytes text last all w.1 in
     let r : (text_of text ≡ Some value) × (last ≡ rest) = both_ok (text_of text) (Some value) last rest w.2 in
-    let n : (is_utf8 text ≡ true) × (Text text ≡ value) = some_of (is_utf8 text) (Text text) value r.0 in
+    let n : (is_utf8 text ≡ true) × (Text text ≡ value) = cond_some (is_utf8 text) (Text text) value r.0 in
     let there : IsValueAt (2 ∷ bytes) (Text text) last = record { split = ap (λ b. 2 ∷ b) p.split; encoded = tt; held = IsUtf8-from_is_utf8 text n.0; behind = p.behind } in
     subst (λ v. IsValueAt (2 ∷ bytes) v rest) n.1 (subst (λ l. IsValueAt (2 ∷ bytes) (Text text) l) r.1 there)
 
@@ -206,10 +197,10 @@ null_parts bytes value rest all e =
     subst (λ v. IsValueAt (0 ∷ bytes) v rest) n (subst (λ l. IsValueAt (0 ∷ bytes) Null l) r.1 there)
 
 by_kind : (t0 t1 t2 t3 : Bool) (kind : ℕ) (bytes : List ℕ) (value : Value) (rest : List ℕ) → nat_eq kind 0 ≡ t0 → nat_eq kind 1 ≡ t1 → nat_eq kind 2 ≡ t2 → nat_eq kind 3 ≡ t3 → Bytes bytes → cond t0 (Ok (Some Null, bytes)) (cond t1 (number_at bytes) (cond t2 (text_at bytes) (cond t3 (blob_at bytes) (Err BadValue)))) ≡ Ok (Some value, rest) → IsValueAt (kind ∷ bytes) value rest
-by_kind true t1 t2 t3 kind bytes value rest a b c d all e = subst (λ k. IsValueAt (k ∷ bytes) value rest) (sym (alike kind 0 a)) (null_parts bytes value rest all e)
-by_kind false true t2 t3 kind bytes value rest a b c d all e = subst (λ k. IsValueAt (k ∷ bytes) value rest) (sym (alike kind 1 b)) (number_parts bytes value rest all e)
-by_kind false false true t3 kind bytes value rest a b c d all e = subst (λ k. IsValueAt (k ∷ bytes) value rest) (sym (alike kind 2 c)) (text_parts bytes value rest all e)
-by_kind false false false true kind bytes value rest a b c d all e = subst (λ k. IsValueAt (k ∷ bytes) value rest) (sym (alike kind 3 d)) (blob_parts bytes value rest all e)
+by_kind true t1 t2 t3 kind bytes value rest a b c d all e = subst (λ k. IsValueAt (k ∷ bytes) value rest) (sym (eqb-true kind 0 a)) (null_parts bytes value rest all e)
+by_kind false true t2 t3 kind bytes value rest a b c d all e = subst (λ k. IsValueAt (k ∷ bytes) value rest) (sym (eqb-true kind 1 b)) (number_parts bytes value rest all e)
+by_kind false false true t3 kind bytes value rest a b c d all e = subst (λ k. IsValueAt (k ∷ bytes) value rest) (sym (eqb-true kind 2 c)) (text_parts bytes value rest all e)
+by_kind false false false true kind bytes value rest a b c d all e = subst (λ k. IsValueAt (k ∷ bytes) value rest) (sym (eqb-true kind 3 d)) (blob_parts bytes value rest all e)
 by_kind false false false false kind bytes value rest a b c d all e = absurd cc
 
 value_parts : (bytes : List ℕ) (value : Value) (rest : List ℕ) → Bytes bytes → value_at bytes ≡ Ok (Some value, rest) → IsValueAt bytes value rest
@@ -324,14 +315,14 @@ name_parts (size ∷ bytes) name rest all e =
     let last : List ℕ = w.0.1 in
     let p : (bytes ≡ text ++ last) × (length text ≡ size) = taken_parts BadLength size bytes text last w.1 in
     let r : (name_of text ≡ Some name) × (last ≡ rest) = both_ok (name_of text) (Some name) last rest w.2 in
-    let n : ((is_utf8 text && nat_le (character_count text) 64) ≡ true) × (text ≡ name) = some_of (is_utf8 text && nat_le (character_count text) 64) text name r.0 in
+    let n : ((is_utf8 text && nat_le (character_count text) 64) ≡ true) × (text ≡ name) = cond_some (is_utf8 text && nat_le (character_count text) 64) text name r.0 in
     let t : (is_utf8 text ≡ true) × (nat_le (character_count text) 64 ≡ true) = and_parts (is_utf8 text) (nat_le (character_count text) 64) n.0 in
     let these : Bytes text × Bytes last = parts text last (subst Bytes p.0 all.1) in
     let there : IsNameAt (size ∷ bytes) text last = record {
       split = ap (λ s. s ∷ bytes) (sym p.1) ∙ ap (λ b. length text ∷ b) p.0;
       some = omega (arith, p.1, positive size c.0);
       short = omega (arith, p.1, all.0);
-      characters = at_most (character_count text) 64 t.1;
+      characters = leb-true (character_count text) 64 t.1;
       utf8 = IsUtf8-from_is_utf8 text t.0;
       behind = these.1;
     } in
@@ -351,7 +342,7 @@ count_parts (byte ∷ bytes) count rest all e =
     let c : ((nat_le 1 byte && nat_le byte 64) ≡ true) × (pair byte bytes ≡ Ok (count, rest)) = chosen (nat_le 1 byte && nat_le byte 64) (Ok (byte, bytes)) BadLength (count, rest) e in
     let r : (byte ≡ count) × (bytes ≡ rest) = both_ok byte count bytes rest c.1 in
     let t : (nat_le 1 byte ≡ true) × (nat_le byte 64 ≡ true) = and_parts (nat_le 1 byte) (nat_le byte 64) c.0 in
-    let there : IsCountAt (byte ∷ bytes) byte bytes = record { split = refl; some = at_most 1 byte t.0; few = at_most byte 64 t.1; behind = all.1 } in
+    let there : IsCountAt (byte ∷ bytes) byte bytes = record { split = refl; some = leb-true 1 byte t.0; few = leb-true byte 64 t.1; behind = all.1 } in
     subst (λ n. IsCountAt (byte ∷ bytes) n rest) r.0 (subst (λ l. IsCountAt (byte ∷ bytes) byte l) r.1 there)
 
 -- a change whose values stand first
@@ -366,7 +357,7 @@ record IsChangeAt (tag count : ℕ) (bytes : List ℕ) (change : Change) (rest :
 one_change : (writes : Bool) (tag count : ℕ) (bytes : List ℕ) (row : List Value) (change : Change) (rest : List ℕ) → nat_eq tag 1 ≡ writes → 1 ≤ tag → tag ≤ 3 → tag ≢ 2 → IsRowAt count bytes row rest → cond writes (Some (Write row)) (Some (Delete row)) ≡ Some change → IsChangeAt tag count bytes change rest
 one_change true tag count bytes row change rest is some few other p e =
     let n : Write row ≡ change = cc in
-    subst (λ c. IsChangeAt tag count bytes c rest) n (record { tag_is = sym (alike tag 1 is); count_is = p.count; split = p.split; alike = tt; encoded = p.encoded; held = p.held })
+    subst (λ c. IsChangeAt tag count bytes c rest) n (record { tag_is = sym (eqb-true tag 1 is); count_is = p.count; split = p.split; alike = tt; encoded = p.encoded; held = p.held })
 one_change false tag count bytes row change rest is some few other p e =
     let n : Delete row ≡ change = cc in
     let not_one : tag ≢ 1 = apart tag 1 is in
@@ -408,7 +399,7 @@ by_tag false tag count bytes row last change rest is some few all e f =
 by_tag true tag count bytes row last change rest is some few all e f =
     let w = went_on (values_at (Some []) count last) (λ second. Ok (two_rows row second.0, second.1)) (Some change, rest) f in
     let r : (two_rows row w.0.0 ≡ Some change) × (w.0.1 ≡ rest) = both_ok (two_rows row w.0.0) (Some change) w.0.1 rest w.2 in
-    from_rows tag count bytes row w.0.0 last w.0.1 change rest (alike tag 2 is) all e w.1 r.0 r.1
+    from_rows tag count bytes row w.0.0 last w.0.1 change rest (eqb-true tag 2 is) all e w.1 r.0 r.1
 
 change_parts : (tag count : ℕ) (bytes : List ℕ) (change : Change) (rest : List ℕ) → 1 ≤ tag → tag ≤ 3 → Bytes bytes → change_at tag count bytes ≡ Ok (Some change, rest) → IsChangeAt tag count bytes change rest
 unfolding change_at
@@ -488,7 +479,7 @@ encoded_so (tag ∷ bytes) event n all e =
     let w = went_on (event_at tag body) (λ event. Ok (event, length body + 5)) (event, n) c.1 in
     let r : (w.0 ≡ event) × (length body + 5 ≡ n) = both_ok w.0 event (length body + 5) n w.2 in
     let of_body : Bytes body = prefix_bytes body rest (subst Bytes p.split all.1) in
-    let is : IsEventOf tag body event = subst (IsEventOf tag body) r.0 (event_parts tag body w.0 (at_most 1 tag t.0) (at_most tag 3 t.1) of_body w.1) in
+    let is : IsEventOf tag body event = subst (IsEventOf tag body) r.0 (event_parts tag body w.0 (leb-true 1 tag t.0) (leb-true tag 3 t.1) of_body w.1) in
     let encoding : tag_of event.change ∷ sized (body_of event) ≡ tag ∷ sized body = ap (λ k. k ∷ sized (body_of event)) is.tag_is ∙ ap (λ b. tag ∷ sized b) is.body_is in
     let long : length (tag ∷ sized body) ≡ n = length_with tag body n r.1 in (
       encoding ∙ sym (take_at (tag ∷ sized body) rest n long) ∙ ap (λ b. take n (tag ∷ b)) (sym p.split),

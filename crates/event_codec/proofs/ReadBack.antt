@@ -4,11 +4,12 @@ use Rattle.std.specs.Int.{w32, w64, w128, from_be_bytes, cast_signed, cast_unsig
 use Rattle.std.specs.Int.RustNames.{FitsSigned}
 use Rattle.std.specs.List.{AllByRecursion}
 use Rattle.std.specs.Str.{IsUtf8, is_utf8}
-use Rattle.std.proofs.lemmas.Bool.{and_parts, and_from}
+use Rattle.std.proofs.lemmas.Bool.{and_parts, and_from, le-leb}
 use Rattle.std.proofs.lemmas.Bool.Decides.{nat_tests}
 use Rattle.std.proofs.lemmas.Int.{ints, to_z-of_z}
 use Rattle.std.proofs.lemmas.List.{append-nil, take_at, drop_at}
 use Rattle.std.proofs.lemmas.Nat.{from_be_bytes-to_be_bytes_4, from_be_bytes-to_be_bytes_8}
+use Rattle.std.proofs.lemmas.Str.{is_utf8-from_IsUtf8}
 use Rattle.gho_values.specs.declared.value.Value.{Value}
 use Rattle.gho_values.specs.declared.value.Value.TheVariants.{Null, Num, Text, Blob}
 use Rattle.gho_values.specs.Storing.{character_count}
@@ -21,17 +22,13 @@ use Rattle.event_codec.specs.Encoding.{length_bytes, half_bytes, number_bytes, s
 use Rattle.event_codec.specs.Reading.{◌>>=◌, taken, sized_at, number_of, number_at, text_of, text_at, blob_at, value_at, with_value, values_at, name_of, name_at, count_at, one_row, two_rows, change_at, event_of, event_at, decoded}
 use Rattle.event_codec.specs.Laws.{IsHeld, IsWritten, ReadsWhatIsWritten, NoEncodingIsAPrefix}
 use Rattle.event_codec.proofs.Sizes.{length-length_bytes, length-half_bytes, length-sized, values_bytes-none, values_bytes-cons, values_bytes-append, length-encoded, length-body}
-use Rattle.event_codec.proofs.Texts.{a_text}
-
-enough : (n m : ℕ) → n ≤ m → nat_le n m ≡ true
-enough n m e = grind (arith, nat_tests)
 
 -- the prefix is taken where its length says so
 prefix_taken : (fault : DecodeFault) (prefix behind : List ℕ) (n : ℕ) → length prefix ≡ n → taken fault n (prefix ++ behind) ≡ Ok (prefix, behind)
 unfolding taken
 prefix_taken fault prefix behind n is =
     let long : n ≤ length (prefix ++ behind) = omega (arith, length-append prefix behind) in
-    ap (λ b. cond b (Ok (take n (prefix ++ behind), drop n (prefix ++ behind))) (Err fault)) (enough n (length (prefix ++ behind)) long)
+    ap (λ b. cond b (Ok (take n (prefix ++ behind), drop n (prefix ++ behind))) (Err fault)) (le-leb n (length (prefix ++ behind)) long)
     ∙ ap (λ t. Ok (t, drop n (prefix ++ behind))) (take_at prefix behind n is)
     ∙ ap (λ d. Ok (prefix, d)) (drop_at prefix behind n is)
 
@@ -90,7 +87,7 @@ text_read : (text behind : List ℕ) → length text < 2 ^ 32 → IsUtf8 text �
 unfolding text_at
 text_read text behind fits utf8 =
     ap (λ read. read >>= (λ text. Ok (text_of text.0, text.1))) (sized_back BadLength text behind fits)
-    ∙ ap (λ b. Ok (cond b (Some (Text text)) None, behind)) (a_text text utf8)
+    ∙ ap (λ b. Ok (cond b (Some (Text text)) None, behind)) (is_utf8-from_IsUtf8 text utf8)
 
 blob_read : (blob behind : List ℕ) → length blob < 2 ^ 32 → blob_at (sized blob ++ behind) ≡ Ok (Some (Blob blob), behind)
 unfolding blob_at
@@ -121,14 +118,14 @@ unfolding name_at
 name_read name behind some short utf8 =
     ap (λ b. cond b (Err BadLength) (taken BadLength (length name) (name ++ behind) >>= (λ name. Ok (name_of name.0, name.1)))) (not_empty (length name) some)
     ∙ ap (λ read. read >>= (λ name. Ok (name_of name.0, name.1))) (prefix_taken BadLength name behind (length name) refl)
-    ∙ ap (λ b. Ok (cond b (Some name) None, behind)) (and_from (is_utf8 name) (nat_le (character_count name) 64) (a_text name utf8) (enough (character_count name) 64 short))
+    ∙ ap (λ b. Ok (cond b (Some name) None, behind)) (and_from (is_utf8 name) (nat_le (character_count name) 64) (is_utf8-from_IsUtf8 name utf8) (le-leb (character_count name) 64 short))
   where
     not_empty : (n : ℕ) → 1 ≤ n → nat_eq n 0 ≡ false
     not_empty n some = grind (arith, nat_tests)
 
 count_read : (count : ℕ) (behind : List ℕ) → 1 ≤ count → count ≤ 64 → count_at (count ∷ behind) ≡ Ok (count, behind)
 unfolding count_at
-count_read count behind some few = ap (λ b. cond b (Ok (count, behind)) (Err BadLength)) (and_from (nat_le 1 count) (nat_le count 64) (enough 1 count some) (enough count 64 few))
+count_read count behind some few = ap (λ b. cond b (Ok (count, behind)) (Err BadLength)) (and_from (nat_le 1 count) (nat_le count 64) (le-leb 1 count some) (le-leb count 64 few))
 
 row_read : (row : List Value) → AllByRecursion IsEncodableValue row → AllByRecursion IsHeld row → length (values_bytes row) < 2 ^ 32 → values_at (Some []) (length row) (values_bytes row) ≡ Ok (Some row, [])
 row_read row encoded held fits = ap (λ all. values_at (Some []) (length row) all) (sym (append-nil (values_bytes row))) ∙ values_read [] row [] encoded held fits

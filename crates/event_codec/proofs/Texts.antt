@@ -1,14 +1,8 @@
--- Whether bytes are UTF-8, as a fact and as a test.
-use Rattle.std.proofs.Common.{◌≡◌, Bool, true, false, List, ℕ, refl}
+-- Bytes that are not UTF-8 fail the test for it.
+use Rattle.std.proofs.Common.{◌≡◌, false, List, ℕ}
 use Rattle.std.specs.Str.{IsUtf8, is_utf8}
-use Rattle.std.proofs.lemmas.Str.{IsUtf8-from_is_utf8, is_utf8-from_IsUtf8}
-
-not_so : (b : Bool) → ¬ (b ≡ true) → b ≡ false
-not_so true never = absurd (never refl)
-not_so false never = refl
+use Rattle.std.proofs.lemmas.Bool.{false_from_ne_true}
+use Rattle.std.proofs.lemmas.Str.{IsUtf8-from_is_utf8}
 
 pub no_text : (bytes : List ℕ) → ¬ (IsUtf8 bytes) → is_utf8 bytes ≡ false
-no_text bytes never = not_so (is_utf8 bytes) (λ e. never (IsUtf8-from_is_utf8 bytes e))
-
-pub a_text : (bytes : List ℕ) → IsUtf8 bytes → is_utf8 bytes ≡ true
-a_text = is_utf8-from_IsUtf8
+no_text bytes never = false_from_ne_true (is_utf8 bytes) (λ e. never (IsUtf8-from_is_utf8 bytes e))

@@ -7,7 +7,7 @@ use Rattle.std.specs.Int.{w128}
 use Rattle.std.specs.Char.{is_ascii_digit}
 use Rattle.std.specs.List.{list_all}
 use Rattle.std.specs.Str.Parse.{digits_value, ParsesSigned}
-use Rattle.std.proofs.lemmas.Bool.{eqb-true, eqb-false}
+use Rattle.std.proofs.lemmas.Bool.{eqb-true, eqb-false, and_parts}
 use Rattle.std.proofs.lemmas.Result.{Ok-from_Ok_iff}
 use Rattle.std.proofs.lemmas.Str.Parse.{IsNumeralModel, numerals_by_value, digits_value_short, parse_signed_minus, parse_signed_plain, parse_signed_plus}
 use Rattle.gho_values.specs.Storing.{digits_number, text_number}
@@ -24,15 +24,10 @@ record IsShort (ds : List ℕ) : Type 0 where
   some : 0 < length ds
   fits : digits_value 10 ds < 2 ^ 127
 
-both_true : (a b : Bool) → (a && b) ≡ true → (a ≡ true) × (b ≡ true)
-both_true true true e = (refl, refl)
-both_true true false e = absurd cc
-both_true false b e = absurd cc
-
 short_from : (ds : List ℕ) → (list_all is_ascii_digit ds && (ltb 0 (length ds) && leb (length ds) 38)) ≡ true → IsShort ds
 short_from ds e =
-    let p = both_true (list_all is_ascii_digit ds) (ltb 0 (length ds) && leb (length ds) 38) e in
-    let q = both_true (ltb 0 (length ds)) (leb (length ds) 38) p.1 in
+    let p = and_parts (list_all is_ascii_digit ds) (ltb 0 (length ds) && leb (length ds) 38) e in
+    let q = and_parts (ltb 0 (length ds)) (leb (length ds) 38) p.1 in
     let few : length ds ≤ 38 = grind (arith, q.1) in
     let big : 10 ^ 38 < 2 ^ 127 = lit< tt in
     let small : digits_value 10 ds < 10 ^ 38 = digits_value_short own ds 38 p.0 few in

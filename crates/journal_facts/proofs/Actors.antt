@@ -6,6 +6,7 @@ use Rattle.std.proofs.lemmas.Bool.{false≢true, true≢false}
 use Rattle.std.proofs.lemmas.Bool.Decides.{nat_tests}
 use Rattle.std.proofs.lemmas.List.Sums.{fold-append}
 use Rattle.std.proofs.lemmas.List.Folds.{list_any-append}
+use Rattle.std.proofs.Math.Bool.{or-false, or_self}
 use Rattle.script_text.specs.declared.actor.Actor.{Actor}
 use Rattle.script_text.specs.declared.actor.Actor.TheVariants.{Op, Insp, Copy, Apply, Lock, Ren, Client}
 use Rattle.plain_server.specs.declared.answer.Answer.{Answer}
@@ -58,10 +59,7 @@ counts_client command same client = not command && (same && client)
 
 client_more : (journal : List Entry) (entry : Entry) (n : ℕ) → is_client_session (journal ++ entry ∷ []) n ≡ (is_client_session journal n || counts_client (is_command entry.asked) (entry.session == n) (is_client entry.actor))
 unfolding is_client_session
-client_more journal entry n = list_any-append (λ one. not (is_command one.asked) && ((one.session == n) && is_client one.actor)) journal (entry ∷ []) ∙ rw (last (not (is_command entry.asked) && ((entry.session == n) && is_client entry.actor))) refl where
-  last : (b : Bool) → (b || false) ≡ b
-  last true = refl
-  last false = refl
+client_more journal entry n = list_any-append (λ one. not (is_command one.asked) && ((one.session == n) && is_client one.actor)) journal (entry ∷ []) ∙ rw (or-false (not (is_command entry.asked) && ((entry.session == n) && is_client entry.actor))) refl
 
 -- how a turn is in its session
 pub data Placed (before : List Entry) (entry : Entry) : Type 0 where
@@ -133,34 +131,26 @@ above_own most session n is = grind (arith, nat_tests)
 less_differs : (most session n : ℕ) → n ≤ most → most < session → (session == n) ≡ false
 less_differs most session n is more = grind (arith, nat_tests)
 
-or_false : (b : Bool) → (b || false) ≡ b
-or_false true = refl
-or_false false = refl
-
-or_same : (b : Bool) → (b || b) ≡ b
-or_same true = refl
-or_same false = refl
-
 module _ (journal : List Entry) (entry : Entry) (known_sessions : SessionsKnown journal) (at : Placed journal entry) where
   -- sessions that were named keep their kind
   pub kinds_stay : (n : ℕ) → n ≤ sessions_named journal → is_client_session (journal ++ entry ∷ []) n ≡ is_client_session journal n
   kinds_stay n is = client_more journal entry n ∙ by at where
     same : (b : Bool) → (entry.session == n) ≡ b → is_command entry.asked ≡ false → live_session journal entry.actor ≡ Some entry.session → (is_client_session journal n || counts_client (is_command entry.asked) (entry.session == n) (is_client entry.actor)) ≡ is_client_session journal n
     same true eq calls live =
-        rw (calls, eq, sym (known_sessions.kinds entry.actor entry.session live), ap (is_client_session journal) (are_one entry.session n eq)) (or_same (is_client_session journal n))
-    same false eq calls live = rw (calls, eq) (or_false (is_client_session journal n))
+        rw (calls, eq, sym (known_sessions.kinds entry.actor entry.session live), ap (is_client_session journal) (are_one entry.session n eq)) (or_self (is_client_session journal n))
+    same false eq calls live = rw (calls, eq) (or-false (is_client_session journal n))
 
     by : Placed journal entry → (is_client_session journal n || counts_client (is_command entry.asked) (entry.session == n) (is_client entry.actor)) ≡ is_client_session journal n
-    by (Commands command zero) = rw command (or_false (is_client_session journal n))
+    by (Commands command zero) = rw command (or-false (is_client_session journal n))
     by (GoesOn calls live) = same (entry.session == n) refl calls live
-    by (Begins calls uncut live more) = rw (calls, less_differs (sessions_named journal) entry.session n is more) (or_false (is_client_session journal n))
+    by (Begins calls uncut live more) = rw (calls, less_differs (sessions_named journal) entry.session n is more) (or-false (is_client_session journal n))
 
   -- the turn's session is of its actor's kind
   pub kind_here : is_command entry.asked ≡ false → is_client_session (journal ++ entry ∷ []) entry.session ≡ is_client entry.actor
   kind_here call = client_more journal entry entry.session ∙ rw (call, same_number entry.session) (by at) where
     by : Placed journal entry → (is_client_session journal entry.session || is_client entry.actor) ≡ is_client entry.actor
     by (Commands command zero) = absurd (true≢false (sym command ∙ call))
-    by (GoesOn calls live) = rw (known_sessions.kinds entry.actor entry.session live) (or_same (is_client entry.actor))
+    by (GoesOn calls live) = rw (known_sessions.kinds entry.actor entry.session live) (or_self (is_client entry.actor))
     by (Begins calls uncut live more) = rw (known_sessions.fresh entry.session more) refl
 
   from_one : is_command entry.asked ≡ false → 1 ≤ entry.session

@@ -1,8 +1,8 @@
 -- A client's line on the server: what it leaves, answered, timed out or lost.
-use Rattle.std.proofs.Common.{◌≡◌, ℕ, Bool, true, false, not, ◌&&◌, ◌||◌, List, [], ◌∷◌, ◌++◌, filter, cond, Option, Some, refl, sym, ap, ◌∙◌, subst, inl, inr, arith}
+use Rattle.std.proofs.Common.{◌≡◌, ℕ, Bool, true, false, not, ◌&&◌, ◌||◌, List, [], ◌∷◌, ◌++◌, filter, cond, Option, Some, refl, sym, ap, ◌∙◌, subst, inl, inr}
 use Rattle.std.specs.Prelude.{◌==◌, ◌≢◌}
-use Rattle.std.proofs.lemmas.Bool.Decides.{nat_tests}
 use Rattle.std.proofs.lemmas.List.{append-nil}
+use Rattle.std.proofs.Math.Bool.{and-false}
 use Rattle.std.specs.List.{AllByRecursion}
 use Rattle.event_codec.specs.declared.event.RowEvent.{RowEvent}
 use Rattle.row_locks.specs.declared.lock.Lock.{Lock}
@@ -46,10 +46,6 @@ last_done : (lines : List TxnLine) (line : TxnLine) → lines ≢ [] → stays (
 last_done [] line some = absurd (some refl)
 last_done (first ∷ []) line some = refl
 last_done (first ∷ (next ∷ lines)) line some = commit_last next lines line
-
-and_no : (b : Bool) → (b && false) ≡ false
-and_no true = refl
-and_no false = refl
 
 never_done : (lines : List TxnLine) (line : TxnLine) → (is_commit line.word && is_done line.mark) ≡ false → ((is_statement line.word || is_commit line.word) && is_done line.mark) ≡ false → stays (lines ++ line ∷ []) ≡ false
 never_done [] line commit statement = statement
@@ -267,7 +263,7 @@ pub word_timed_out : (scene : Scene) (state : State) (number : ℕ) (going : ℕ
     → Turned scene (stored state) (face_of (with_session number at_rest state.sessions)) number (Ends word marks.TimedOut (replies.Error 1205 ∷ []) ends.TimedOut) going past
 word_timed_out scene state number going past work word named =
     undone_line scene state (face_of (with_session number at_rest state.sessions)) number going past work word marks.TimedOut (replies.Error 1205 ∷ []) ends.TimedOut (λ some. refl) (λ some. refl) named (rests_with scene state number going past work)
-    (never_done (going number).lines (record { word = word; mark = marks.TimedOut }) (and_no (is_commit word)) (and_no (is_statement word || is_commit word)))
+    (never_done (going number).lines (record { word = word; mark = marks.TimedOut }) (and-false (is_commit word)) (and-false (is_statement word || is_commit word)))
 
 -- *a line at which its session is lost before it is done*, whatever else the turn changed of the session
 pub word_undone : (scene : Scene) (state : State) (sessions : List Session) (own : Face) (number : ℕ) (going : ℕ → Going) (past : List PlainItem) (work : AtWork scene state number going past) (word : ScriptWord) → NamesTable scene.mine word → Besides number (face_of state.sessions) (face_of sessions) own
@@ -275,7 +271,7 @@ pub word_undone : (scene : Scene) (state : State) (sessions : List Session) (own
 word_undone scene state sessions own number going past work word named besides =
     undone_line scene state (face_of (filter (λ session. not (session.number == number)) sessions)) number going past work word (marks.Lost Before) [] ends.Lost (λ some. refl) (λ some. refl) named
     (lost_faces number state.sessions sessions own besides)
-    (never_done (going number).lines (record { word = word; mark = marks.Lost Before }) (and_no (is_commit word)) (and_no (is_statement word || is_commit word)))
+    (never_done (going number).lines (record { word = word; mark = marks.Lost Before }) (and-false (is_commit word)) (and-false (is_statement word || is_commit word)))
 
 -- *a session that is lost between its calls*
 pub session_lost : (scene : Scene) (state : State) (sessions : List Session) (own : Face) (number : ℕ) (going : ℕ → Going) (past : List PlainItem) (work : AtWork scene state number going past) → Besides number (face_of state.sessions) (face_of sessions) own

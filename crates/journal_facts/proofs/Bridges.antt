@@ -1,26 +1,14 @@
 -- What ties these meanings to rows kept by their keys, and to databases with further tables.
-use Rattle.std.proofs.Common.{◌≡◌, ℕ, Bool, true, false, not, ◌&&◌, ◌||◌, List, [], ◌∷◌, Less, Equal, refl, sym, ap, ◌∙◌}
-use Rattle.std.proofs.lemmas.Bool.{false≢true}
-use Rattle.std.specs.Ordering.{is_eq}
+use Rattle.std.proofs.Common.{◌≡◌, ℕ, List, [], ◌∷◌, refl, ap, ◌∙◌}
 use Rattle.std.specs.List.{AllByRecursion}
-use Rattle.std.proofs.lemmas.Cmp.{tied_itself}
-use Rattle.gho_values.specs.Comparing.{compare_keys}
-use Rattle.gho_values.proofs.Orders.{keys_total, tied_keys}
-use Rattle.gho_values.specs.GhoSchema.Rows.{key_of}
-use Rattle.gho_values.specs.GhoSchema.Tables.{Ascends}
 use Rattle.event_codec.specs.declared.event.RowEvent.{RowEvent}
 use Rattle.row_store.specs.Databases.{Database, with_change}
-use Rattle.row_store.specs.RowLists.{is_at, without_key}
-use Rattle.row_store.proofs.Orders.{Row, is_Equal}
-use Rattle.row_store.proofs.Ascending.{ascends-filter}
 use Rattle.script_text.specs.declared.script.ScriptWord.{ScriptWord}
 use Rattle.script_text.specs.declared.script.ScriptWord.TheVariants as words
 use Rattle.plain_server.specs.declared.transaction.TxnLine.{TxnLine}
-use Rattle.plain_server.specs.Rows.{same_row, stands, without_row}
 use Rattle.plain_server.specs.Jobs.{table_of, job_says, after_events, change_table}
 use Rattle.journal_facts.specs.Scenes.{FoundAlike, NamesTable}
 use Rattle.plain_server.specs.Alone.{line_says, Ran, lines_run}
-use Rattle.plain_server.proofs.StatementLaws.Standing.{one_row, same_itself, stands-filter, one_list}
 use Rattle.plain_server.proofs.StatementLaws.Finding.{found_after}
 use Rattle.plain_server.proofs.StatementLaws.Stables.{one_more, more_alike}
 

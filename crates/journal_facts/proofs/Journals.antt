@@ -47,7 +47,7 @@ use Rattle.journal_facts.specs.Asking.{word_in}
 use Rattle.migration_program.specs.JournalWords.Clients.{word_asks}
 use Rattle.plain_server.specs.Locking.{need, blocker}
 use Rattle.migration_program.specs.JournalWords.Journals.{after_entry, opens, opens_if, state_behind}
-use Rattle.plain_server.proofs.StatementLaws.Tests.{are_one, turned}
+use Rattle.plain_server.proofs.StatementLaws.Tests.{are_one}
 
 -- A CLIENT'S TURN
 

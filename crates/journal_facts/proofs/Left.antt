@@ -1,6 +1,6 @@
 -- The client tables that are left: transactions and the ALTER lead from the ones to the others.
 use Rattle.std.proofs.Common.{◌≡◌, ℕ, Bool, true, false, ◌||◌, List, [], ◌∷◌, ◌++◌, cond, Option, Some, None, refl, sym, ap, ◌∙◌, subst}
-use Rattle.std.proofs.lemmas.Bool.{false≢true, true≢false}
+use Rattle.std.proofs.lemmas.Bool.{false≢true, true≢false, or_right}
 use Rattle.std.specs.List.{AllByRecursion, list_any}
 use Rattle.std.specs.Option.{option_to_list}
 use Rattle.std.specs.Str.{bytes_eq}
@@ -56,14 +56,10 @@ unfolding tables_left
 left_same names [] a b within alike = refl
 left_same names (first ∷ some) a b within alike =
     let here : find_table first a ≡ find_table first b = alike.each first (within first (or_here (list_any (bytes_eq first) some) (same_bytes first))) in
-    let rest : tables_left some a ≡ tables_left some b = left_same names some a b (λ name is. within name (or_there (bytes_eq name first) is)) alike in
+    let rest : tables_left some a ≡ tables_left some b = left_same names some a b (λ name is. within name (or_right (bytes_eq name first) _ is)) alike in
     ap (λ (found : Option TableRows). option_to_list found ++ tables_left some a) here ∙ ap (λ (more : Database). option_to_list (find_table first b) ++ more) rest where
       or_here : (more : Bool) → bytes_eq first first ≡ true → (bytes_eq first first || more) ≡ true
       or_here more is = rw is refl
-
-      or_there : (one : Bool) {more : Bool} → more ≡ true → (one || more) ≡ true
-      or_there true is = refl
-      or_there false is = is
 
 pub left_alike : (scene : Scene) (a b : Database) → FoundAlike scene.mine a b → tables_left scene.mine a ≡ tables_left scene.mine b
 left_alike scene a b alike = left_same scene.mine scene.mine a b (λ name is. is) alike
@@ -126,11 +122,7 @@ alter_each : (scene : Scene) (before after : Database) (alters : AltersTo scene 
 unfolding tables_left
 alter_each scene before after alters [] within = refl
 alter_each scene before after alters (first ∷ some) within =
-    at (bytes_eq first scene.migrated) refl (alter_each scene before after alters some (λ name is. within name (or_there (bytes_eq name first) is))) where
-      or_there : (one : Bool) {more : Bool} → more ≡ true → (one || more) ≡ true
-      or_there true is = refl
-      or_there false is = is
-
+    at (bytes_eq first scene.migrated) refl (alter_each scene before after alters some (λ name is. within name (or_right (bytes_eq name first) _ is))) where
       rest' : Database
       rest' = with_change scene.migrated (λ table. alters.new) (tables_left some before)
 

@@ -1,9 +1,10 @@
 -- Names that are held: one that a session holds exclusively is no name of another, after each change of a session; and
 -- what a grant tells.
-use Rattle.std.proofs.Common.{◌≡◌, ◌⊎◌, ℕ, Bool, true, false, not, ◌&&◌, ◌||◌, List, [], ◌∷◌, ◌++◌, map, filter, cond, Option, Some, None, refl, sym, ap, ◌∙◌, subst, inl, inr, arith}
+use Rattle.std.proofs.Common.{◌≡◌, ◌⊎◌, ℕ, Bool, true, false, not, ◌&&◌, ◌||◌, List, [], ◌∷◌, ◌++◌, map, filter, cond, Some, None, refl, sym, ap, ◌∙◌, subst, inl, inr, arith}
 use Rattle.std.specs.Prelude.{◌==◌}
 use Rattle.std.proofs.lemmas.Bool.{false≢true, true≢false, or_right}
 use Rattle.std.proofs.lemmas.Bool.Decides.{nat_tests}
+use Rattle.std.proofs.Math.Bool.{or-true}
 use Rattle.std.specs.List.{list_any}
 use Rattle.std.specs.Str.{bytes_eq}
 use Rattle.metadata_locks.specs.declared.request.Waiter.{Waiter}
@@ -235,16 +236,12 @@ unfolding refuser_of_name
 name_free held waiting number false name other is none there differ may =
     holder_off held number name true other (none_of (least_holder held number name true) (cond (holds held number name false) None (least_waiter waiting number name)) none).0 there differ (rw may refl)
 name_free held waiting number true name other is none there differ may = at (holds held number name true) refl none where
-  any : (b : Bool) → (b || true) ≡ true
-  any true = refl
-  any false = refl
-
   at : (b : Bool) → holds held number name true ≡ b → cond b None (least (least_holder held number name false) (least_waiter (ahead_of number waiting) number name)) ≡ None → bytes_eq other.name name ≡ false
   at true own none =
       let mine : Holder held number name = holder_from held number name own in
       let off : bytes_eq other.name mine.one.name ≡ false = is mine.one other mine.is there mine.exclusive (ap (λ (n : ℕ). other.session == n) (are_one mine.one.session number mine.own) ∙ differ) in
       ap (bytes_eq other.name) (sym (are_same mine.one.name name mine.same)) ∙ off
-  at false own none = holder_off held number name false other (none_of (least_holder held number name false) (least_waiter (ahead_of number waiting) number name) none).0 there differ (any other.exclusive)
+  at false own none = holder_off held number name false other (none_of (least_holder held number name false) (least_waiter (ahead_of number waiting) number name) none).0 there differ (or-true other.exclusive)
 
 pub granted_free : (held : List grants.HeldName) (waiting : List Waiter) (number : ℕ) (asked : Bool) (names : List (List ℕ)) → OneHolder held → refuser_of_names held waiting number asked names ≡ None → Free held number (as_needed asked names)
 unfolding refuser_of_names

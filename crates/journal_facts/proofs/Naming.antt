@@ -5,7 +5,7 @@ use Rattle.std.specs.Prelude.{◌==◌, ◌-◌, codes, option_map, unwrap_or}
 use Rattle.std.specs.List.{AllByRecursion, list_any, flat_map, slice_get}
 use Rattle.std.specs.Option.{option_to_list}
 use Rattle.std.specs.Str.{bytes_eq}
-use Rattle.std.proofs.lemmas.Bool.{false≢true, true≢false, or_left, or_right}
+use Rattle.std.proofs.lemmas.Bool.{false≢true, or_left, or_right}
 use Rattle.std.proofs.lemmas.List.Folds.{list_any-append}
 use Rattle.event_codec.specs.declared.event.RowEvent.{RowEvent}
 use Rattle.row_store.specs.Databases.{TableRows, Database, find_table, is_named, with_change}

@@ -2,6 +2,7 @@
 use Rattle.std.proofs.Common.{◌≡◌, ℕ, Bool, true, false, not, ◌||◌, List, [], ◌∷◌, ◌++◌, filter, cond, Option, Some, None, Result, Ok, Err, refl, sym, ap, ◌∙◌, subst}
 use Rattle.std.specs.Prelude.{◌==◌}
 use Rattle.std.specs.Option.{option_map}
+use Rattle.std.proofs.Math.Bool.{or-true}
 use Rattle.std.proofs.lemmas.List.{append-nil}
 use Rattle.std.specs.List.{list_any}
 use Rattle.std.specs.Str.{bytes_eq}
@@ -40,7 +41,7 @@ use Rattle.plain_server.specs.Serving.{at_rest, commits, counting, forgets, goes
 use Rattle.plain_server.specs.declared.need.Need.{Need}
 use Rattle.plain_server.specs.States.{State, is_in_transaction, locked_names, session_of, view, with_session, writes_of}
 use Rattle.journal_facts.specs.Asking.{does_word, need_of_word}
-use Rattle.plain_server.proofs.StatementLaws.Tests.{turned, same_bytes, or_true}
+use Rattle.plain_server.proofs.StatementLaws.Tests.{turned, same_bytes}
 
 -- a session of the tool at work on the server
 pub record ToolWork (scene : Scene) (state : State) (number : ℕ) (going : ℕ → Going) (past : List PlainItem) : Type 0 where
@@ -215,7 +216,7 @@ names_two [] from into = at (bytes_eq into from) where
   at : (b : Bool) → (b || (bytes_eq into into || false)) ≡ true
   at true = refl
   at false = rw (same_bytes into) refl
-names_two (x ∷ a) from into = rw (names_two a from into) (or_true (bytes_eq into x))
+names_two (x ∷ a) from into = rw (names_two a from into) (or-true (bytes_eq into x))
 
 -- a line of the tool
 pub tool_do : (scene : Scene) (state : State) (number : ℕ) (going : ℕ → Going) (past : List PlainItem) (work : ToolWork scene state number going past) (statement : Statement) (seen : Database) → seen ≡ after_events state.tables work.found.writes → is_mine scene (table_of statement) ≡ false

@@ -1,5 +1,6 @@
 -- What a client's line leaves of all that is kept, by its fate.
 use Rattle.std.proofs.Common.{◌≡◌, ℕ, true, List, [], ◌∷◌, ◌++◌, refl, sym, ◌∙◌, subst}
+use Rattle.std.proofs.Math.Bool.{or-true}
 use Rattle.std.proofs.lemmas.List.{append-nil}
 use Rattle.std.proofs.lemmas.List.Folds.{list_any-append}
 use Rattle.std.specs.List.{list_any}
@@ -22,13 +23,13 @@ use Rattle.journal_facts.specs.Holdings.{held_after, lines_after}
 use Rattle.plain_server.proofs.StatementLaws.Points.{within-left, within-right, within-itself}
 use Rattle.plain_server.proofs.StatementLaws.Finding.{NamesWithin}
 use Rattle.plain_server.proofs.StatementLaws.Stables.{one_more, more_alike, stable_more, stable_statement, covered_statement, covered_more}
-use Rattle.plain_server.proofs.StatementLaws.Tests.{same_bytes, or_true}
+use Rattle.plain_server.proofs.StatementLaws.Tests.{same_bytes}
 
 pub names_left : (a b : List (List ℕ)) → NamesWithin a (a ++ b)
 names_left a b name is = list_any-append (bytes_eq name) a b ∙ rw is refl
 
 pub names_last : (a : List (List ℕ)) (name : List ℕ) → list_any (bytes_eq name) (a ++ name ∷ []) ≡ true
-names_last a name = list_any-append (bytes_eq name) a (name ∷ []) ∙ rw (same_bytes name) (or_true (list_any (bytes_eq name) a))
+names_last a name = list_any-append (bytes_eq name) a (name ∷ []) ∙ rw (same_bytes name) (or-true (list_any (bytes_eq name) a))
 
 -- where nothing is written
 pub quiet_covered : (tables : Database) (hold : SessionHold) (more : List (List ℕ)) (all : List Lock) → EventsCovered hold.names hold.locks tables hold.writes → EventsCovered (hold.names ++ more) (hold.locks ++ all) tables (hold.writes ++ [])

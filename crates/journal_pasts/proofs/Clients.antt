@@ -2,7 +2,7 @@
 use Rattle.std.proofs.Common.{◌≡◌, ℕ, zero, suc, ◌-◌, ◌<◌, ◌==◌, Bool, true, false, List, [], ◌∷◌, ◌++◌, map, length, get_or, Option, Some, None, option_map, refl, sym, ap, ◌∙◌, subst, arith, ◌⊎◌, inl, inr}
 use Rattle.std.proofs.lemmas.Bool.{ne_eqb}
 use Rattle.std.proofs.lemmas.Bool.Decides.{nat_tests}
-use Rattle.std.proofs.lemmas.Option.{slice_get-map, slice_get_past, slice_get_read}
+use Rattle.std.proofs.lemmas.Option.{same_Some, slice_get-map, slice_get_past, slice_get_read}
 use Rattle.std.specs.List.{slice_get, slice_set}
 use Rattle.script_text.specs.declared.actor.Actor.TheVariants.{Client}
 use Rattle.script_text.specs.declared.script.ScriptLine.{ScriptLine}
@@ -46,12 +46,9 @@ all_begin plan = λ number. scripts_begin plan number (number == 0) refl ∙ at_
 
 -- ---- a turn of a client
 
-some_is : {A : Type 0} (a b : A) → Some a ≡ Some b → a ≡ b
-some_is a b is = cc
-
 some_script : {A : Type 0} (old a : A) (script : Option (List ScriptLine)) → Some old ≡ option_map (λ (s : List ScriptLine). a) script → old ≡ a
 some_script old a None is = absurd (cc)
-some_script old a (Some script) is = some_is old a is
+some_script old a (Some script) is = same_Some old a is
 
 -- the client that is found is so far as it should be
 pub found_is : (plan : PlanData) (before : List Entry) (clients : List Reached) (number : ℕ) (old : Reached) → AreReached plan before clients → client_in number clients ≡ Some old → old ≡ client_at plan before number

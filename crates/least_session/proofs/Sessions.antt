@@ -1,6 +1,5 @@
 -- The least of several sessions, whichever are taken first; and where there is none.
-use Rattle.std.proofs.Common.{◌≡◌, ◌≢◌, ℕ, Bool, true, false, not, nat_eq, ◌&&◌, cond, Option, Some, None, refl, ap, arith}
-use Rattle.std.proofs.lemmas.Bool.Decides.{nat_tests}
+use Rattle.std.proofs.Common.{◌≡◌, ℕ, Bool, true, false, not, ◌&&◌, cond, Option, Some, None, refl, ap, arith}
 use Rattle.least_session.specs.Least.{least}
 
 pub least-least : (a b c : Option ℕ) → least (least a b) c ≡ least a (least b c)
@@ -19,10 +18,6 @@ none_of None None e = (refl, refl)
 none_of None (Some b) e = absurd cc
 none_of (Some a) None e = absurd cc
 none_of (Some a) (Some b) e = absurd cc
-
--- sessions of different numbers
-pub others : (m n : ℕ) → m ≢ n → nat_eq m n ≡ false
-others m n other = grind (arith, nat_tests)
 
 -- another session that doesn't stand in the way is in no conflict
 pub not_refused : (own conflicts : Bool) (session : ℕ) → cond (not own && conflicts) (Some session) None ≡ None → own ≡ false → conflicts ≡ false

@@ -2,8 +2,7 @@
 use Rattle.std.proofs.Common.{◌≡◌, ◌≢◌, ℕ, Bool, true, false, not, nat_eq, ◌&&◌, ◌||◌, cond, List, [], ◌∷◌, ◌++◌, map, filter, fold, Option, Some, None, refl, sym, ap, ◌∙◌, inl, inr, arith}
 use Rattle.std.specs.Cmp.Lexicographic.{pointwise}
 use Rattle.std.specs.List.{AllByRecursion, AllPairs}
-use Rattle.std.proofs.lemmas.Bool.{and_parts, or_cases}
-use Rattle.std.proofs.lemmas.Bool.Decides.{nat_tests}
+use Rattle.std.proofs.lemmas.Bool.{and_parts, eqb-true, ne_eqb, or_cases}
 use Rattle.std.proofs.lemmas.Cmp.{nat_list_eq_equiv}
 use Rattle.std.proofs.lemmas.List.Elements.{All-from_recursion}
 use Rattle.std.proofs.lemmas.List.Kept.{AllPairs-cons}
@@ -11,7 +10,7 @@ use Rattle.metadata_locks.specs.declared.request.Waiter.{Waiter}
 use Rattle.metadata_locks.specs.Granting.{HeldName, Place, place_of, ahead_of, holds, is_on, holding_session, least_holder, least_waiter, refuser_of_name, refuser_of_names}
 use Rattle.least_session.specs.Least.{least}
 use Rattle.least_session.proofs.Kept.{both, kept}
-use Rattle.least_session.proofs.Sessions.{none_of, not_refused, others}
+use Rattle.least_session.proofs.Sessions.{none_of, not_refused}
 use Rattle.metadata_locks.specs.Holding.{NameTable, LastAsk, held_by, added, asked_by, refuser_of, polled_by, polled_at, freed_if, is_known, undone_last, ended_at, held_before}
 use Rattle.metadata_locks.specs.Laws.{Call, called, no_names, Bear, HeldNamesBear}
 use Rattle.metadata_locks.specs.Laws.Call.{Ask, Poll, Free, Undo, End}
@@ -42,9 +41,6 @@ alone : (session : ℕ) (exclusive : Bool) (names : List (List ℕ)) → Apart (
 alone session exclusive [] = tt
 alone session exclusive (name ∷ names) = (own session exclusive name names, alone session exclusive names)
 
-alike : (m n : ℕ) → nat_eq m n ≡ true → m ≡ n
-alike m n e = grind (arith, nat_tests)
-
 -- no other session that holds the name refuses it
 abbrev Free_of : List HeldName → ℕ → List ℕ → Bool → Type 0
 Free_of held session name exclusive = least_holder held session name exclusive ≡ None
@@ -52,7 +48,7 @@ Free_of held session name exclusive = least_holder held session name exclusive �
 here : (a : HeldName) (held : List HeldName) (session : ℕ) (name : List ℕ) (exclusive : Bool) → Free_of (a ∷ held) session name exclusive → a.session ≢ session → is_on a name exclusive ≡ false
 unfolding least_holder
 here a held session name exclusive free other =
-    not_refused (nat_eq a.session session) (is_on a name exclusive) a.session (none_of (holding_session session name exclusive a) (least_holder held session name exclusive) free).0 (others a.session session other)
+    not_refused (nat_eq a.session session) (is_on a name exclusive) a.session (none_of (holding_session session name exclusive a) (least_holder held session name exclusive) free).0 (ne_eqb a.session session other)
 
 rest : (a : HeldName) (held : List HeldName) (session : ℕ) (name : List ℕ) (exclusive : Bool) → Free_of (a ∷ held) session name exclusive → Free_of held session name exclusive
 unfolding least_holder
@@ -96,7 +92,7 @@ own_of : (a : HeldName) (session : ℕ) (name : List ℕ) → (nat_eq a.session 
 own_of a session name e =
     let parts = and_parts (nat_eq a.session session) (is_on a name true) e in
     let on = and_parts (pointwise nat_eq a.name name) (a.exclusive || false) parts.1 in
-    (alike a.session session parts.0, on.0, only a.exclusive on.1)
+    (eqb-true a.session session parts.0, on.0, only a.exclusive on.1)
 
 -- a lock of another session that is compatible with the session's own is on another name
 after_own : (a b : HeldName) (session : ℕ) (name : List ℕ) → IsOwn a session name → Bear a b → b.session ≢ session → pointwise nat_eq b.name name ≡ false

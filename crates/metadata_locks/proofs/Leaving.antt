@@ -1,6 +1,7 @@
 -- What a session that leaves takes away, where locks are kept by the requests that they were granted to.
 use Rattle.std.proofs.Common.{◌≡◌, ℕ, suc, Bool, true, false, not, ◌&&◌, ◌||◌, nat_eq, cond, List, [], ◌∷◌, ◌++◌, map, filter, length, refl, ap, sym, ◌∙◌, arith}
 use Rattle.std.specs.List.{list_any}
+use Rattle.std.proofs.Math.Bool.{and-false}
 use Rattle.std.proofs.lemmas.List.{drop_more, drop_all}
 use Rattle.std.proofs.lemmas.List.Elements.{filter-append}
 use Rattle.std.proofs.lemmas.List.Folds.{list_any-append}
@@ -14,11 +15,7 @@ full : (n : ℕ) → not (nat_eq (suc n) 0) ≡ true
 full n = grind (arith, nat_tests)
 
 names_of : (s : ℕ) (held_so : Bool) (names : List (List ℕ)) (session : ℕ) → list_any (λ (held : HeldName). nat_eq held.session session) (map (held_by s held_so) names) ≡ (nat_eq s session && not (nat_eq (length names) 0))
-names_of s held_so [] session = nothing (nat_eq s session)
-  where
-    nothing : (b : Bool) → false ≡ (b && false)
-    nothing true = refl
-    nothing false = refl
+names_of s held_so [] session = sym (and-false (nat_eq s session))
 names_of s held_so (name ∷ names) session =
     ap (λ rest. nat_eq s session || rest) (names_of s held_so names session)
     ∙ once (nat_eq s session) (not (nat_eq (length names) 0))

@@ -1,7 +1,7 @@
 -- Where a session's request stands.
-use Rattle.std.proofs.Common.{◌≡◌, ◌≢◌, ℕ, ◌<◌, zero, suc, true, false, nat_eq, Option, Some, None, List, [], ◌∷◌, length, get_or, take, drop, refl, ap, arith, add-one}
+use Rattle.std.proofs.Common.{◌≡◌, ◌≢◌, ℕ, ◌<◌, zero, suc, false, nat_eq, Option, Some, None, List, [], ◌∷◌, length, get_or, take, drop, refl, ap, arith, add-one}
 use Rattle.std.specs.Option.{option_map}
-use Rattle.std.proofs.lemmas.Bool.Decides.{nat_tests}
+use Rattle.std.proofs.lemmas.Bool.{eq-eqb, ne_eqb}
 use Rattle.metadata_locks.specs.declared.request.Waiter.{Waiter}
 use Rattle.metadata_locks.specs.Granting.{Place, place_of}
 use Rattle.metadata_locks.specs.Waiting.{round}
@@ -10,12 +10,6 @@ use Rattle.metadata_locks.specs.Waiting.{round}
 abbrev pub NoneBelow : ℕ → List Waiter → ℕ → Type 0
 NoneBelow session waiting i = (k : ℕ) (d : Waiter) → k < i → (get_or waiting k d).session ≢ session
 
-same : (m n : ℕ) → m ≡ n → nat_eq m n ≡ true
-same m n e = grind (arith, nat_tests)
-
-other : (m n : ℕ) → m ≢ n → nat_eq m n ≡ false
-other m n e = grind (arith, nat_tests)
-
 -- with one more request in front
 abbrev behind : Waiter → Option Place → Option Place
 behind first place = option_map (λ (p : Place). record { front = first ∷ p.front; request = p.request; behind = p.behind }) place
@@ -23,9 +17,9 @@ behind first place = option_map (λ (p : Place). record { front = first ∷ p.fr
 found_at : (session : ℕ) (waiting : List Waiter) (i : ℕ) (past d : Waiter) → i < length waiting → (get_or waiting i d).session ≡ session → NoneBelow session waiting i → place_of session waiting ≡ Some (record { front = take i waiting; request = get_or waiting i past; behind = drop (suc i) waiting })
 unfolding place_of
 found_at session [] i past d within here none = absurd (omega arith)
-found_at session (first ∷ waiting) zero past d within here none = rw (same first.session session here) refl
+found_at session (first ∷ waiting) zero past d within here none = rw (eq-eqb first.session session here) refl
 found_at session (first ∷ waiting) (suc i) past d within here none =
-    rw (other first.session session (none 0 first (omega arith)))
+    rw (ne_eqb first.session session (none 0 first (omega arith)))
     (ap (behind first) (found_at session waiting i past d (omega arith) here (λ k e below. none (suc k) e (omega arith))))
 
 pub found : (session : ℕ) (waiting : List Waiter) (i : ℕ) (past d : Waiter) → i < length waiting → (get_or waiting i d).session ≡ session → NoneBelow session waiting i → place_of session waiting ≡ Some (round waiting i past)
@@ -35,5 +29,5 @@ pub missing : (session : ℕ) (waiting : List Waiter) → NoneBelow session wait
 unfolding place_of
 missing session [] none = refl
 missing session (first ∷ waiting) none =
-    rw (other first.session session (none 0 first (omega arith)))
+    rw (ne_eqb first.session session (none 0 first (omega arith)))
     (ap (behind first) (missing session waiting (λ k e below. none (suc k) e (omega arith))))

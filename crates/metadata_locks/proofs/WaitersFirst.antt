@@ -1,10 +1,10 @@
 -- A waiting request refuses shared locks that are asked for later.
-use Rattle.std.proofs.Common.{◌≡◌, ◌≢◌, ℕ, Bool, true, false, not, nat_eq, ◌&&◌, cond, List, [], ◌∷◌, ◌++◌, Option, Some, None, refl, sym, ap, ◌∙◌, arith}
-use Rattle.std.proofs.lemmas.Bool.Decides.{nat_tests}
+use Rattle.std.proofs.Common.{◌≡◌, ◌≢◌, ℕ, Bool, true, false, not, nat_eq, ◌&&◌, cond, List, [], ◌∷◌, ◌++◌, Option, Some, None, refl, sym, ap, ◌∙◌}
+use Rattle.std.proofs.lemmas.Bool.{ne_eqb}
 use Rattle.metadata_locks.specs.declared.request.Waiter.{Waiter}
 use Rattle.metadata_locks.specs.Granting.{has_name, holds, waiting_session, least_holder, least_waiter, refuser_of_name}
 use Rattle.least_session.specs.Least.{least}
-use Rattle.least_session.proofs.Sessions.{none_of, others}
+use Rattle.least_session.proofs.Sessions.{none_of}
 use Rattle.metadata_locks.specs.Laws.{WaitersGoFirst}
 
 refuses : (own named : Bool) (session : ℕ) → own ≡ false → named ≡ true → cond (not own && named) (Some session) None ≡ None → ⊥
@@ -15,7 +15,7 @@ refuses false false session e f g = absurd cc
 waits : (front behind : List Waiter) (waiter : Waiter) (session : ℕ) (name : List ℕ) → has_name waiter.names name ≡ true → waiter.session ≢ session → least_waiter (front ++ waiter ∷ behind) session name ≢ None
 unfolding least_waiter
 waits [] behind waiter session name named other e =
-    refuses (nat_eq waiter.session session) (has_name waiter.names name) waiter.session (others waiter.session session other) named ((none_of (waiting_session session name waiter) (least_waiter behind session name) e).0)
+    refuses (nat_eq waiter.session session) (has_name waiter.names name) waiter.session (ne_eqb waiter.session session other) named ((none_of (waiting_session session name waiter) (least_waiter behind session name) e).0)
 waits (first ∷ front) behind waiter session name named other e =
     waits front behind waiter session name named other ((none_of (waiting_session session name first) (least_waiter (front ++ waiter ∷ behind) session name) e).1)
 

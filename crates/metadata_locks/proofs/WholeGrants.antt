@@ -3,6 +3,8 @@ use Rattle.std.proofs.Common.{◌≡◌, ◌≢◌, ℕ, Bool, true, false, not,
 use Rattle.std.specs.Cmp.{nat_eq_equiv}
 use Rattle.std.specs.Cmp.Lexicographic.{pointwise}
 use Rattle.std.specs.List.{AllByRecursion}
+use Rattle.std.proofs.Math.Bool.{or-not_self}
+use Rattle.std.proofs.lemmas.Bool.{or_right}
 use Rattle.std.proofs.lemmas.Cmp.{nat_list_eq_equiv}
 use Rattle.metadata_locks.specs.declared.request.Asked2.TheVariants as answers
 use Rattle.metadata_locks.specs.Granting.{HeldName, has_name, holds, answer_by}
@@ -10,20 +12,13 @@ use Rattle.metadata_locks.specs.Holding.{NameTable, held_by, added, asked_by, re
 use Rattle.metadata_locks.specs.Laws.{GrantsWhole}
 use Rattle.metadata_locks.proofs.Holders.{holds-append, names_held}
 
-or_true : (b : Bool) → (b || true) ≡ true
-or_true true = refl
-or_true false = refl
-
-or_either : (b c : Bool) → c ≡ true → (b || c) ≡ true
-or_either b c e = ap (λ x. b || x) e ∙ or_true b
-
 -- the names are among these
 abbrev Among : List (List ℕ) → List (List ℕ) → Type 0
 Among names all = AllByRecursion (λ name. has_name all name ≡ true) names
 
 further : (names all : List (List ℕ)) (more : List ℕ) → Among names all → Among names (more ∷ all)
 further [] all more among = tt
-further (name ∷ names) all more among = (or_either (pointwise nat_eq more name) (has_name all name) among.0, further names all more among.1)
+further (name ∷ names) all more among = (or_right (pointwise nat_eq more name) (has_name all name) among.0, further names all more among.1)
 
 all_among : (names : List (List ℕ)) → Among names names
 all_among [] = tt
@@ -33,15 +28,11 @@ all_among (name ∷ names) = (ap (λ b. b || has_name names name) (nat_list_eq_e
 once_added : (held : List HeldName) (session : ℕ) (exclusive : Bool) (all : List (List ℕ)) (name : List ℕ) → has_name all name ≡ true → holds (held ++ map (held_by session exclusive) all) session name exclusive ≡ true
 once_added held session exclusive all name among =
     holds-append held (map (held_by session exclusive) all) session name exclusive
-    ∙ or_either (holds held session name exclusive) (holds (map (held_by session exclusive) all) session name exclusive)
+    ∙ or_right (holds held session name exclusive) (holds (map (held_by session exclusive) all) session name exclusive)
     (names_held session exclusive all session name exclusive
     ∙ ap (λ b. b && (has_name all name && (exclusive || not exclusive))) (nat_eq_equiv.refl session)
     ∙ ap (λ b. b && (exclusive || not exclusive)) among
-    ∙ strong exclusive)
-  where
-    strong : (b : Bool) → (b || not b) ≡ true
-    strong true = refl
-    strong false = refl
+    ∙ or-not_self exclusive)
 
 -- what the session held it still holds
 still : (held more : List HeldName) (session : ℕ) (name : List ℕ) (exclusive : Bool) → holds held session name exclusive ≡ true → holds (held ++ more) session name exclusive ≡ true
@@ -60,7 +51,7 @@ either_further held session lacked [] more either = tt
 either_further held session lacked (name ∷ names) more either = (
   elim either.0 [
     | inl held_already ↦ inl held_already
-    | inr lacks ↦ inr (or_either (pointwise nat_eq more name) (has_name lacked name) lacks)
+    | inr lacks ↦ inr (or_right (pointwise nat_eq more name) (has_name lacked name) lacks)
   ],
   either_further held session lacked names more either.1,
 )

@@ -1,6 +1,7 @@
 -- Where the migration goes, the range is copied and the applier reads, it is frozen.
 use Rattle.std.proofs.Common.{◌≡◌, ◌<◌, ◌≤◌, ℕ, ◌+◌, Bool, true, false, cond, ◌&&◌, List, [], Option, Some, None, refl, sym, ap, ◌∙◌, subst, arith}
 use Rattle.std.specs.Prelude.{◌==◌}
+use Rattle.std.proofs.Math.Nat.{le_refl}
 use Rattle.std.proofs.lemmas.Bool.Decides.{nat_tests}
 use Rattle.plain_server.specs.declared.entry.Entry.{Entry}
 use Rattle.plain_server.specs.declared.request.Request.{Request}
@@ -63,9 +64,6 @@ above_more a b n low small = omega (arith, small)
 
 one_two : (a b n : ℕ) → n + a + b + 1 < n + a + b + 2
 one_two a b n = omega arith
-
-itself : (n : ℕ) → n ≤ n
-itself n = omega arith
 
 module _ (plan : PlanData) (m : Migration) (at : Clustered m.schema) (rows : List Row) (above : ℕ) (journal : List Entry) (known : IsKnownAsked plan journal) (within : sessions_named journal ≤ above) (work : Work) (course : (moment plan journal).tool.course ≡ Migrating work)
     (goes : Goes plan m at rows journal work) (copied : work.copier.is_copied ≡ true) (reading : work.applier.step ≡ Reading) where
@@ -156,8 +154,8 @@ module _ (plan : PlanData) (m : Migration) (at : Clustered m.schema) (rows : Lis
     copied = copied;
     idle = reading;
     here = subst (StandsAt work.applier.position) (sym course) refl;
-    copier_above = above_less some.copier some.applier above above (itself above);
-    applier_above = above_more some.copier some.applier above above (itself above);
+    copier_above = above_less some.copier some.applier above above (le_refl above);
+    applier_above = above_more some.copier some.applier above above (le_refl above);
     quiet = quiet;
   }
 

@@ -1,6 +1,7 @@
 -- A migration whose copier and applier are done goes on in sessions that nobody is in.
-use Rattle.std.proofs.Common.{◌≡◌, ◌<◌, ◌≤◌, ℕ, ◌+◌, Bool, true, false, List, [], ◌∷◌, ◌++◌, Option, Some, None, refl, sym, ap, ◌∙◌, subst, arith}
+use Rattle.std.proofs.Common.{◌≡◌, ◌<◌, ◌≤◌, ℕ, Bool, true, false, List, [], ◌∷◌, ◌++◌, Option, Some, None, refl, sym, ap, ◌∙◌, subst}
 use Rattle.std.specs.Prelude.{◌==◌}
+use Rattle.std.proofs.Math.Nat.{lt_of_le_of_lt}
 use Rattle.script_text.specs.declared.actor.Actor.{Actor}
 use Rattle.script_text.specs.declared.actor.Actor.TheVariants.{Apply, Copy}
 use Rattle.plain_server.specs.Entries.{is_command, is_cut, same_actor}
@@ -83,9 +84,6 @@ pub record Frozen (plan : PlanData) (m : Migration) (at : Clustered m.schema) (r
   pub applier_above : above < machines.applier_session
   pub quiet : IsQuiet plan journal
 
-less_on : (a b n : ℕ) → a ≤ b → b < n → a < n
-less_on a b n small less = omega (arith, small, less)
-
 module _ (plan : PlanData) (m : Migration) (at : Clustered m.schema) (rows : List Row) (of : IsMigrationOf plan m rows) (above : ℕ) (journal : List Entry) (entry : Entry) (kept : IsKept plan (journal ++ entry ∷ [])) (off : IsUnaltered plan (journal ++ entry ∷ [])) (within : sessions_named (journal ++ entry ∷ []) ≤ above)
     (work : Work) (course : (moment plan journal).tool.course ≡ Migrating work) (copy_calls : CallsQuiet plan journal Copy) (apply_calls : CallsQuiet plan journal Apply) (frozen : Frozen plan m at rows above journal) where
   abbrev more : List Entry
@@ -166,7 +164,7 @@ module _ (plan : PlanData) (m : Migration) (at : Clustered m.schema) (rows : Lis
     by false copy false so = by_third copy so entry.asked refl
 
   apart : (n : ℕ) → above < n → (n == entry.session) ≡ false
-  apart n less = turned entry.session n (named_differs journal entry together.known.sessions seat n (less_on (sessions_named more) above n within less))
+  apart n less = turned entry.session n (named_differs journal entry together.known.sessions seat n (lt_of_le_of_lt within less))
 
   named_new : m.new.name ≡ ghost_name m.name
   named_new = ghost_named plan m of.of ∙ ap ghost_name (sym of.of.name)

@@ -27,7 +27,7 @@ use Rattle.migration_program.specs.declared.cutover_core.cutover.Stage.TheVarian
 use Rattle.migration_program.specs.Programs.{given, tool_call}
 use Rattle.migration_program.specs.Tools.{Work, moment}
 use Rattle.journal_facts.proofs.Actors.{same_actor_is}
-use Rattle.journal_facts.specs.MachineLaws.Standings.{IsAbout, Standing, answered, free, is_called, is_polled, standing_of}
+use Rattle.journal_facts.specs.MachineLaws.Standings.{IsAbout, Standing, free, is_called, is_polled, standing_of}
 use Rattle.journal_facts.proofs.MachineLaws.Journals.{Asking, IsRun, IsTogether, asking, calls_so, has_now, never_commands, polls_so}
 use Rattle.journal_facts.proofs.MachineLaws.Seated.{IsServed, others_stand, own_lost}
 use Rattle.journal_facts.proofs.MachineLaws.Tabling.{Behind, behind, rests, waits_on}

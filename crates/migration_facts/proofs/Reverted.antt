@@ -1,7 +1,9 @@
 -- Over a whole journal, reverted or not: where the RENAME is done the migration is frozen, so the new table is the altered one.
 use Rattle.std.proofs.Common.{◌≡◌, ◌≤◌, ◌+◌, ℕ, Bool, true, false, cond, List, [], ◌∷◌, ◌++◌, drop, Option, Some, None, refl, sym, ap, ◌∙◌, subst, inl, inr, append-nil, append_assoc, arith}
 use Rattle.std.specs.List.{list_any}
+use Rattle.std.proofs.Math.Nat.{le_refl}
 use Rattle.std.proofs.lemmas.Bool.{true≢false}
+use Rattle.std.proofs.lemmas.Option.{none-some}
 use Rattle.gho_values.specs.Laws.{StoresAgain}
 use Rattle.row_store.specs.Databases.{find_table}
 use Rattle.script_text.specs.declared.actor.Actor.{Actor}
@@ -40,7 +42,7 @@ use Rattle.migration_facts.specs.MigrationLaws.PlanningLaws.Laws.{migration_of}
 use Rattle.journal_facts.specs.RunLaws.Kept.{IsKept}
 use Rattle.journal_facts.specs.MachineLaws.Machines.{CourseStands, WorkStands, renaming}
 use Rattle.journal_facts.specs.MachineLaws.Runnable.{IsRunnable}
-use Rattle.journal_facts.specs.MachineLaws.Standings.{Standing, free, standing_of}
+use Rattle.journal_facts.specs.MachineLaws.Standings.{Standing, standing_of}
 use Rattle.journal_facts.proofs.MachineLaws.Journals.{Asking, IsRun, IsTogether, calls_so, polls_so}
 use Rattle.migration_facts.proofs.MigrationLaws.Migrating.{ends}
 use Rattle.migration_facts.specs.CourseLaws.RunnableLaws.Laws.{AlterablePlansAreRunnable, IsAlterable, IsWorded}
@@ -73,9 +75,6 @@ data Held (plan : PlanData) (m : Migration) (at : Clustered m.schema) (rows : Li
   rests_so : (standing_of plan journal Ren).waits ≡ None → Held plan m at rows above journal
   stands_so : HasSentry plan.table (scene (state_at plan journal)) → Held plan m at rows above journal
   frozen_so : Frozen plan m at rows above journal → Held plan m at rows above journal
-
-itself : (n : ℕ) → n ≤ n
-itself n = omega arith
 
 called_drained : (work : Work) (request : Request) → attempts.next Renamer work.cutover ≡ Some request → IsAtDrained work.cutover.phase
 unfolding attempts.next
@@ -138,9 +137,7 @@ module _ (plan : PlanData) (m : Migration) (at : Clustered m.schema) (rows : Lis
     setup_held : (setup : Setup) (tries : List ℕ) → (moment plan journal).tool.course ≡ SettingUp setup tries → HeldMore
     setup_held setup tries course =
         rests_so (rests_on plan journal entry together run (ap (λ (s : Standing). s.waits) (subst (CourseStands journal has (is_reverting (moment plan journal).tool.reason)) course together.stands).renamer)
-        (λ request call. no (ap (λ (c : Course). tool_call plan (moment plan journal).server journal (moment plan journal).tool c Ren) (sym course) ∙ call))) where
-          no : {request : Request} → None ≡ Some request → ⊥
-          no same = cc
+        (λ request call. none-some request (ap (λ (c : Course). tool_call plan (moment plan journal).server journal (moment plan journal).tool c Ren) (sym course) ∙ call)))
 
     module _ (work : Work) (course : (moment plan journal).tool.course ≡ Migrating work) where
       stands : WorkStands journal (is_reverting (moment plan journal).tool.reason) has work
@@ -244,7 +241,7 @@ module _ (plan : PlanData) (m : Migration) (at : Clustered m.schema) (rows : Lis
   Goal journal = is_reverting (moment plan journal).tool.reason ≡ true → Held plan m at rows above journal
 
   named_front : (some rest : List Entry) → IsKept plan (some ++ rest) → sessions_named some ≤ sessions_named (some ++ rest)
-  named_front some [] kept = subst (λ (j : List Entry). sessions_named some ≤ sessions_named j) (sym (append-nil some)) (itself (sessions_named some))
+  named_front some [] kept = subst (λ (j : List Entry). sessions_named some ≤ sessions_named j) (sym (append-nil some)) (le_refl (sessions_named some))
   named_front some (entry ∷ rest) kept =
       let same : (some ++ entry ∷ []) ++ rest ≡ some ++ entry ∷ rest = append_assoc some (entry ∷ []) rest in
       let later : IsKept plan ((some ++ entry ∷ []) ++ rest) = subst (IsKept plan) (sym same) kept in
@@ -252,7 +249,7 @@ module _ (plan : PlanData) (m : Migration) (at : Clustered m.schema) (rows : Lis
       let before : IsKept plan some = kept_front plan some (entry ∷ []) front in
       let together : IsTogether plan some = (all_asked plan some of.runs before.faithful before.follows).marking.tabled.all.tool in
       let run : IsRun plan some entry = kept_run plan some entry front in
-      let one : sessions_named some ≤ sessions_named (some ++ entry ∷ []) = named_keeps some entry together.known.sessions (placed some entry (record { session = run.followed.session })) (sessions_named some) (itself (sessions_named some)) in
+      let one : sessions_named some ≤ sessions_named (some ++ entry ∷ []) = named_keeps some entry together.known.sessions (placed some entry (record { session = run.followed.session })) (sessions_named some) (le_refl (sessions_named some)) in
       let two : sessions_named (some ++ entry ∷ []) ≤ sessions_named ((some ++ entry ∷ []) ++ rest) = named_front (some ++ entry ∷ []) rest later in
       let three : sessions_named ((some ++ entry ∷ []) ++ rest) ≡ sessions_named (some ++ entry ∷ rest) = ap sessions_named same in
       omega (arith, one, two, three)
@@ -294,7 +291,7 @@ module _ (plan : PlanData) (m : Migration) (at : Clustered m.schema) (rows : Lis
   start_going is = absurd (true≢false (sym is))
 
   held : Held plan m at rows (sessions_named journal) journal
-  held = all_held plan m at rows of found (sessions_named journal) [] journal tt turned kept rename.unaltered (itself (sessions_named journal)) start_going on
+  held = all_held plan m at rows of found (sessions_named journal) [] journal tt turned kept rename.unaltered (le_refl (sessions_named journal)) start_going on
 
   work_ended : cutovers.ended finds.work.cutover.phase ≡ finds.work.cutover.phase
   work_ended = (subst (CourseGoes plan journal (is_reverting (moment plan journal).tool.reason)) finds.course (all_going plan journal of.runs.fitting of.runs.stands kept.faithful kept.follows).course).ended on

@@ -9,27 +9,16 @@ use Rattle.std.proofs.Math.Seq.{map-set_same}
 use Rattle.std.proofs.lemmas.Cmp.{nat_list_eq_equiv}
 use Rattle.std.proofs.lemmas.Bool.{or_parts}
 use Rattle.std.proofs.Math.ListN.{get_or-map}
-use Rattle.std.proofs.lemmas.List.{length-map}
+use Rattle.std.proofs.lemmas.List.{length-map, map-set}
 use Rattle.std.proofs.lemmas.Option.{slice_get-get_or, slice_get_within, get_or_from_slice_get}
 use Rattle.std.proofs.lemmas.List.Sums.{prefix_len-le-length}
 use Rattle.indexmap.specs.IndexMap.{IndexMap, move_index, insert_entry, insert_index}
 use Rattle.indexmap.proofs.CallerLemmas.{insert_entry-new}
+pub use Rattle.indexmap.proofs.SetLemmas.{map-insert, map-remove}
 use Rattle.indexmap.specs.Layout.{set_value_at}
 use Rattle.name_map.specs.NameMaps.{NamedValues, named_values, with_value, names_before, has_name}
 
 -- ---- lists
-
-pub map_remove : {X Y : Type 0} (f : X → Y) (xs : List X) (n : ℕ) → map f (remove xs n) ≡ remove (map f xs) n
-map_remove f [] zero = refl
-map_remove f [] (suc n) = refl
-map_remove f (x ∷ xs) zero = refl
-map_remove f (x ∷ xs) (suc n) = ap (λ ys. f x ∷ ys) (map_remove f xs n)
-
-map_set : {X Y : Type 0} (f : X → Y) (xs : List X) (n : ℕ) (x : X) → map f (set xs n x) ≡ set (map f xs) n (f x)
-map_set f [] zero x = refl
-map_set f [] (suc n) x = refl
-map_set f (y ∷ xs) zero x = refl
-map_set f (y ∷ xs) (suc n) x = ap (λ ys. f y ∷ ys) (map_set f xs n x)
 
 pub got_map : {X Y : Type 0} (f : X → Y) (xs : List X) (n : ℕ) (x : X) → slice_get xs n ≡ Some x → slice_get (map f xs) n ≡ Some (f x)
 got_map f xs n x at =
@@ -87,7 +76,7 @@ goes_last name (e ∷ es) none =
 -- nor is it one where an entry is taken out
 pub still_absent : {A T : Type 0} (name : List ℕ) (es : List (String A × T)) (n : ℕ) → has_name name (map string_bytes (keys_of es)) ≡ false → has_name name (map string_bytes (keys_of (remove es n))) ≡ false
 still_absent name es n none =
-    ap (λ ks. has_name name (map string_bytes ks)) (map_remove (λ e. e.0) es n) ∙ ap (has_name name) (map_remove string_bytes (keys_of es) n) ∙ none_removed (λ other. bytes_eq other name) (map string_bytes (keys_of es)) n none
+    ap (λ ks. has_name name (map string_bytes ks)) (map-remove (λ e. e.0) es n) ∙ ap (has_name name) (map-remove string_bytes (keys_of es) n) ∙ none_removed (λ other. bytes_eq other name) (map string_bytes (keys_of es)) n none
 
 -- ---- the place of a name
 
@@ -126,13 +115,13 @@ module _ {A T : Type 0} where
   values_push (e ∷ es) k v = ap (λ vs. e.1 ∷ vs) (values_push es k v)
 
   pub names_remove : (es : List (String A × T)) (n : ℕ) → map string_bytes (keys_of (remove es n)) ≡ remove (map string_bytes (keys_of es)) n
-  names_remove es n = ap (map string_bytes) (map_remove (λ e. e.0) es n) ∙ map_remove string_bytes (keys_of es) n
+  names_remove es n = ap (map string_bytes) (map-remove (λ e. e.0) es n) ∙ map-remove string_bytes (keys_of es) n
 
   pub values_remove : (es : List (String A × T)) (n : ℕ) → values_of (remove es n) ≡ remove (values_of es) n
-  values_remove es n = map_remove (λ e. e.1) es n
+  values_remove es n = map-remove (λ e. e.1) es n
 
   pub names_set : (es : List (String A × T)) (n : ℕ) (k : String A) (v : T) → map string_bytes (keys_of (set es n (k, v))) ≡ set (map string_bytes (keys_of es)) n (string_bytes k)
-  names_set es n k v = ap (map string_bytes) (map_set (λ e. e.0) es n (k, v)) ∙ map_set string_bytes (keys_of es) n k
+  names_set es n k v = ap (map string_bytes) (map-set (λ (e : String A × T). e.0) es n (k, v)) ∙ map-set string_bytes (keys_of es) n k
 
   pub values_kept : (es : List (String A × T)) (n : ℕ) (old k : String A) (v : T) → slice_get es n ≡ Some (old, v) → values_of (set es n (k, v)) ≡ values_of es
   values_kept es n old k v at = map-set_same (λ e. e.1) es n (k, v) (old, v) (ap (λ e. e.1) (sym (get_or_from_slice_get es n (old, v) (old, v) at)))

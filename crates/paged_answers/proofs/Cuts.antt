@@ -1,18 +1,13 @@
 -- The first keys of some rows, and the rows behind them.
-use Rattle.std.proofs.Common.{◌≡◌, ℕ, zero, suc, ◌+◌, ◌-◌, ◌<◌, ◌≤◌, true, false, List, [], ◌∷◌, ◌++◌, take, drop, length, map, refl, sym, ap, ◌∙◌, subst, append_assoc, append-nil, arith}
+use Rattle.std.proofs.Common.{◌≡◌, ℕ, suc, ◌+◌, ◌-◌, ◌<◌, ◌≤◌, true, false, List, [], ◌∷◌, ◌++◌, take, drop, length, map, refl, sym, ap, ◌∙◌, subst, append_assoc, append-nil, arith}
 use Rattle.std.proofs.lemmas.Bool.{lt-ltb, le-ltb}
-use Rattle.std.proofs.lemmas.List.{length-map, length-drop}
+use Rattle.std.proofs.lemmas.List.{length-map, length-drop, take-map}
 use Rattle.std.proofs.Math.Seq.{take-nil, drop-nil}
 use Rattle.std.specs.Prelude.{nat_lt}
 use Rattle.gho_values.specs.declared.value.Value.{Value}
 use Rattle.gho_values.specs.declared.span.Span.{Span}
 use Rattle.plain_server.specs.declared.answer.Answer.TheVariants as answers
 use Rattle.plain_server.specs.Chunks.{first_keys, last_of, end_key}
-
-take_of_map : {X Y : Type 0} (f : X → Y) (n : ℕ) (items : List X) → take n (map f items) ≡ map f (take n items)
-take_of_map f zero items = refl
-take_of_map f (suc n) [] = refl
-take_of_map f (suc n) (item ∷ items) = ap (λ more. f item ∷ more) (take_of_map f n items)
 
 -- how far a walk is that has made some keys, and has rows left
 pub record Walked {X Y : Type 0} (f : X → Y) (n : ℕ) (keys : List Y) (rows : List X) (size : ℕ) (all : List X) : Type 0 where
@@ -47,11 +42,11 @@ pub cut_keys : {X : Type 0} (f : X → List Value) (span : Span) (size : ℕ) (i
 cut_keys f span size items next behind more =
     let less : size < length items = omega (arith, sym (length-drop size items) ∙ ap length more) in
     let long : nat_lt size (length (map f items)) ≡ true = lt-ltb size (length (map f items)) (subst (λ n. size < n) (sym (length-map items f)) less) in
-    rw (take_of_map f size items) (rw long refl)
+    rw (take-map f size items) (rw long refl)
 
 -- where none is left, they are all
 pub all_keys : {X : Type 0} (f : X → List Value) (span : Span) (size : ℕ) (items : List X) → drop size items ≡ [] → first_keys span size (map f items) ≡ answers.Keys (map f (take size items)) (end_key span.high)
 all_keys f span size items none =
     let few : length items ≤ size = omega (arith, sym (length-drop size items) ∙ ap length none) in
     let short : nat_lt size (length (map f items)) ≡ false = le-ltb size (length (map f items)) (subst (λ n. n ≤ size) (sym (length-map items f)) few) in
-    rw (take_of_map f size items) (rw short refl)
+    rw (take-map f size items) (rw short refl)

@@ -1,5 +1,5 @@
 -- The last row of pages is that of the last page.
-use Rattle.std.proofs.Common.{◌≡◌, ℕ, zero, suc, ◌+◌, ◌-◌, ◌<◌, List, [], ◌∷◌, ◌++◌, length, get_or, map, refl, sym, ap, ◌∙◌, arith, length-append, append-nil, Some}
+use Rattle.std.proofs.Common.{◌≡◌, ℕ, zero, suc, ◌-◌, ◌<◌, List, [], ◌∷◌, ◌++◌, length, get_or, map, refl, sym, ap, ◌∙◌, arith, length-append, append-nil, Some}
 use Rattle.std.specs.List.{slice_get, flat_map}
 use Rattle.gho_values.specs.GhoSchema.Rows.{key_of}
 use Rattle.row_store.proofs.Orders.{Row}

@@ -1,7 +1,7 @@
 -- What the edits of pages leave.
 use Rattle.std.proofs.Common.{◌≡◌, ◌∙◌, ℕ, zero, suc, ◌+◌, ◌*◌, ◌-◌, ◌/◌, ◌<◌, ◌≤◌, Bool, true, false, cond, List, [], ◌∷◌, ◌++◌, length, take, set, get_or, insert, remove, leb, refl, ap, arith, length-append}
 use Rattle.std.proofs.lemmas.Bool.{le-leb, lt-leb, leb-true, leb-false}
-use Rattle.std.proofs.lemmas.List.{length-set}
+use Rattle.std.proofs.lemmas.List.{length-set, nil_from_length, get_or_append_left, get_or-append-add}
 use Rattle.std.proofs.lemmas.List.Edits.{length-insert, length-remove}
 use Rattle.paged_list.specs.Pages.{flat, ArePages, joined, parted, place_in, pages_made, room_of}
 use Rattle.paged_list.proofs.PageLists.{room, flat-inserted, flat-removed, flat-parted, flat-joined, flat-dropped, grown, shrunk_first, shrunk_behind, dropped, count_parted, get_set}
@@ -21,26 +21,15 @@ fits_at zero (page ∷ pages) are lt = are.1
 fits_at (suc n) (page ∷ pages) are lt = fits_at n pages are.3 (omega arith)
 
 -- an entry of a page is one of the list
-get_left : (at d : ℕ) (xs ys : List ℕ) → at < length xs → get_or (xs ++ ys) at d ≡ get_or xs at d
-get_left at d [] ys lt = absurd (omega arith)
-get_left zero d (x ∷ xs) ys lt = refl
-get_left (suc at) d (x ∷ xs) ys lt = get_left at d xs ys (omega arith)
-
-get_right : (n d : ℕ) (xs ys : List ℕ) → get_or (xs ++ ys) (length xs + n) d ≡ get_or ys n d
-get_right n d [] ys = let none : 0 + n ≡ n = omega arith in ap (λ (k : ℕ). get_or ys k d) none
-get_right n d (x ∷ xs) ys =
-    let more : suc (length xs) + n ≡ suc (length xs + n) = omega arith in
-    ap (λ (k : ℕ). get_or (x ∷ (xs ++ ys)) k d) more ∙ get_right n d xs ys
-
 pub get_flat : (n at d : ℕ) (pages : Pages) → n < length pages → at < length (get_or pages n []) → get_or (flat pages) (place_in pages n at) d ≡ get_or (get_or pages n []) at d
 get_flat n at d [] lt within = absurd (omega arith)
 get_flat zero at d (page ∷ pages) lt within =
     let place : 0 + at ≡ at = omega arith in
-    ap (λ (k : ℕ). get_or (page ++ flat pages) k d) place ∙ get_left at d page (flat pages) within
+    ap (λ (k : ℕ). get_or (page ++ flat pages) k d) place ∙ get_or_append_left page (flat pages) d at within
 get_flat (suc n) at d (page ∷ pages) lt within =
     let before : length (flat (take (suc n) (page ∷ pages))) ≡ length page + length (flat (take n pages)) = length-append page (flat (take n pages)) in
     let place : place_in (page ∷ pages) (suc n) at ≡ length page + place_in pages n at = omega (arith, before) in
-    ap (λ (k : ℕ). get_or (page ++ flat pages) k d) place ∙ get_right (place_in pages n at) d page (flat pages) ∙ get_flat n at d pages (omega arith) within
+    ap (λ (k : ℕ). get_or (page ++ flat pages) k d) place ∙ get_or-append-add page (flat pages) (place_in pages n at) d ∙ get_flat n at d pages (omega arith) within
 
 pub place_within : (n at : ℕ) (pages : Pages) → n < length pages → at ≤ length (get_or pages n []) → place_in pages n at ≤ length (flat pages)
 place_within n at [] lt le = absurd (omega arith)
@@ -92,10 +81,6 @@ remove_set n [] page = refl
 remove_set zero (old ∷ pages) page = refl
 remove_set (suc n) (old ∷ pages) page = ap (λ (ps : Pages). old ∷ ps) (remove_set n pages page)
 
-no_length : (xs : List ℕ) → length xs ≡ 0 → xs ≡ []
-no_length [] none = refl
-no_length (x ∷ xs) none = absurd (omega arith)
-
 abbrev pub without_entry : Pages → ℕ → ℕ → Pages
 without_entry pages n at = set pages n (remove (get_or pages n []) at)
 
@@ -108,7 +93,7 @@ taken_are_empty n at pages are lt within none =
 pub taken_flat_empty : (n at : ℕ) (pages : Pages) → n < length pages → at < length (get_or pages n []) → length (remove (get_or pages n []) at) ≡ 0 → flat (remove (without_entry pages n at) n) ≡ remove (flat pages) (place_in pages n at)
 taken_flat_empty n at pages lt within none =
     let rest = remove (get_or pages n []) at in
-    let empty : get_or (without_entry pages n at) n [] ≡ [] = get_set n pages rest lt ∙ no_length rest none in
+    let empty : get_or (without_entry pages n at) n [] ≡ [] = get_set n pages rest lt ∙ nil_from_length rest none in
     let long : n < length (without_entry pages n at) = rw (length-set pages n rest) lt in
     flat-dropped n (without_entry pages n at) long empty ∙ flat-removed n at pages lt within
 

@@ -1,6 +1,8 @@
 -- Where entries stand in pages, and where those end that pass a test.
 use Rattle.std.proofs.Common.{◌≡◌, ◌∙◌, ℕ, zero, suc, ◌+◌, ◌-◌, ◌<◌, ◌≤◌, Bool, true, false, cond, List, [], ◌∷◌, ◌++◌, length, take, drop, get_or, Some, None, refl, sym, ap, arith, length-append, add-one}
 use Rattle.std.specs.List.{AllByRecursion, prefix_len, slice_get}
+use Rattle.std.proofs.Math.Seq.{drop-append-add}
+use Rattle.std.proofs.lemmas.List.{take_all, drop-append-le}
 use Rattle.std.proofs.lemmas.Option.{slice_get_within, slice_get-get_or, get_or_from_slice_get}
 use Rattle.std.proofs.lemmas.List.Sums.{prefix_len-le-length}
 use Rattle.paged_list.specs.Pages.{flat, ArePages, place_in, IsGap, FailsOn, first_passes, last_page, StandsAt}
@@ -123,12 +125,6 @@ stands_next n at entry pages page next gap here none behind there =
       entry_is = rw (← same) stands.entry_is;
     }
 
-all_pages : (n : ℕ) (pages : Pages) → length pages ≤ n → take n pages ≡ pages
-all_pages zero [] le = refl
-all_pages (suc n) [] le = refl
-all_pages zero (page ∷ pages) le = absurd (omega arith)
-all_pages (suc n) (page ∷ pages) le = ap (λ (ps : Pages). page ∷ ps) (all_pages n pages (omega arith))
-
 pub none_next : (n at : ℕ) (pages : Pages) (page : List ℕ) → IsGap pages n at → slice_get pages n ≡ Some page → slice_get page at ≡ None → slice_get pages (n + 1) ≡ None → length (flat pages) ≤ place_in pages n at
 none_next n at pages page gap here none behind =
     let page_is : get_or pages n [] ≡ page = get_or_from_slice_get pages n page [] here in
@@ -136,7 +132,7 @@ none_next n at pages page gap here none behind =
     let over = past page at none in
     let stop = page_end n pages (slice_get_within pages n page here) in
     let last = no_page pages (n + 1) behind in
-    let whole : length (flat (take (suc n) pages)) ≡ length (flat pages) = ap (λ (ps : Pages). length (flat ps)) (all_pages (suc n) pages (omega (arith, last))) in
+    let whole : length (flat (take (suc n) pages)) ≡ length (flat pages) = ap (λ (ps : Pages). length (flat ps)) (take_all (suc n) pages (omega (arith, last))) in
     omega (arith, size, over, stop, whole)
 
 pub next_has : (n : ℕ) (pages : Pages) (next : List ℕ) → ArePages pages → slice_get pages n ≡ Some next → slice_get next 0 ≡ None → ⊥
@@ -148,26 +144,15 @@ next_has n pages next are here none =
     omega (arith, some, size, over)
 
 -- The entries from a place on.
-drop_left : (k : ℕ) (xs ys : List ℕ) → k ≤ length xs → drop k (xs ++ ys) ≡ drop k xs ++ ys
-drop_left zero xs ys le = refl
-drop_left (suc k) [] ys le = absurd (omega arith)
-drop_left (suc k) (x ∷ xs) ys le = drop_left k xs ys (omega arith)
-
-drop_right : (k : ℕ) (xs ys : List ℕ) → drop (length xs + k) (xs ++ ys) ≡ drop k ys
-drop_right k [] ys = let none : 0 + k ≡ k = omega arith in ap (λ (n : ℕ). drop n ys) none
-drop_right k (x ∷ xs) ys =
-    let more : suc (length xs) + k ≡ suc (length xs + k) = omega arith in
-    ap (λ (n : ℕ). drop n (x ∷ (xs ++ ys))) more ∙ drop_right k xs ys
-
 pub drop_flat : (n at : ℕ) (pages : Pages) → n < length pages → at ≤ length (get_or pages n []) → drop (place_in pages n at) (flat pages) ≡ drop at (get_or pages n []) ++ flat (drop (suc n) pages)
 drop_flat n at [] lt le = absurd (omega arith)
 drop_flat zero at (page ∷ pages) lt le =
     let place : 0 + at ≡ at = omega arith in
-    ap (λ (k : ℕ). drop k (page ++ flat pages)) place ∙ drop_left at page (flat pages) le
+    ap (λ (k : ℕ). drop k (page ++ flat pages)) place ∙ drop-append-le at page (flat pages) le
 drop_flat (suc n) at (page ∷ pages) lt le =
     let before : length (flat (take (suc n) (page ∷ pages))) ≡ length page + length (flat (take n pages)) = length-append page (flat (take n pages)) in
     let place : place_in (page ∷ pages) (suc n) at ≡ length page + place_in pages n at = omega (arith, before) in
-    ap (λ (k : ℕ). drop k (page ++ flat pages)) place ∙ drop_right (place_in pages n at) page (flat pages) ∙ drop_flat n at pages (omega arith) le
+    ap (λ (k : ℕ). drop k (page ++ flat pages)) place ∙ drop-append-add page (flat pages) (place_in pages n at) ∙ drop_flat n at pages (omega arith) le
 
 -- the page that the code found
 pub page_is_last : (test : ℕ → Bool) (pages : Pages) (n at : ℕ) → n ≡ last_page test pages → at ≡ prefix_len test (get_or pages n []) → EndsIn test pages (last_page test pages) → place_in pages n at ≡ prefix_len test (flat pages)

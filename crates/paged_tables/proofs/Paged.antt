@@ -1,5 +1,5 @@
 -- Tables in pages under their names: what is so of a plain list of tables, carried over.
-use Rattle.std.proofs.Common.{◌≡◌, ℕ, ◌+◌, ◌<◌, ◌≤◌, Bool, true, false, not, ◌||◌, List, [], ◌∷◌, ◌++◌, length, get_or, set, take, remove, cond, option_map, IsSome, IsSomeAnd, IfSome, is_some, find, Option, Some, None, Result, Ok, Err, OnOk, OnErr, Bor, refl, sym, ap, ◌∙◌, subst}
+use Rattle.std.proofs.Common.{◌≡◌, ℕ, ◌+◌, ◌<◌, ◌≤◌, Bool, true, false, not, ◌||◌, List, [], ◌∷◌, ◌++◌, length, get_or, set, take, remove, cond, option_map, IsSome, IsSomeAnd, IfSome, is_some, find, Option, Some, None, Result, Ok, Err, OnOk, OnErr, Bor, refl, sym, ap, ◌∙◌, subst, one-add}
 use Rattle.std.proofs.Math.ListN.{get_or-map}
 use Rattle.std.proofs.Math.Seq.{map-set_same}
 use Rattle.std.specs.List.{prefix_len, slice_get, slice_set}
@@ -11,11 +11,10 @@ use Rattle.gho_values.specs.declared.gho_schema.schema.Schema.{Schema}
 use Rattle.gho_values.specs.GhoSchema.Rows.{key_places, with_row}
 use Rattle.paged_tables.specs.RowPages.StoredRows.{PagedTable}
 use Rattle.row_store.specs.Databases.{TableRows, StoredTable, Database, IsNewIn, put_in_table, is_named, find_table, has_table, find_stored, others, spare_in, database, with_change, name_table, name_stored, NamesDiffer}
-use Rattle.row_store.proofs.RowsBetween.{one_more as one_further}
 use Rattle.row_store.proofs.NamedTables.{before, within, Stands, stands, Wrote, wrote, Put, put, is_new, has_found, IsTaken, take_out, IsAbsent, absent, added_differ}
 use Rattle.row_store.proofs.KeptTables.{not_ahead, same_stored}
 use Rattle.name_map.specs.NameMaps.{NamedValues, names_before, has_name, with_value}
-use Rattle.name_map.proofs.Entries.{map_remove, got_map}
+use Rattle.name_map.proofs.Entries.{map-remove, got_map}
 use Rattle.paged_tables.specs.PagedDatabases.{stored_of, stored, table_names, AreNamed}
 
 -- ---- what is found
@@ -69,7 +68,7 @@ has_named name (t ∷ tables) = ap (λ (b : Bool). is_named name t.table || b) (
 
 found_here : (b : Bool) (t : PagedTable) (tables : List PagedTable) (n : ℕ) (rest : Option PagedTable) → rest ≡ slice_get tables n → cond b (Some t) rest ≡ slice_get (t ∷ tables) (cond (not b) (1 + n) 0)
 found_here true t tables n rest is = refl
-found_here false t tables n rest is = rw (one_further n) is
+found_here false t tables n rest is = rw (one-add n) is
 
 pub found_place : (name : List ℕ) (tables : List PagedTable) → find (λ (t : PagedTable). is_named name t.table) tables ≡ slice_get tables (place name tables)
 found_place name [] = refl
@@ -191,7 +190,7 @@ fresh_paged made tables i new old differ at same so_far =
 -- ---- one table less
 
 pub removed_stored : (tables : List PagedTable) (n : ℕ) → stored (remove tables n) ≡ remove (stored tables) n
-removed_stored tables n = map_remove stored_of tables n
+removed_stored tables n = map-remove stored_of tables n
 
 pub taken_out : (name : List ℕ) (tables : List PagedTable) (n : ℕ) (old : PagedTable) → NamesDiffer (database (stored tables)) → n ≡ place name tables → slice_get tables n ≡ Some old → IsTaken name (stored tables) n (stored_of old)
 taken_out name tables n old differ is at =
@@ -201,7 +200,7 @@ taken_out name tables n old differ is at =
 pub taken_named : (name : List ℕ) (tables after : NamedValues PagedTable) (n : ℕ) (old : PagedTable) → AreNamed tables → IsTaken name (stored tables.values) n (stored_of old) → after.names ≡ remove tables.names n → after.values ≡ remove tables.values n → AreNamed after
 taken_named name tables after n old named out names values =
     let moved : stored after.values ≡ remove (stored tables.values) n = ap stored values ∙ removed_stored tables.values n in (
-      names ∙ ap (λ ns. remove ns n) named.0 ∙ sym (map_remove (λ (t : PagedTable). t.table.schema.name) tables.values n) ∙ ap table_names (sym values),
+      names ∙ ap (λ ns. remove ns n) named.0 ∙ sym (map-remove (λ (t : PagedTable). t.table.schema.name) tables.values n) ∙ ap table_names (sym values),
       subst (λ (ts : List StoredTable). NamesDiffer (database ts)) (sym moved) out.differ,
     )
 

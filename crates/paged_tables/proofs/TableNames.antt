@@ -2,6 +2,7 @@
 use Rattle.std.proofs.Common.{◌≡◌, ℕ, false, List, set, IfSome, Some, sym, ap, ◌∙◌, subst}
 use Rattle.std.specs.List.{slice_get, slice_set}
 use Rattle.std.proofs.lemmas.List.{map-set}
+use Rattle.std.proofs.lemmas.Option.{same_Some}
 use Rattle.name_map.specs.NameMaps.{NamedValues, has_name, with_value}
 use Rattle.name_map.proofs.Entries.{got_map}
 use Rattle.paged_tables.specs.RowPages.StoredRows.{PagedTable}
@@ -22,15 +23,12 @@ renames was kept n old new key name had had_key named same key_at names values a
     let here : slice_get was.values n ≡ Some old = ap (λ (ts : List PagedTable). slice_get ts n) (sym values) ∙ at in
     let named_here : slice_get (table_names was.values) n ≡ Some old.table.schema.name = got_map (λ (t : PagedTable). t.table.schema.name) was.values n old here in
     let both : Some had_key ≡ Some old.table.schema.name = sym key_at ∙ ap (λ ns. slice_get ns n) named ∙ named_here in
-    let one : had_key ≡ old.table.schema.name = some_same both in
+    let one : had_key ≡ old.table.schema.name = same_Some had_key old.table.schema.name both in
     record {
       told = subst (λ (ts : List PagedTable). IfSome (slice_get (stored ts) n) (λ s. (had ≡ s.table.schema.name) × (stored (set kept.values n new) ≡ slice_set (stored ts) n (name_stored name s)))) values (renamed_at kept.values n old new name had at table spare had_is);
       same = one ∙ sym had_is;
       named = names ∙ ap (λ ns. set ns n key) named ∙ ap (λ (ts : List PagedTable). set (table_names ts) n key) (sym values) ∙ ap (set (table_names kept.values) n) (same ∙ sym (ap (λ (t : TableRows). t.schema.name) table)) ∙ sym (map-set (λ (t : PagedTable). t.table.schema.name) kept.values n new);
     }
-  where
-    some_same : {X : Type 0} {x y : X} → Some x ≡ Some y → x ≡ y
-    some_same e = cc
 
 pub is_free : (key : List ℕ) (name : List ℕ) (tables : NamedValues PagedTable) → tables.names ≡ table_names tables.values → key ≡ name → has_table name (database (stored tables.values)) ≡ false → has_name key tables.names ≡ false
 is_free key name tables named same none = ap (λ k. has_name k tables.names) same ∙ ap (has_name name) named ∙ has_named name tables.values ∙ none

@@ -2,11 +2,12 @@
 use Rattle.std.proofs.Common.{◌≡◌, ℕ, Bool, true, false, ◌&&◌, ◌||◌, not, cond, List, [], ◌∷◌, ◌++◌, filter, take, zero, suc, refl, sym, ap, ◌∙◌, subst, append_assoc}
 use Rattle.std.specs.List.{list_any}
 use Rattle.std.specs.Str.{bytes_eq}
+use Rattle.std.proofs.Math.Bool.{or-true}
 use Rattle.std.proofs.lemmas.Bool.{and_parts}
 use Rattle.std.proofs.lemmas.List.Folds.{list_any-append}
 use Rattle.plain_server.specs.declared.session.HeldName.{HeldName}
 use Rattle.plain_server.specs.HeldNames.{held, alike, is_held_so, SayTheSame}
-use Rattle.plain_server.proofs.StatementLaws.Tests.{are_same, or_true, same_bytes}
+use Rattle.plain_server.proofs.StatementLaws.Tests.{are_same, same_bytes}
 
 -- ONE NAME
 
@@ -46,7 +47,7 @@ found test name exclusive [] has is = absurd cc
 found test name exclusive (one ∷ names) has is = by (is_held_so name exclusive one) refl has (λ later. found test name exclusive names later is) where
   by : (b : Bool) → is_held_so name exclusive one ≡ b → (b || list_any (is_held_so name exclusive) names) ≡ true → (list_any (is_held_so name exclusive) names ≡ true → list_any test names ≡ true) → (test one || list_any test names) ≡ true
   by true so has rest = rw (ap test (is_it one name exclusive so) ∙ is) refl
-  by false so has rest = rw (rest has) (or_true (test one))
+  by false so has rest = rw (rest has) (or-true (test one))
 
 any_filter : (test p : HeldName → Bool) (names : List HeldName) → list_any test (filter p names) ≡ list_any (λ one. p one && test one) names
 any_filter test p [] = refl
@@ -92,7 +93,7 @@ own test front (one ∷ names) =
     ap (λ b. b || list_any (λ other. is_of (front ++ one ∷ names) other && test other) names) (and_true (is_of (front ++ one ∷ names) one) (test one) here)
     ∙ ap (λ b. test one || b) (subst (λ (all : List HeldName). list_any (λ other. is_of all other && test other) names ≡ list_any test names) (append_assoc front (one ∷ []) names) (own test (front ++ one ∷ []) names)) where
       here : is_of (front ++ one ∷ names) one ≡ true
-      here = list_any-append (is_held_so one.name one.exclusive) front (one ∷ names) ∙ ap (λ b. list_any (is_held_so one.name one.exclusive) front || (b || list_any (is_held_so one.name one.exclusive) names)) (is_itself one) ∙ or_true (list_any (is_held_so one.name one.exclusive) front)
+      here = list_any-append (is_held_so one.name one.exclusive) front (one ∷ names) ∙ ap (λ b. list_any (is_held_so one.name one.exclusive) front || (b || list_any (is_held_so one.name one.exclusive) names)) (is_itself one) ∙ or-true (list_any (is_held_so one.name one.exclusive) front)
 
 -- what is so of one of the first is so of one of all
 first_of : (test : HeldName → Bool) (names : List HeldName) (n : ℕ) → list_any test (take n names) ≡ true → list_any test names ≡ true

@@ -3,6 +3,7 @@ use Rattle.std.proofs.Common.{◌≡◌, ◌≢◌, ℕ, Bool, true, false, not,
 use Rattle.std.specs.Cmp.{nat_eq_equiv}
 use Rattle.std.specs.Cmp.Lexicographic.{pointwise}
 use Rattle.std.specs.List.{AllByRecursion, AllPairs, list_any}
+use Rattle.std.proofs.lemmas.Bool.{ne_eqb}
 use Rattle.std.proofs.lemmas.Cmp.{nat_list_eq_equiv}
 use Rattle.std.proofs.lemmas.List.Elements.{All-from_recursion}
 use Rattle.std.proofs.lemmas.List.Kept.{AllPairs-cons}
@@ -13,7 +14,7 @@ use Rattle.row_locks.specs.declared.lock.HeldLock.{HeldLock}
 use Rattle.row_locks.specs.declared.lock.Asked2.TheVariants as answers
 use Rattle.row_locks.specs.Granting.{same_place, conflict, refusal, refuser_of_lock, refuser_of_set, answer_by}
 use Rattle.least_session.proofs.Kept.{both, kept}
-use Rattle.least_session.proofs.Sessions.{none_of, not_refused, others}
+use Rattle.least_session.proofs.Sessions.{none_of, not_refused}
 use Rattle.row_locks.specs.Holding.{LockTable, LastAsk, held_by, granted_unless, freed_if, before_ask}
 use Rattle.row_locks.specs.Laws.{Call, called, no_locks, Bear, HeldLocksBear, ConflictBothWays, GrantsWhole}
 use Rattle.row_locks.specs.Laws.Call.{Ask, Free, Undo}
@@ -46,7 +47,7 @@ alone session (lock ∷ set) = (own session lock set, alone session set)
 
 bears : (session : ℕ) (lock : Lock) (a : HeldLock) → refusal session lock a ≡ None → Bear a (held_by session lock)
 unfolding refusal
-bears session lock a e = λ other. not_refused (nat_eq a.session session) (conflict a.lock lock) a.session e (others a.session session other)
+bears session lock a e = λ other. not_refused (nat_eq a.session session) (conflict a.lock lock) a.session e (ne_eqb a.session session other)
 
 -- nobody who holds these locks refuses the lock
 abbrev Borne : List HeldLock → ℕ → Lock → Type 0

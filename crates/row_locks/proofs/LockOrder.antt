@@ -4,7 +4,7 @@ use Rattle.std.specs.Cmp.{IsTotalOrder, bool_cmp_total, Equal-is}
 use Rattle.std.specs.Cmp.Lexicographic.{pointwise, slice_cmp, options_total, bytes_decides}
 use Rattle.std.specs.Ordering.{is_gt, nat_cmp, bool_cmp, ordering_reverse, ordering_then}
 use Rattle.std.specs.Option.{option_cmp}
-use Rattle.std.proofs.lemmas.Bool.{and_parts, and_from, eqb-true, true≢false, false≢true}
+use Rattle.std.proofs.lemmas.Bool.{and_parts, and_from, eqb-true, true≢false, false≢true, false_from_ne_true}
 use Rattle.std.proofs.lemmas.Cmp.{upto, tied_itself, tied_back, on_total, then_total, back_total, nat_cmp_total, nat_list_cmp_total}
 use Rattle.std.proofs.lemmas.Map.Lookups.{exact_unsigned, exact_bytes}
 use Rattle.gho_values.specs.declared.span.Bound.{Bound}
@@ -34,10 +34,6 @@ between : (o : Ordering) → is_gt o ≡ false → is_gt (ordering_reverse o) �
 between Less up down = absurd (cc)
 between Equal up down = refl
 between Greater up down = absurd (cc)
-
-pub not_so : (b : Bool) → (b ≡ true → ⊥) → b ≡ false
-not_so true wrong = absurd (wrong refl)
-not_so false wrong = refl
 
 -- Spans of one key.
 record Closes (low high : Bound) : Type 0 where
@@ -102,7 +98,7 @@ alike_from a b one other is =
 -- one that comes before the lock doesn't conflict with it
 before_clear : (lock x : Lock) → is_point lock.span ≡ true → is_point x.span ≡ true → is_gt (compare_places lock x) ≡ true → conflict x lock ≡ false
 before_clear lock x one other before =
-    not_so (conflict x lock)
+    false_from_ne_true (conflict x lock)
     (λ is. let same : compare_places lock x ≡ Equal = tied_back places_total x lock (tied x lock (alike_from x lock other one is)) in
     false≢true (sym (ap is_gt same) ∙ before))
 
@@ -137,7 +133,7 @@ pub behind_none : (lock : Lock) (x y : Option Lock) → is_point lock.span ≡ t
 behind_none lock None y at_lock at_x at_y before order none = absurd (cc)
 behind_none lock (Some x) None at_lock at_x at_y before order none = refl
 behind_none lock (Some x) (Some y) at_lock at_x at_y before order none =
-    not_so (conflict y lock) (λ is. true≢false (sym (earlier_conflicts lock x y at_lock at_x at_y before order is) ∙ none))
+    false_from_ne_true (conflict y lock) (λ is. true≢false (sym (earlier_conflicts lock x y at_lock at_x at_y before order is) ∙ none))
 
 pub by_place : (x y : Option Lock) → is_gt (option_cmp compare_locks x y) ≡ false → is_gt (option_cmp compare_places x y) ≡ false
 by_place None None order = refl

@@ -1,5 +1,5 @@
 -- Where the row of a key stands, and where a new one goes.
-use Rattle.std.proofs.Common.{◌≡◌, ℕ, ◌+◌, Bool, true, false, not, List, [], ◌∷◌, insert, remove, find, filter, cond, Option, Some, None, Ordering, Less, Equal, Greater, refl, sym, ap, ◌∙◌, ◌||◌, unwrap_or}
+use Rattle.std.proofs.Common.{◌≡◌, ℕ, ◌+◌, Bool, true, false, not, List, [], ◌∷◌, insert, remove, find, filter, cond, Option, Some, None, Ordering, Less, Equal, Greater, refl, sym, ap, ◌∙◌, ◌||◌, unwrap_or, one-add}
 use Rattle.std.proofs.lemmas.Option.{slice_get_within}
 use Rattle.std.specs.Option.{option_and_then}
 use Rattle.std.specs.Ordering.{is_eq, is_gt, match_ordering}
@@ -9,7 +9,6 @@ use Rattle.gho_values.specs.GhoSchema.Rows.{key_of, has_key, put, with_row}
 use Rattle.gho_values.specs.GhoSchema.Tables.{Ascends}
 use Rattle.row_store.specs.RowLists.{is_at, comes_before, without_key, StandsAt}
 use Rattle.row_store.proofs.Orders.{Row, not_greater}
-use Rattle.row_store.proofs.RowsBetween.{one_more}
 
 gt_not_eq : (o : Ordering) → is_gt o ≡ true → is_eq o ≡ false
 gt_not_eq Less is = absurd cc
@@ -43,7 +42,7 @@ found_from : (test : Row → Bool) (places : List ℕ) (key row : Row) (rows : L
     → find test rows ≡ option_and_then (if_passes test) (slice_get rows (place places key rows))
     → find test (row ∷ rows) ≡ option_and_then (if_passes test) (slice_get (row ∷ rows) (cond b (1 + place places key rows) 0))
 found_from test places key row rows true is ascends only others =
-    rw (only row (gt_not_eq (compare_keys key (key_of places row)) is), one_more (place places key rows)) others
+    rw (only row (gt_not_eq (compare_keys key (key_of places row)) is), one-add (place places key rows)) others
 found_from test places key row rows false is ascends only others =
     rw (none_found test (is_at places key) rows only (others_not_at places key row rows is ascends.0)) refl
 
@@ -96,7 +95,7 @@ one_left : (places : List ℕ) (key first row : Row) (rows : List Row) (b : Bool
 one_left places key first row rows true is ascends there others =
     let not_at : is_at places key first ≡ false = gt_not_eq (compare_keys key (key_of places first)) is in
     let later : find (is_at places key) rows ≡ Some row = sym (rw not_at refl) ∙ there in
-    rw (not_at, one_more (place places key rows)) (ap (λ (rs : List Row). first ∷ rs) (others later))
+    rw (not_at, one-add (place places key rows)) (ap (λ (rs : List Row). first ∷ rs) (others later))
 one_left places key first row rows false is ascends there others = one_here places key first row rows (is_at places key first) refl (others_not_at places key first rows is ascends.0) there
 
 pub one_to_remove : (places : List ℕ) (key : Row) (rows : List Row) (row : Row) → Ascends places rows → find (is_at places key) rows ≡ Some row → without_key places key rows ≡ remove rows (place places key rows)
@@ -107,7 +106,7 @@ one_to_remove places key (first ∷ rows) row ascends is = one_left places key f
 goes : (o : Ordering) (row first : Row) (rows placed : List Row) (n : ℕ) → placed ≡ insert rows n row → match_ordering o (row ∷ first ∷ rows) (row ∷ first ∷ rows) (first ∷ placed) ≡ insert (first ∷ rows) (cond (is_gt o) (1 + n) 0) row
 goes Less row first rows placed n others = refl
 goes Equal row first rows placed n others = refl
-goes Greater row first rows placed n others = rw (one_more n) (ap (λ (rs : List Row). first ∷ rs) others)
+goes Greater row first rows placed n others = rw (one-add n) (ap (λ (rs : List Row). first ∷ rs) others)
 
 pub with_row_is : (places : List ℕ) (row : Row) (rows : List Row) → with_row places row rows ≡ insert rows (place places (key_of places row) rows) row
 unfolding with_row

@@ -4,12 +4,12 @@ use Rattle.std.specs.List.{slice_get, slice_set}
 use Rattle.std.proofs.Math.Seq.{map-set_same}
 use Rattle.std.proofs.lemmas.Bool.{or_parts}
 use Rattle.std.proofs.lemmas.List.{map-set, map_push, take_more, take-map}
-use Rattle.std.proofs.lemmas.Option.{slice_get_within, get_or_from_slice_get}
+use Rattle.std.proofs.lemmas.Option.{same_Some, slice_get_within, get_or_from_slice_get}
 use Rattle.gho_values.specs.declared.value.Value.{Value}
 use Rattle.gho_values.specs.declared.gho_schema.schema.Schema.{Schema}
 use Rattle.gho_values.specs.GhoSchema.Rows.{key_places, with_row}
 use Rattle.name_map.specs.NameMaps.{NamedValues, names_before, has_name, with_value}
-use Rattle.name_map.proofs.Entries.{map_remove, got_map}
+use Rattle.name_map.proofs.Entries.{map-remove, got_map}
 use Rattle.row_store.specs.Databases.{TableRows, StoredTable, Database, IsNewIn, put_in_table, is_named, find_table, has_table, others, spare_in, database, with_change, name_table, name_stored, NamesDiffer}
 use Rattle.row_store.specs.KeptByName.{table_names, AreNamed}
 use Rattle.row_store.proofs.NamedTables.{before, Stands, stands, Wrote, wrote, Put, put, is_new, IsTaken, take_out, added_differ, other_way}
@@ -115,7 +115,7 @@ taken_out name tables n old differ is at = take_out name tables n old differ is 
 
 pub taken_named : (name : List ℕ) (tables after : NamedValues StoredTable) (n : ℕ) (old : StoredTable) → AreNamed tables → IsTaken name tables.values n old → after.names ≡ remove tables.names n → after.values ≡ remove tables.values n → AreNamed after
 taken_named name tables after n old named out names values = (
-  names ∙ ap (λ ns. remove ns n) named.0 ∙ sym (map_remove (λ (t : StoredTable). t.table.schema.name) tables.values n) ∙ ap table_names (sym values),
+  names ∙ ap (λ ns. remove ns n) named.0 ∙ sym (map-remove (λ (t : StoredTable). t.table.schema.name) tables.values n) ∙ ap table_names (sym values),
   subst (λ (ts : List StoredTable). NamesDiffer (database ts)) (sym values) out.differ,
 )
 
@@ -129,16 +129,13 @@ pub record Renames (was now : NamedValues StoredTable) (n : ℕ) (name had had_k
 pub same_stored : (t t' : TableRows) (n n' : ℕ) → t ≡ t' → n ≡ n' → let a : StoredTable = record { table = t; spare = n } in a ≡ record { table = t'; spare = n' }
 same_stored t t' n n' table spare = cc
 
-some_same : {X : Type 0} {x y : X} → Some x ≡ Some y → x ≡ y
-some_same e = cc
-
 pub renames : (was kept : NamedValues StoredTable) (n : ℕ) (old new : StoredTable) (key name had had_key : List ℕ) → was.names ≡ table_names was.values → key ≡ name → slice_get was.names n ≡ Some had_key → kept.names ≡ set was.names n key → kept.values ≡ was.values
     → slice_get kept.values n ≡ Some old → new.table ≡ name_table name old.table → new.spare ≡ old.spare → had ≡ old.table.schema.name → Renames was (with_value kept n new) n name had had_key
 renames was kept n old new key name had had_key named same key_at names values at table spare had_is =
     let here : slice_get was.values n ≡ Some old = ap (λ (ts : List StoredTable). slice_get ts n) (sym values) ∙ at in
     let named_here : slice_get (table_names was.values) n ≡ Some old.table.schema.name = got_map (λ (t : StoredTable). t.table.schema.name) was.values n old here in
     let both : Some had_key ≡ Some old.table.schema.name = sym key_at ∙ ap (λ ns. slice_get ns n) named ∙ named_here in
-    let one : had_key ≡ old.table.schema.name = some_same both in
+    let one : had_key ≡ old.table.schema.name = same_Some _ _ both in
     let is : new ≡ name_stored name old = same_stored new.table (name_table name old.table) new.spare old.spare table spare in
     record {
       told = rw here (had_is, ap (λ (ts : List StoredTable). set ts n new) values ∙ ap (λ (s : StoredTable). set was.values n s) is);

@@ -1,16 +1,15 @@
 -- The table of a name among tables of different names.
-use Rattle.std.proofs.Common.{◌≡◌, ℕ, ◌+◌, ◌<◌, ◌≤◌, Bool, true, false, not, ◌||◌, List, [], ◌∷◌, ◌++◌, length, get_or, set, map, remove, cond, option_map, IsSome, IsSomeAnd, is_some, Option, Some, None, Bor, refl, sym, ap, ◌∙◌, subst}
+use Rattle.std.proofs.Common.{◌≡◌, ℕ, ◌+◌, ◌<◌, ◌≤◌, Bool, true, false, not, ◌||◌, List, [], ◌∷◌, ◌++◌, length, get_or, set, map, remove, cond, option_map, IsSome, IsSomeAnd, is_some, Option, Some, None, Bor, refl, sym, ap, ◌∙◌, subst, one-add}
 use Rattle.std.specs.List.{prefix_len, slice_get}
 use Rattle.std.specs.Option.{option_copied, option_map_or}
 use Rattle.std.specs.Str.{bytes_eq}
 use Rattle.std.specs.Cmp.Lexicographic.{bytes_decides}
-use Rattle.std.proofs.lemmas.Bool.{or_parts}
+use Rattle.std.proofs.lemmas.Bool.{cond-false, or_parts}
 use Rattle.std.proofs.lemmas.Option.{slice_get_read, slice_get_within, slice_get_past}
 use Rattle.gho_values.specs.declared.value.Value.{Value}
 use Rattle.gho_values.specs.declared.gho_schema.schema.Schema.{Schema}
 use Rattle.gho_values.specs.GhoSchema.Rows.{key_places, with_row}
 use Rattle.row_store.specs.Databases.{TableRows, StoredTable, Database, IsNewIn, put_in_table, is_named, find_table, has_table, find_stored, others, spare_in, database, with_change, NamesDiffer}
-use Rattle.row_store.proofs.RowsBetween.{one_more}
 use Rattle.row_store.proofs.FoundRows.{put_new}
 
 -- the table alone of what is found
@@ -32,7 +31,7 @@ before name tables = prefix_len (λ (s : StoredTable). not (is_named name s.tabl
 
 found_first : (b : Bool) (stored : StoredTable) (tables : List StoredTable) (n : ℕ) (rest : Option StoredTable) → rest ≡ slice_get tables n → cond b (Some stored) rest ≡ slice_get (stored ∷ tables) (cond (not b) (1 + n) 0)
 found_first true stored tables n rest is = refl
-found_first false stored tables n rest is = rw (one_more n) is
+found_first false stored tables n rest is = rw (one-add n) is
 
 -- the table of the name stands at its place
 pub find_stored-before : (name : List ℕ) (tables : List StoredTable) → find_stored name tables ≡ slice_get tables (before name tables)
@@ -69,15 +68,11 @@ stands name tables n old is some at =
     }
 
 -- a table of another name is left alone
-no_change_here : (b : Bool) (table new : TableRows) → b ≡ false → cond b new table ≡ table
-no_change_here true table new is = absurd cc
-no_change_here false table new is = refl
-
 pub no_change : (name : List ℕ) (change : TableRows → TableRows) (tables : Database) → has_table name tables ≡ false → with_change name change tables ≡ tables
 no_change name change [] none = refl
 no_change name change (table ∷ tables) none =
     let parts = or_parts (is_named name table) (has_table name tables) none in
-    rw (no_change_here (is_named name table) table (change table) parts.0, no_change name change tables parts.1) refl
+    rw (cond-false (is_named name table) (change table) table parts.0, no_change name change tables parts.1) refl
 
 -- of tables with different names, only the first may have the name of the first
 pub none_behind : (name : List ℕ) (table : TableRows) (tables : Database) → is_named name table ≡ true → has_table table.schema.name tables ≡ false → has_table name tables ≡ false
@@ -92,8 +87,8 @@ write_first name change stored old new tables true named none at is others =
     let same : stored ≡ old = cc in
     rw (no_change name change (database tables) (none_behind name stored.table (database tables) named none)) (ap (λ (t : TableRows). t ∷ database tables) (is ∙ ap (λ (s : StoredTable). change s.table) (sym same)))
 write_first name change stored old new tables false named none at is others =
-    let behind : slice_get tables (before name tables) ≡ Some old = rw (one_more (before name tables)) at at in
-    rw (one_more (before name tables)) (ap (λ (ts : Database). stored.table ∷ ts) (others behind))
+    let behind : slice_get tables (before name tables) ≡ Some old = rw (one-add (before name tables)) at at in
+    rw (one-add (before name tables)) (ap (λ (ts : Database). stored.table ∷ ts) (others behind))
 
 pub written : (name : List ℕ) (change : TableRows → TableRows) (tables : List StoredTable) (old new : StoredTable) → NamesDiffer (database tables) → slice_get tables (before name tables) ≡ Some old → new.table ≡ change old.table
     → database (set tables (before name tables) new) ≡ with_change name change (database tables)
@@ -108,8 +103,8 @@ room_first : (name : List ℕ) (stored old new : StoredTable) (tables : List Sto
     → find_stored name (set (stored ∷ tables) (cond (not b) (1 + before name tables) 0) new) ≡ Some new
 room_first name stored old new tables true named is at others = rw is refl
 room_first name stored old new tables false named is at others =
-    let behind : slice_get tables (before name tables) ≡ Some old = rw (one_more (before name tables)) at at in
-    rw (one_more (before name tables), named) (others behind)
+    let behind : slice_get tables (before name tables) ≡ Some old = rw (one-add (before name tables)) at at in
+    rw (one-add (before name tables), named) (others behind)
 
 pub found_written : (name : List ℕ) (tables : List StoredTable) (old new : StoredTable) → is_named name new.table ≡ true → slice_get tables (before name tables) ≡ Some old → find_stored name (set tables (before name tables) new) ≡ Some new
 found_written name [] old new is at = absurd cc
@@ -123,8 +118,8 @@ rest_first : (name : List ℕ) (stored old new : StoredTable) (tables : List Sto
     → others name (set (stored ∷ tables) (cond (not b) (1 + before name tables) 0) new) ≡ cond (not b) (stored ∷ others name tables) (others name tables)
 rest_first name stored old new tables true named is at rest = rw is refl
 rest_first name stored old new tables false named is at rest =
-    let behind : slice_get tables (before name tables) ≡ Some old = rw (one_more (before name tables)) at at in
-    rw (one_more (before name tables), named) (ap (λ (ts : List StoredTable). stored ∷ ts) (rest behind))
+    let behind : slice_get tables (before name tables) ≡ Some old = rw (one-add (before name tables)) at at in
+    rw (one-add (before name tables), named) (ap (λ (ts : List StoredTable). stored ∷ ts) (rest behind))
 
 pub others_written : (name : List ℕ) (tables : List StoredTable) (old new : StoredTable) → is_named name new.table ≡ true → slice_get tables (before name tables) ≡ Some old → others name (set tables (before name tables) new) ≡ others name tables
 others_written name [] old new is at = absurd cc
@@ -151,7 +146,7 @@ with_change_differs name change tables keeps differ = same_differ (λ (t : Table
 named_first : (name : List ℕ) (stored old : StoredTable) (tables : List StoredTable) (b : Bool) → is_named name stored.table ≡ b → slice_get (stored ∷ tables) (cond (not b) (1 + before name tables) 0) ≡ Some old
     → (slice_get tables (before name tables) ≡ Some old → is_named name old.table ≡ true) → is_named name old.table ≡ true
 named_first name stored old tables true named at rest = let same : stored ≡ old = cc in subst (λ (s : StoredTable). is_named name s.table ≡ true) same named
-named_first name stored old tables false named at rest = rest (rw (one_more (before name tables)) at at)
+named_first name stored old tables false named at rest = rest (rw (one-add (before name tables)) at at)
 
 named_at : (name : List ℕ) (tables : List StoredTable) (old : StoredTable) → slice_get tables (before name tables) ≡ Some old → is_named name old.table ≡ true
 named_at name [] old at = absurd cc
@@ -251,8 +246,8 @@ taken_first : (name : List ℕ) (stored old : StoredTable) (tables : List Stored
     → cond (not b) (stored ∷ others name tables) (others name tables) ≡ remove (stored ∷ tables) (cond (not b) (1 + before name tables) 0)
 taken_first name stored old tables true named none at rest = none_named name tables (none_behind name stored.table (database tables) named none)
 taken_first name stored old tables false named none at rest =
-    let behind : slice_get tables (before name tables) ≡ Some old = rw (one_more (before name tables)) at at in
-    rw (one_more (before name tables)) (ap (λ (ts : List StoredTable). stored ∷ ts) (rest behind))
+    let behind : slice_get tables (before name tables) ≡ Some old = rw (one-add (before name tables)) at at in
+    rw (one-add (before name tables)) (ap (λ (ts : List StoredTable). stored ∷ ts) (rest behind))
 
 taken : (name : List ℕ) (tables : List StoredTable) (old : StoredTable) → NamesDiffer (database tables) → slice_get tables (before name tables) ≡ Some old → others name tables ≡ remove tables (before name tables)
 taken name [] old differ at = absurd cc

@@ -1,12 +1,12 @@
 -- What renaming one table does to tables of different names, and how it is undone.
-use Rattle.std.proofs.Common.{◌≡◌, ℕ, zero, suc, ◌<◌, Bool, true, false, not, List, [], ◌∷◌, length, get_or, set, cond, is_some, IfSome, Option, Some, None, refl, sym, ap, ◌∙◌, subst, arith}
+use Rattle.std.proofs.Common.{◌≡◌, ℕ, ◌<◌, Bool, true, false, not, List, [], ◌∷◌, length, get_or, set, cond, is_some, IfSome, Option, Some, None, refl, sym, ap, ◌∙◌, subst, arith}
 use Rattle.std.specs.List.{slice_get}
 use Rattle.std.proofs.Math.Seq.{map-set_same}
 use Rattle.std.specs.Str.{bytes_eq}
 use Rattle.std.specs.Cmp.Lexicographic.{bytes_decides}
 use Rattle.std.proofs.lemmas.List.Sums.{prefix_len_stops}
-use Rattle.std.proofs.lemmas.Bool.{or_parts}
-use Rattle.std.proofs.lemmas.List.{set-get_or, length-set, get_or-set_same}
+use Rattle.std.proofs.lemmas.Bool.{not-false, or_parts}
+use Rattle.std.proofs.lemmas.List.{set-get_or, set-set, length-set, get_or-set_same}
 use Rattle.std.proofs.lemmas.Option.{slice_get_within, slice_get-get_or, get_or_from_slice_get}
 use Rattle.row_store.specs.Databases.{TableRows, StoredTable, Database, is_named, has_table, find_stored, database, with_name, name_table, name_stored, spares, NamesDiffer, rename_tables}
 use Rattle.row_store.specs.declared.renaming.Pair.{Pair}
@@ -33,12 +33,6 @@ renamed_differ old new [] differ none = tt
 renamed_differ old new (table ∷ tables) differ none =
     let parts = or_parts (is_named new table) (has_table new tables) none in
     (differ_first (is_named old table) old new table tables refl parts.0 parts.1 differ.0, renamed_differ old new tables differ.1 parts.1)
-
--- a second write at a place hides the first
-set_twice : (tables : List StoredTable) (n : ℕ) (a b : StoredTable) → set (set tables n a) n b ≡ set tables n b
-set_twice [] n a b = refl
-set_twice (stored ∷ tables) zero a b = refl
-set_twice (stored ∷ tables) (suc n) a b = ap (λ (ts : List StoredTable). stored ∷ ts) (set_twice tables n a b)
 
 some_is : (found : Option StoredTable) → is_some found ≡ true → (s : StoredTable) × (found ≡ Some s)
 some_is None some = absurd cc
@@ -73,7 +67,7 @@ undo : (tables : List StoredTable) (n : ℕ) (s : StoredTable) (name had : List 
 undo tables n s name had again dropped lt at is told =
     let now : slice_get (set tables n (name_stored name s)) n ≡ Some (name_stored name s) = at_set tables n (name_stored name s) lt in
     let parts = rw now at told in
-    parts.1 ∙ set_twice tables n (name_stored name s) (name_stored had (name_stored name s))
+    parts.1 ∙ set-set tables n (name_stored name s) (name_stored had (name_stored name s))
     ∙ ap (λ (h : List ℕ). set tables n (name_stored h s)) is
     ∙ ap (λ (x : StoredTable). set tables n x) (sym (get_or_from_slice_get tables n s s at))
     ∙ set-get_or tables n s
@@ -122,11 +116,7 @@ first_named name tables n s is at =
     let stops = prefix_len_stops (λ (t : StoredTable). not (is_named name t.table)) tables s lt in
     let here : get_or tables (before name tables) s ≡ s = ap (λ k. get_or tables k s) (sym is) ∙ get_or_from_slice_get tables n s s at in
     let named : not (is_named name s.table) ≡ false = ap (λ (t : StoredTable). not (is_named name t.table)) (sym here) ∙ stops in
-    (bytes_decides s.table.schema.name name).0 (of_not (is_named name s.table) named)
-  where
-    of_not : (b : Bool) → not b ≡ false → b ≡ true
-    of_not true is = refl
-    of_not false is = absurd cc
+    (bytes_decides s.table.schema.name name).0 (not-false (is_named name s.table) named)
 
 at_place : (tables : List StoredTable) (n : ℕ) → n < length tables → (s : StoredTable) × (slice_get tables n ≡ Some s)
 at_place [] n lt = absurd (let no : ⊥ = omega (arith, lt) in no)

@@ -1,6 +1,7 @@
 -- The rows in a span stand together.
-use Rattle.std.proofs.Common.{◌≡◌, ℕ, zero, suc, ◌+◌, Bool, true, false, not, ◌&&◌, List, [], ◌∷◌, take, drop, filter, cond, refl, sym, ap, ◌∙◌, arith}
+use Rattle.std.proofs.Common.{◌≡◌, ℕ, zero, suc, ◌+◌, Bool, true, false, not, ◌&&◌, List, [], ◌∷◌, take, drop, filter, cond, refl, sym, ap, ◌∙◌, one-add}
 use Rattle.std.specs.List.{AllByRecursion, prefix_len}
+use Rattle.std.proofs.lemmas.Bool.{not-false}
 use Rattle.gho_values.specs.GhoSchema.Tables.{Ascends}
 use Rattle.row_store.proofs.Orders.{Row, FailsOn}
 
@@ -14,28 +15,21 @@ pub none_pass : (test : Row → Bool) (rows : List Row) → AllByRecursion (λ r
 none_pass test [] fail = refl
 none_pass test (row ∷ rows) fail = rw fail.0 (none_pass test rows fail.1)
 
-pub one_more : (n : ℕ) → 1 + n ≡ suc n
-one_more n = omega arith
-
 -- the rows that pass stand in front
 front_passes : (test : Row → Bool) (row : Row) (rows : List Row) (b : Bool) → test row ≡ b → (test row ≡ false → AllByRecursion (λ other. test other ≡ false) rows) → filter test rows ≡ take (prefix_len test rows) rows
     → cond b (row ∷ filter test rows) (filter test rows) ≡ take (cond b (1 + prefix_len test rows) 0) (row ∷ rows)
-front_passes test row rows true is fails others = rw (one_more (prefix_len test rows)) (ap (λ (rs : List Row). row ∷ rs) others)
+front_passes test row rows true is fails others = rw (one-add (prefix_len test rows)) (ap (λ (rs : List Row). row ∷ rs) others)
 front_passes test row rows false is fails others = none_pass test rows (fails is)
 
 pub in_front : (test : Row → Bool) (rows : List Row) → FailsOn test rows → filter test rows ≡ take (prefix_len test rows) rows
 in_front test [] fails = refl
 in_front test (row ∷ rows) fails = front_passes test row rows (test row) refl fails.0 (in_front test rows fails.1)
 
-not_false : (b : Bool) → not b ≡ false → b ≡ true
-not_false true is = refl
-not_false false is = absurd cc
-
 -- where the first test passes everywhere, the second decides
 second_decides : (first second : Row → Bool) (rows : List Row) → AllByRecursion (λ row. not (first row) ≡ false) rows → filter (λ row. first row && second row) rows ≡ filter second rows
 second_decides first second [] passes = refl
 second_decides first second (row ∷ rows) passes =
-    let here : first row ≡ true = not_false (first row) passes.0 in
+    let here : first row ≡ true = not-false (first row) passes.0 in
     rw (here, second_decides first second rows passes.1) refl
 
 -- the number of rows before those that pass the first test
@@ -51,7 +45,7 @@ starts first second row rows true is under fails others =
     second_decides first second (row ∷ rows) (here, under.0 here) ∙ in_front second (row ∷ rows) fails
     ∙ sym (ap (λ (n : ℕ). take (prefix_len second (drop n (row ∷ rows))) (drop n (row ∷ rows))) at_once)
 starts first second row rows false is under fails others =
-    let later : start first (row ∷ rows) ≡ suc (start first rows) = rw is (one_more (start first rows)) in
+    let later : start first (row ∷ rows) ≡ suc (start first rows) = rw is (one-add (start first rows)) in
     let skipped : filter (λ other. first other && second other) (row ∷ rows) ≡ filter (λ other. first other && second other) rows = rw is refl in
     skipped ∙ others ∙ sym (ap (λ (n : ℕ). take (prefix_len second (drop n (row ∷ rows))) (drop n (row ∷ rows))) later)
 

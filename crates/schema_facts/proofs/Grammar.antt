@@ -2,6 +2,7 @@
 use Rattle.std.proofs.Common.{◌≡◌, ℕ, zero, suc, ◌<◌, Bool, true, false, ◌&&◌, ◌||◌, cond, List, [], ◌∷◌, length, Option, Some, None, Result, Ok, Err, refl, sym, ap, subst, arith, codes}
 use Rattle.std.specs.Prelude.{ℤ, pos, negsuc, int_le, unsigned_abs, nat_le}
 use Rattle.std.specs.List.{AllByRecursion}
+use Rattle.std.proofs.lemmas.Option.{cond_some}
 use Rattle.gho_values.specs.declared.kind.Kind.{Kind}
 use Rattle.gho_values.specs.declared.kind.Kind.TheVariants.{Int, VarChar, VarBinary}
 use Rattle.table_words.specs.declared.code.SchemaCode.{SchemaCode}
@@ -27,7 +28,7 @@ use Rattle.schema_text.specs.Columns.{column_attributes_at, column_at}
 use Rattle.gho_values.specs.SchemaRules.Lawful.{is_kind}
 use Rattle.schema_text.specs.Options.{options_at}
 use Rattle.schema_text.specs.Written.{primary_item_at, key_item_at, behind_key_word, column_item_at, item_at, items_at, last_words, alone, table_at, unless_faulty, written}
-use Rattle.gho_values.proofs.SchemaRules.Steps.{bind_ok, done, ok_is, there, some_is, some_if}
+use Rattle.gho_values.proofs.SchemaRules.Steps.{bind_ok, done, ok_is, there, some_is}
 
 -- ---- lists
 
@@ -92,7 +93,7 @@ abbrev IsLength : ℕ → Type 0
 IsLength n = (nat_le 1 n && nat_le n 1000) ≡ true
 
 length_of-is : (z : ℤ) (n : ℕ) → length_of z ≡ Some n → IsLength n
-length_of-is (pos k) n e = let p = some_if (nat_le 1 k && nat_le k 1000) k n e in subst IsLength p.1 p.0
+length_of-is (pos k) n e = let p = cond_some (nat_le 1 k && nat_le k 1000) k n e in subst IsLength p.1 p.0
 length_of-is (negsuc k) n e = absurd cc
 
 length_within-is : (rest : List Token) (z : ℤ) (o : Option ℕ) → length_of z ≡ o → AllRead IsLength (length_within rest o)

@@ -16,7 +16,7 @@ use Rattle.gho_values.specs.SchemaRules.Lawful.{IsKey}
 use Rattle.schema_facts.proofs.Columns.{Becomes, AllBecome, column-at}
 use Rattle.schema_facts.proofs.Grammar.{HasColumns}
 use Rattle.gho_values.proofs.SchemaRules.Lists.{All-filter_map, All-weaker, All-list_all, list_all-All, each-any, Found, position-some, position-found, slice_get-map-some, slice_get-within-some}
-use Rattle.gho_values.proofs.SchemaRules.Steps.{some_is, first_or}
+use Rattle.gho_values.proofs.SchemaRules.Steps.{some_is}
 use Rattle.gho_values.proofs.SchemaRules.SameNames.{same_name-turned}
 
 -- ---- places

@@ -1,5 +1,6 @@
 -- Calls that wait, and polls.
 use Rattle.std.proofs.Common.{◌≡◌, ◌≢◌, ℕ, Bool, true, false, List, [], Some, None, Result, Ok, Err, OnOk, OnErr, refl, sym, ap, ◌∙◌, subst}
+use Rattle.std.proofs.lemmas.Option.{same_Some}
 use Rattle.event_codec.specs.declared.event.RowEvent.{RowEvent}
 use Rattle.row_locks.specs.declared.lock.Lock.{Lock}
 use Rattle.row_store.specs.Databases.{Database}
@@ -31,9 +32,7 @@ may_call tables written desk number request locks have may are none = record {
 
 -- a request that waits, and that nobody blocks any more
 pub formed_so : (state : State) (number : ℕ) (one : Waiting) → MayPoll state number → waiting_of number state.waiting ≡ Some one → IsWellFormed state.tables one.request
-formed_so state number one may is = let same : may.waiting ≡ one = some_one may.waiting one (sym may.waits ∙ is) in subst (λ (w : Waiting). IsWellFormed state.tables w.request) same may.formed where
-  some_one : (a b : Waiting) → Some a ≡ Some b → a ≡ b
-  some_one a b e = cc
+formed_so state number one may is = let same : may.waiting ≡ one = same_Some may.waiting one (sym may.waits ∙ is) in subst (λ (w : Waiting). IsWellFormed state.tables w.request) same may.formed
 
 pub may_poll : (tables : Database) (written : ℕ → List RowEvent) (desk : State) (number : ℕ) (one : Waiting) (locks : List Lock) → GoTogether tables written desk → MayPoll (state_of tables desk) number → waiting_of number desk.waiting ≡ Some one
     → locks ≡ row_locks_of (after_events tables (written number)) one.request → blocker desk number (needed one.request locks) ≡ None → MayDo (state_of tables desk) number one.request locks

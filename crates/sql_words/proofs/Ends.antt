@@ -1,9 +1,11 @@
 -- What stands at the front ends between two characters.
 use Rattle.std.proofs.Common.{◌≡◌, ℕ, zero, suc, ◌+◌, ◌-◌, ◌<◌, ◌≤◌, Bool, true, false, cond, not, nat_eq, nat_lt, ◌&&◌, List, [], ◌∷◌, length, get_or, take, drop, Option, Some, None, Result, Ok, Err, IsUtf8, refl, sym, ap, ◌∙◌, subst, arith, add-zero, length-drop}
+use Rattle.std.specs.Cmp.{first_so, second_so}
 use Rattle.std.specs.Option.{option_map}
 use Rattle.std.specs.List.{prefix_len, position_or_len}
 use Rattle.std.specs.Char.{is_ascii_digit, is_ascii_hexdigit}
 use Rattle.std.specs.Str.{IsCharBoundary}
+use Rattle.std.proofs.Math.Bool.{and-false}
 use Rattle.std.proofs.lemmas.Str.{IsCharBoundary-after_ascii, IsCharBoundary-before_ascii}
 use Rattle.std.proofs.lemmas.List.{get_or-drop}
 use Rattle.std.proofs.lemmas.List.Sums.{prefix_len_passes, prefix_len_stops, prefix_len-le-length}
@@ -18,7 +20,7 @@ use Rattle.sql_words.specs.Characters.{is_white, is_line_end, is_name_start, is_
 use Rattle.sql_words.specs.Quoted.{length_of, value_of, text_inside, bytes_inside, name_inside}
 use Rattle.sql_words.specs.Front.{size_of, line_length, begins_comment, begins_bytes, bytes_length, bytes_or_name, name_length, quoted, begins_number, digit_count, sign_width, number, sign_length, front_at}
 use Rattle.sql_words.specs.Meaning.{is_all, is_quoted_name, is_text, is_bytes}
-use Rattle.sql_words.proofs.Inside.{further, step, text_length-step, is_pair, bytes_length-pair, bytes_length-end, and-false}
+use Rattle.sql_words.proofs.Inside.{further, step, text_length-step, is_pair, bytes_length-pair, bytes_length-end}
 
 -- the first n bytes are at least one, and end between two characters
 pub record Cuts (bytes : List ℕ) (n : ℕ) : Type 0 where
@@ -225,16 +227,12 @@ front_cuts place bytes utf8 any =
     (λ _. AllCut-err bytes _)))))))
 
 -- a text begins with an ASCII byte
-first_part : (a b : Bool) → (a && b) ≡ true → a ≡ true
-first_part true b e = refl
-first_part false b e = absurd cc
-
 quote_nonzero : (b : ℕ) → is_quote b ≡ true → 0 < b
 quote_nonzero b h = grind (arith, nat_tests, h)
 
 pub text_begins : (bytes : List ℕ) → is_text bytes ≡ true → (0 < length bytes) × (get_or bytes 0 0 < 128)
 text_begins bytes e =
-    let quote : is_quote (get_or bytes 0 0) ≡ true = first_part _ _ e in
+    let quote : is_quote (get_or bytes 0 0) ≡ true = first_so _ _ e in
     (nonzero_within bytes 0 (quote_nonzero (get_or bytes 0 0) quote), quote_ascii (get_or bytes 0 0) quote)
 
 -- ---- a name between backquotes
@@ -244,10 +242,6 @@ pub record IsQuotedName (bytes : List ℕ) : Type 0 where
   pub first : get_or bytes 0 0 ≡ 96
   pub last : get_or bytes (length bytes - 1) 0 ≡ 96
   pub value : value_of (name_inside (drop 1 bytes)) ≡ Some (take (length bytes - 2) (drop 1 bytes))
-
-second_part : (a b : Bool) → (a && b) ≡ true → b ≡ true
-second_part true b e = e
-second_part false b e = absurd cc
 
 quoted_name-by : (bytes : List ℕ) (b : Bool) → nat_lt (position_or_len (λ x. nat_eq x 96) (drop 1 bytes)) (length (drop 1 bytes)) ≡ b → get_or bytes 0 0 ≡ 96 → is_all (length_of (name_inside (drop 1 bytes))) (drop 1 bytes) ≡ true → IsQuotedName bytes
 unfolding name_inside
@@ -274,7 +268,7 @@ quoted_name-by bytes false t first all =
     absurd cc
 
 pub quoted_name_is : (bytes : List ℕ) → is_quoted_name bytes ≡ true → IsQuotedName bytes
-quoted_name_is bytes e = quoted_name-by bytes _ refl (eqb-true (get_or bytes 0 0) 96 (first_part _ _ e)) (second_part _ _ e)
+quoted_name_is bytes e = quoted_name-by bytes _ refl (eqb-true (get_or bytes 0 0) 96 (first_so _ _ e)) (second_so _ _ e)
 
 -- ---- what stands between quotes
 
@@ -296,8 +290,8 @@ between quote before bytes (Some n) ascii first closed all =
 pub text_between : (bytes : List ℕ) → is_text bytes ≡ true → IsBetween bytes 0
 text_between bytes e =
     let first = get_or bytes 0 0 in
-    let ascii : first < 128 = quote_ascii first (first_part _ _ e) in
-    between first 0 bytes (length_of (text_inside first (drop 1 bytes))) ascii ascii (text_closed first (drop 1 bytes)) (second_part _ _ e)
+    let ascii : first < 128 = quote_ascii first (first_so _ _ e) in
+    between first 0 bytes (length_of (text_inside first (drop 1 bytes))) ascii ascii (text_closed first (drop 1 bytes)) (second_so _ _ e)
 
 quote_is_second : (bytes : List ℕ) → begins_bytes bytes ≡ true → get_or bytes 1 0 ≡ 39
 quote_is_second [] e = absurd cc
@@ -306,5 +300,5 @@ quote_is_second (a ∷ b ∷ rest) e = grind (arith, nat_tests, e)
 
 pub bytes_between : (bytes : List ℕ) → is_bytes bytes ≡ true → IsBetween bytes 1
 bytes_between bytes e =
-    let second : get_or bytes 1 0 ≡ 39 = quote_is_second bytes (first_part _ _ e) in
-    between 39 1 bytes (length_of (bytes_inside (drop 2 bytes))) (omega arith) (omega (arith, second)) (bytes_closed (drop 2 bytes)) (second_part _ _ e)
+    let second : get_or bytes 1 0 ≡ 39 = quote_is_second bytes (first_so _ _ e) in
+    between 39 1 bytes (length_of (bytes_inside (drop 2 bytes))) (omega arith) (omega (arith, second)) (bytes_closed (drop 2 bytes)) (second_so _ _ e)

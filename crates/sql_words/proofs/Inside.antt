@@ -2,6 +2,7 @@
 use Rattle.std.proofs.Common.{◌≡◌, ℕ, suc, ◌+◌, ◌*◌, ◌<◌, ◌≤◌, Bool, true, false, cond, nat_eq, ◌&&◌, List, [], ◌∷◌, length, get_or, drop, Option, Some, None, refl, sym, ap, ◌∙◌, arith, add-zero, drop-cons, eq-eqb}
 use Rattle.std.proofs.lemmas.List.{drop-drop, get_or-drop}
 use Rattle.std.proofs.lemmas.Bool.{ne_eqb}
+use Rattle.std.proofs.Math.Bool.{and-false}
 use Rattle.std.proofs.Math.ListN.{drop_of_length-le}
 use Rattle.std.specs.Option.{option_map}
 use Rattle.std.specs.Char.{is_ascii_hexdigit, digit_value}
@@ -98,10 +99,6 @@ is_pair bytes = is_ascii_hexdigit (get_or bytes 0 0) && is_ascii_hexdigit (get_o
 
 pub is_pair-at : (i : ℕ) (bytes : List ℕ) → is_pair (drop i bytes) ≡ (is_ascii_hexdigit (get_or bytes i 0) && is_ascii_hexdigit (get_or bytes (i + 1) 0))
 is_pair-at i bytes = simp (get_or-drop, add-zero)
-
-pub and-false : (b : Bool) → (b && false) ≡ false
-and-false true = refl
-and-false false = refl
 
 -- bytes with a pair of digits at the front, and with none
 pub bytes_inside-pair : (bytes : List ℕ) → is_pair bytes ≡ true → bytes_inside bytes ≡ and_then (record { value = (16 * digit_value (get_or bytes 0 0) + digit_value (get_or bytes 1 0)) ∷ []; length = 2 }) (bytes_inside (drop 2 bytes))

@@ -1,15 +1,15 @@
 -- A number is parsed to what its digits and its sign spell.
-use Rattle.std.proofs.Common.{◌≡◌, ℕ, ◌+◌, ◌^◌, ◌<◌, ◌≤◌, Bool, true, false, cond, nat_eq, ◌&&◌, ◌||◌, List, [], ◌∷◌, length, get_or, drop, Result, Ok, Err, refl, ap, ◌∙◌, arith, add-zero, lit<}
+use Rattle.std.proofs.Common.{◌≡◌, ℕ, ◌+◌, ◌^◌, ◌<◌, ◌≤◌, Bool, true, false, cond, nat_eq, ◌&&◌, ◌||◌, List, [], ◌∷◌, length, get_or, drop, Result, Ok, refl, ap, ◌∙◌, arith, add-zero, lit<}
 use Rattle.std.specs.Prelude.{ℤ, pos, neg_ℤ, nat_le}
 use Rattle.std.specs.Int.{w128}
 use Rattle.std.specs.List.{prefix_len}
 use Rattle.std.specs.Char.{is_ascii_digit}
-use Rattle.std.specs.Result.{OkIff}
 use Rattle.std.specs.Str.{all_ascii_digits}
 use Rattle.std.specs.Str.Parse.{digits_value, ParsesSigned}
 use Rattle.std.proofs.lemmas.Str.Parse.{IsNumeralModel, numerals_by_value, tells_all_ascii_digits, digits_value_short, parse_signed_minus, parse_signed_plus, parse_signed_plain}
 use Rattle.std.proofs.lemmas.Bool.{eqb-true, eqb-false, leb-true}
 use Rattle.std.proofs.lemmas.List.{length-drop, get_or-drop}
+use Rattle.std.proofs.lemmas.Result.{Ok-from_Ok_iff}
 use Rattle.sql_words.specs.Front.{begins_number, sign_width, digit_count, most_digits}
 use Rattle.sql_words.specs.Meaning.{is_number, signed, AreDigits}
 
@@ -28,23 +28,19 @@ digits_all : (ds : List ℕ) → prefix_len is_ascii_digit ds ≡ length ds → 
 digits_all [] e = refl
 digits_all (d ∷ ds) e = digits_all-by d ds (is_ascii_digit d) refl e (digits_all ds)
 
-ok_from_OkIff : {E : Type 0} (r : Result ℤ E) (P : Type 0) (v : ℤ) → OkIff r P v → P → r ≡ Ok v
-ok_from_OkIff (Ok x) P v is holds = ap (λ z. Ok z) is.1
-ok_from_OkIff (Err e) P v is holds = absurd (is holds)
-
 small : (ds : List ℕ) → AreDigits ds → digits_value 10 ds < 2 ^ 127
 small ds are = let big : 10 ^ 38 < 2 ^ 127 = lit< tt in omega (arith, big, digits_value_short own ds 38 are.all are.few)
 
 -- what the digits behind the first s bytes make of a parse
 module _ {E : Type 0} (bytes : List ℕ) (r : Result ℤ E) (parsed : ParsesSigned w128 10 bytes r) where
   below_zero : get_or bytes 0 0 ≡ 45 → AreDigits (drop 1 bytes) → r ≡ Ok (neg_ℤ (pos (digits_value 10 (drop 1 bytes))))
-  below_zero e are = ok_from_OkIff r _ _ (parse_signed_minus own w128 bytes r parsed e) (are.all, are.some, omega (arith, small (drop 1 bytes) are))
+  below_zero e are = Ok-from_Ok_iff r _ _ (parse_signed_minus own w128 bytes r parsed e) (are.all, are.some, omega (arith, small (drop 1 bytes) are))
 
   behind_plus : get_or bytes 0 0 ≡ 43 → AreDigits (drop 1 bytes) → r ≡ Ok (pos (digits_value 10 (drop 1 bytes)))
-  behind_plus e are = ok_from_OkIff r _ _ (parse_signed_plus own w128 bytes r parsed e) (are.all, are.some, small (drop 1 bytes) are)
+  behind_plus e are = Ok-from_Ok_iff r _ _ (parse_signed_plus own w128 bytes r parsed e) (are.all, are.some, small (drop 1 bytes) are)
 
   plain : (get_or bytes 0 0 ≡ 43 → ⊥) → (get_or bytes 0 0 ≡ 45 → ⊥) → AreDigits bytes → r ≡ Ok (pos (digits_value 10 bytes))
-  plain p m are = ok_from_OkIff r _ _ (parse_signed_plain own w128 bytes r parsed p m) (are.all, are.some, small bytes are)
+  plain p m are = Ok-from_Ok_iff r _ _ (parse_signed_plain own w128 bytes r parsed p m) (are.all, are.some, small bytes are)
 
   by_sign : (plus minus : Bool) → nat_eq (get_or bytes 0 0) 43 ≡ plus → nat_eq (get_or bytes 0 0) 45 ≡ minus → AreDigits (drop (cond (plus || minus) 1 0) bytes)
       → r ≡ Ok (cond minus (neg_ℤ (pos (digits_value 10 (drop (cond (plus || minus) 1 0) bytes)))) (pos (digits_value 10 (drop (cond (plus || minus) 1 0) bytes))))

@@ -1,12 +1,12 @@
 -- What is printed is read as the one word that stands for it.
-use Rattle.std.proofs.Common.{◌≡◌, ℕ, ◌+◌, ◌*◌, ◌/◌, ◌%◌, ◌<◌, ◌≤◌, Bool, true, false, cond, nat_eq, nat_lt, List, [], ◌∷◌, ◌++◌, length, Some, Ok, refl, sym, ap, ◌∙◌, subst, arith, append_assoc, length-append, eq-eqb}
+use Rattle.std.proofs.Common.{◌≡◌, ℕ, ◌+◌, ◌*◌, ◌/◌, ◌%◌, ◌<◌, ◌≤◌, Bool, true, false, nat_eq, nat_lt, List, [], ◌∷◌, ◌++◌, length, Some, Ok, refl, sym, ap, ◌∙◌, subst, arith, append_assoc, length-append, eq-eqb}
 use Rattle.std.specs.List.{flat_map, AllByRecursion}
 use Rattle.std.specs.Option.{option_map}
 use Rattle.std.specs.Char.{is_ascii_hexdigit, digit_value, digit_char}
 use Rattle.std.proofs.lemmas.Str.{digit_value-digit_char}
 use Rattle.std.proofs.lemmas.Bool.Decides.{nat_tests}
 use Rattle.std.proofs.lemmas.List.{append-nil, take_at, drop_at}
-use Rattle.std.proofs.lemmas.Bool.{eqb-true, ltb-true, ltb-false}
+use Rattle.std.proofs.lemmas.Bool.{eqb-true, ltb-true, ltb-false, cond_both}
 use Rattle.sql_words.specs.declared.word.WordClass.{WordClass}
 use Rattle.sql_words.specs.declared.word.WordClass.TheVariants as class
 use Rattle.sql_words.specs.declared.front.Front.TheVariants.{Found}
@@ -33,10 +33,6 @@ words_of-one kind word some e =
 
 -- ---- texts
 
-cond_cases : (P : List ℕ → Type 0) (t : Bool) (x y : List ℕ) → (t ≡ true → P x) → (t ≡ false → P y) → P (cond t x y)
-cond_cases P true x y f g = f refl
-cond_cases P false x y f g = g refl
-
 -- these bytes spell this one in front of whatever follows
 record Spells (b : ℕ) (bytes : List ℕ) : Type 0 where
   read : (rest : List ℕ) → text_inside 39 (bytes ++ rest) ≡ and_then (record { value = b ∷ []; length = length bytes }) (text_inside 39 rest)
@@ -53,12 +49,12 @@ spells_itself b quote slash = record { read = λ rest. text_inside-step 39 b res
 spelled-spells : (b : ℕ) → Spells b (spelled b)
 spelled-spells b =
     let same : (c : ℕ) (bytes : List ℕ) → Spells c bytes → nat_eq b c ≡ true → Spells b bytes = λ c bytes s e. subst (λ k. Spells k bytes) (sym (eqb-true b c e)) s in
-    cond_cases (Spells b) (nat_eq b 39) _ _ (same 39 _ spells_quote)
-    (λ quote. cond_cases (Spells b) (nat_eq b 92) _ _ (same 92 _ (spells_escape 92 92 refl))
-    (λ slash. cond_cases (Spells b) (nat_eq b 10) _ _ (same 10 _ (spells_escape 10 110 refl))
-    (λ _. cond_cases (Spells b) (nat_eq b 13) _ _ (same 13 _ (spells_escape 13 114 refl))
-    (λ _. cond_cases (Spells b) (nat_eq b 9) _ _ (same 9 _ (spells_escape 9 116 refl))
-    (λ _. cond_cases (Spells b) (nat_eq b 0) _ _ (same 0 _ (spells_escape 0 48 refl))
+    cond_both (nat_eq b 39) _ _ (Spells b) (same 39 _ spells_quote)
+    (λ quote. cond_both (nat_eq b 92) _ _ (Spells b) (same 92 _ (spells_escape 92 92 refl))
+    (λ slash. cond_both (nat_eq b 10) _ _ (Spells b) (same 10 _ (spells_escape 10 110 refl))
+    (λ _. cond_both (nat_eq b 13) _ _ (Spells b) (same 13 _ (spells_escape 13 114 refl))
+    (λ _. cond_both (nat_eq b 9) _ _ (Spells b) (same 9 _ (spells_escape 9 116 refl))
+    (λ _. cond_both (nat_eq b 0) _ _ (Spells b) (same 0 _ (spells_escape 0 48 refl))
     (λ _. spells_itself b quote slash))))))
 
 -- what stands behind the opening quote of a printed text

@@ -1,6 +1,5 @@
 pub mod Clients
 pub mod Givens
 pub mod Keeping
-pub mod Results
 pub mod Seats
 pub mod Seen

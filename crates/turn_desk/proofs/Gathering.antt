@@ -1,20 +1,17 @@
 -- Gathering the hands of passes, from the last to the first.
 use Rattle.std.proofs.Common.{◌≡◌, List, [], ◌∷◌, ◌++◌, map, Some, sym, ap, ◌∙◌, append_assoc}
 use Rattle.std.proofs.lemmas.List.{map-append}
+use Rattle.std.proofs.lemmas.Option.{same_Some}
 use Rattle.turn_desk.specs.declared.hand.Stage.TheVariants.{Rests}
 use Rattle.turn_desk.specs.declared.hand.Hand.{Hand}
 use Rattle.turn_desk.specs.Turns.{PassView}
 use Rattle.turn_desk.specs.Views.{hand_of, known_opening, worker_view}
 
--- what is some one thing is one thing
-pub one_thing : {X : Type 0} (x y : X) → Some x ≡ Some y → x ≡ y
-one_thing x y same = cc
-
 module _ {O E : Type 0} (opening : O) where
   -- the seat of a pass has its hand
   pub has_hand : (pass known : PassView O E) (o : O) (view : List (Hand O E)) → view ≡ worker_view o pass.seen pass.worker pass.own Rests → pass.opening ≡ known_opening view → pass ≡ known → known.opening ≡ Some opening → view ≡ hand_of opening known ∷ []
   has_hand pass known o view is told same knows =
-      let one : o ≡ opening = one_thing o opening (sym (ap known_opening is) ∙ sym told ∙ ap (λ (p : PassView O E). p.opening) same ∙ knows) in
+      let one : o ≡ opening = same_Some o opening (sym (ap known_opening is) ∙ sym told ∙ ap (λ (p : PassView O E). p.opening) same ∙ knows) in
       is ∙ ap (λ (p : O). worker_view p pass.seen pass.worker pass.own Rests) one ∙ ap (λ (p : PassView O E). hand_of opening p ∷ []) same
 
   -- the hands of all passes, the last one's taken from the list

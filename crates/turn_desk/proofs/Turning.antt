@@ -3,6 +3,7 @@ use Rattle.std.proofs.Common.{◌≡◌, ◌≢◌, ℕ, List, [], ◌∷◌, �
 use Rattle.std.specs.Prelude.{Option, Some, None}
 use Rattle.std.proofs.lemmas.List.Prefix.{front_rest}
 use Rattle.std.proofs.lemmas.List.Elements.{All-head}
+use Rattle.std.proofs.lemmas.Option.{same_Some}
 use Rattle.atomic_table.specs.Table.{Me, rest}
 use Rattle.turn_desk.specs.declared.book.Entry.{Entry}
 use Rattle.turn_desk.specs.declared.book.Turned.{Turned}
@@ -18,9 +19,6 @@ abbrev first : {B : Type 0} → List (ℕ × Option B) → Option B
 first [] = None
 first (slot ∷ slots) = slot.1
 
-one_book : {B : Type 0} (a b : B) → Some a ≡ Some b → a ≡ b
-one_book a b same = cc
-
 module _ {B O E : Type 0} (opening_of : B → O) (entries_in : B → List (Entry E)) (opening : O) (entries : List (Entry E)) (number : ℕ) (own : List (Entry E)) where
   abbrev Known : Type 0
   Known = Me (Option B) (List (Hand O E))
@@ -32,7 +30,7 @@ module _ {B O E : Type 0} (opening_of : B → O) (entries_in : B → List (Entry
 
     -- the book that is read is the one that was held
     pub same_book : (x : Option B) (book : B) → me.1 ≡ (0, x) ∷ rest me.1 → x ≡ Some book → held.1 ≡ book
-    same_book x book found is = one_book held.1 book (ap first (sym (ap (λ (m : Known). m.1) held.2) ∙ found) ∙ is)
+    same_book x book found is = same_Some held.1 book (ap first (sym (ap (λ (m : Known). m.1) held.2) ∙ found) ∙ is)
 
     -- the seat after the book was taken out of the slot and another put into it
     pub exchanged : (out back : Known) (book : B) → out ≡ (me.0, (0, None) ∷ rest me.1) → back ≡ (out.0, (0, Some book) ∷ rest out.1) → back ≡ (worker_view opening entries number own (Holds held.0), (0, Some book) ∷ [])

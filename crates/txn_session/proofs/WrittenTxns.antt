@@ -1,5 +1,5 @@
 -- A transaction whose tables are laid over with what a statement wrote, or get more room.
-use Rattle.std.proofs.Common.{◌≡◌, ℕ, ◌≤◌, Bool, true, false, List, [], ◌∷◌, ◌++◌, map, cond, length, Option, Some, None, Result, Ok, Err, OnOk, refl, sym, ap, ◌∙◌, subst, arith}
+use Rattle.std.proofs.Common.{◌≡◌, ℕ, ◌≤◌, Bool, true, false, List, [], ◌∷◌, ◌++◌, map, cond, length, Option, Some, None, refl, sym, ap, ◌∙◌, subst, arith}
 use Rattle.std.specs.Prelude.{IfSome}
 use Rattle.std.specs.Option.{option_map}
 use Rattle.std.specs.List.{AllByRecursion, find}
@@ -80,7 +80,3 @@ alike_schemas tables now same = schemas_of_plain now ∙ ap (map (λ (p : PlainW
 pub enough : (n room : ℕ) (written : Written) (found : Option StoredWrites) → length written.rows ≤ n → length written.keys ≤ n → HasRoomFor n found room → HasRoomIn written found room
 enough n room written None rows keys has = has
 enough n room written (Some table) rows keys has = let all : n ≤ table.spare = has in (omega (arith, rows, all), omega (arith, keys, all))
-
-pub ok_then : {P Q E : Type 0} (result : Result (Unit {0}) E) → (P → Q) → OnOk result P → OnOk result Q
-ok_then (Ok done) f has = f has
-ok_then (Err fault) f has = tt

@@ -1,6 +1,7 @@
 -- Faulty words.
 use Rattle.std.proofs.Common.{◌≡◌, ℕ, true, List, Option, None, Some, inl, inr, refl, sym, ap, ◌∙◌, subst}
 use Rattle.std.proofs.lemmas.Bool.{false≢true}
+use Rattle.std.proofs.lemmas.Option.{none-some}
 use Rattle.plain_server.specs.declared.entry.Entry.{Entry}
 use Rattle.command_words.specs.Commands.{command}
 use Rattle.command_words.specs.declared.command.Command.{Command}
@@ -11,9 +12,6 @@ use Rattle.call_endings.specs.declared.turn.Turn.{Turn}
 use Rattle.call_endings.specs.Endings.{Taking, Giving, asked, reads_plan, status_number, IsUsageOrLost}
 use Rattle.whole_host.specs.Promises.{Ends, EndsUnder, PrintsDone}
 
-none_some : (told : Command) → None ≡ Some told → ⊥
-none_some told is = cc
-
 module _ (words : List (List ℕ)) (source : Taking) (sink : Giving) (turns : List Turn) (journal : List Entry) (none : command words ≡ None) where
   not_done : PrintsDone (command words) source sink turns journal → ⊥
   not_done prints = subst (λ (told : Option Command). PrintsDone told source sink turns journal) none prints
@@ -22,7 +20,7 @@ module _ (words : List (List ℕ)) (source : Taking) (sink : Giving) (turns : Li
   not_read reads = false≢true (sym (ap reads_plan none) ∙ reads)
 
   not_asked : (told : PlanCommand) → command words ≡ Some (asked told) → ⊥
-  not_asked told is = none_some (asked told) (sym none ∙ is)
+  not_asked told is = none-some (asked told) (sym none ∙ is)
 
   faulty_status : (status : Status) → EndsUnder status words source sink turns journal → IsUsageOrLost (status_number status)
   faulty_status statuses.Done under = absurd (not_done under)

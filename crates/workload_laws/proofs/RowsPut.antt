@@ -2,6 +2,7 @@
 use Rattle.std.proofs.Common.{◌≡◌, ◌∙◌, ℕ, zero, suc, ◌+◌, ◌<◌, ◌≤◌, ◌^◌, Bool, true, false, not, ◌&&◌, ◌||◌, nat_lt, List, [], ◌∷◌, ◌++◌, map, Some, None, Greater, Ok, refl, sym, ap, arith}
 use Rattle.std.specs.Prelude.{find, pos}
 use Rattle.std.proofs.lemmas.Bool.Decides.{nat_tests}
+use Rattle.std.proofs.lemmas.Fmt.{decimal_injective}
 use Rattle.std.proofs.lemmas.List.FromFn.{map-range_with_len_more}
 use Rattle.std.specs.Fmt.{decimal}
 use Rattle.std.specs.List.{range_with_len}
@@ -18,7 +19,6 @@ use Rattle.row_store.proofs.Orders.{is_Equal}
 use Rattle.plan_tables.specs.Rows.{put_text, next_number, put_texts}
 use Rattle.workload_gen.specs.Workloads.{row_count}
 use Rattle.workload_laws.specs.Rows.{table_schema, row_values, opening_rows, opening_table}
-use Rattle.workload_laws.proofs.WorkloadDocument.Digits.{same_number}
 use Rattle.workload_laws.proofs.RowsRead.{row_read}
 use Rattle.workload_laws.specs.WorkloadDocument.Texts.{row_sql, row_key, row_value, row_texts}
 
@@ -50,7 +50,7 @@ ids_differ key other less same = let one : key ≡ other = cc in absurd (omega a
 names_differ : (key other : ℕ) → other < key → key < 2 ^ 63 → (let a : List Value = Text (117 ∷ decimal key) ∷ [] in let b : List Value = Text (117 ∷ decimal other) ∷ [] in a ≡ b) → ⊥
 names_differ key other less few same =
     let digits : decimal key ≡ decimal other = cc in
-    let one : key ≡ other = same_number key other (omega arith) (omega arith) digits in
+    let one : key ≡ other = decimal_injective key other (omega arith) (omega arith) digits in
     absurd (omega arith)
 
 apart : (key other value another : ℕ) → other < key → key < 2 ^ 63 → clash table_schema.uniques (row_values key value) (row_values other another) ≡ false

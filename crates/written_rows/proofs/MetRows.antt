@@ -1,6 +1,7 @@
 -- The rows of a table that a condition reaches, and those that clash with a new row.
 use Rattle.std.proofs.Common.{◌≡◌, ℕ, Bool, true, false, ◌&&◌, ◌||◌, List, [], ◌∷◌, find, filter, cond, Option, Some, None, refl, sym, ap, ◌∙◌}
-use Rattle.std.proofs.lemmas.Bool.{true≢false, and_parts}
+use Rattle.std.proofs.lemmas.Bool.{true≢false, and_parts, or_right}
+use Rattle.std.proofs.Math.Bool.{and-true}
 use Rattle.std.specs.List.{slice_get}
 use Rattle.gho_values.specs.declared.span.Span.{Span}
 use Rattle.gho_values.specs.Spans.{has}
@@ -56,15 +57,11 @@ fails_first true true row rest none = absurd (cc)
 fails_first true false row rest none = (refl, none)
 fails_first false c row rest none = (refl, none)
 
-true_and : (b : Bool) → (b && true) ≡ b
-true_and true = refl
-true_and false = refl
-
 pub none_clashing : (uniques : List Index) (new : Row) (rows : List Row) → find (λ other. clash uniques new other && true) rows ≡ None → filter (clash uniques new) rows ≡ []
 none_clashing uniques new [] none = refl
 none_clashing uniques new (row ∷ rows) none =
     let parts = fails_first (clash uniques new row) true row (find (λ other. clash uniques new other && true) rows) none in
-    rw (sym (true_and (clash uniques new row)) ∙ parts.0) (none_clashing uniques new rows parts.1)
+    rw (sym (and-true (clash uniques new row)) ∙ parts.0) (none_clashing uniques new rows parts.1)
 
 pub none_displaced : (table : TableRows) (new : Row) → clashing table new None ≡ None → displaced table.schema new table.rows ≡ []
 none_displaced table new none = none_clashing table.schema.uniques new table.rows none
@@ -78,12 +75,8 @@ pub found_is : (test : Row → Bool) (rows : List Row) (row : Row) → find test
 unfolding stands
 found_is test [] row is = absurd (cc)
 found_is test (first ∷ rows) row is = here (test first) refl is (λ (behind : find test rows ≡ Some row). found_is test rows row behind) where
-  there : (b : Bool) → b ≡ true → (c : Bool) → (c || b) ≡ true
-  there b is true = refl
-  there b is false = is
-
   here : (b : Bool) → test first ≡ b → cond b (Some first) (find test rows) ≡ Some row → (find test rows ≡ Some row → Found test rows row) → Found test (first ∷ rows) row
   here true passes found rest =
       let same : first ≡ row = cc in
       record { stood = ap (λ (r : Row). same_row row r || stands row rows) same ∙ ap (λ (b : Bool). b || stands row rows) (same_itself row); passes = ap test (sym same) ∙ passes }
-  here false passes found rest = let later = rest found in record { stood = there (stands row rows) later.stood (same_row row first); passes = later.passes }
+  here false passes found rest = let later = rest found in record { stood = or_right (same_row row first) (stands row rows) later.stood; passes = later.passes }

@@ -4,7 +4,7 @@ use Rattle.std.proofs.lemmas.Bool.{or_left, or_right}
 use Rattle.std.specs.Ordering.{is_eq}
 use Rattle.std.specs.List.{AllByRecursion}
 use Rattle.std.proofs.lemmas.Cmp.{tied_itself}
-use Rattle.std.proofs.Math.Bool.{or_assoc}
+use Rattle.std.proofs.Math.Bool.{and-false, or_assoc}
 use Rattle.gho_values.proofs.Orders.{keys_total}
 use Rattle.gho_values.specs.GhoSchema.Rows.{key_of, with_row}
 use Rattle.gho_values.specs.GhoSchema.Tables.{Ascends}
@@ -169,10 +169,7 @@ is_over places later earlier is was = record {
 
 over_seen : (l e r t u : Bool) → ((l || (e && not t)) || (r && not (t || u))) ≡ (l || ((e || (r && not u)) && not t))
 over_seen true e r t u = refl
-over_seen false true r true u = ends r where
-  ends : (r : Bool) → (r && false) ≡ false
-  ends true = refl
-  ends false = refl
+over_seen false true r true u = and-false r
 over_seen false true r false u = refl
 over_seen false false true true true = refl
 over_seen false false true true false = refl

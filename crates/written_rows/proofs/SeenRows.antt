@@ -1,6 +1,6 @@
 -- The rows that are seen, and those of them that pass a test.
 use Rattle.std.proofs.Common.{◌≡◌, ℕ, Bool, true, false, not, ◌&&◌, ◌||◌, List, [], ◌∷◌, filter, cond, Less, refl, sym, ap, ◌∙◌, subst}
-use Rattle.std.proofs.lemmas.Bool.{true≢false}
+use Rattle.std.proofs.lemmas.Bool.{false_from_ne_true, true≢false}
 use Rattle.std.specs.Ordering.{is_eq}
 use Rattle.std.specs.List.{AllByRecursion}
 use Rattle.std.proofs.Math.Bool.{or_assoc}
@@ -54,15 +54,11 @@ ascends-put_all places (row ∷ all) rows more others new =
     ascends-with_row places row (put_all places all rows) (new_behind places row all rows more.0 new.0) (ascends-put_all places all rows more.1 others new.1)
 
 -- no row that is left has a key that was touched
-not_true : (b : Bool) → (b ≡ true → ⊥) → b ≡ false
-not_true true not_so = absurd (not_so refl)
-not_true false not_so = refl
-
 kept_not_at : (places : List ℕ) (keys : List Row) (row first : Row) (rows : List Row) (b : Bool) → is_touched places keys first ≡ b → is_touched places keys row ≡ true → AllByRecursion (λ other. is_at places (key_of places row) other ≡ false) rows
     → AllByRecursion (λ other. is_at places (key_of places row) other ≡ false) (cond (not b) (first ∷ rows) rows)
 kept_not_at places keys row first rows true is touched others = others
 kept_not_at places keys row first rows false is touched others =
-    (not_true (is_at places (key_of places row) first) (λ at. true≢false (sym touched ∙ ap (λ (k : Row). stands k keys) (key_is places (key_of places row) first at) ∙ is)), others)
+    (false_from_ne_true (is_at places (key_of places row) first) (λ at. true≢false (sym touched ∙ ap (λ (k : Row). stands k keys) (key_is places (key_of places row) first at) ∙ is)), others)
 
 pub none_at : (places : List ℕ) (keys : List Row) (row : Row) (rows : List Row) → is_touched places keys row ≡ true → AllByRecursion (λ other. is_at places (key_of places row) other ≡ false) (untouched places keys rows)
 none_at places keys row [] touched = tt

@@ -1,5 +1,6 @@
 -- Keys in order, each once, and which rows have one of them.
 use Rattle.std.proofs.Common.{◌≡◌, ℕ, Bool, true, false, ◌||◌, List, [], ◌∷◌, Ordering, Less, Equal, Greater, refl, sym, ap, ◌∙◌}
+use Rattle.std.proofs.Math.Bool.{or_self_left}
 use Rattle.std.specs.Ordering.{is_eq, match_ordering, ordering_reverse}
 use Rattle.std.specs.List.{AllByRecursion}
 use Rattle.gho_values.specs.Comparing.{compare_keys}
@@ -17,16 +18,12 @@ pub same_both : (a b : Row) → same_row a b ≡ same_row b a
 same_both a b = ap is_eq (turned a b) ∙ eq_turned (compare_keys b a)
 
 -- whether a key stands among keys with one more
-twice : (b c : Bool) → (b || c) ≡ (b || (b || c))
-twice true c = refl
-twice false c = refl
-
 key_here : (key other first : Row) (keys placed : List Row) (o : Ordering) → compare_keys key first ≡ o → stands other placed ≡ (same_row other key || stands other keys)
     → stands other (match_ordering o (key ∷ first ∷ keys) (first ∷ keys) (first ∷ placed)) ≡ (same_row other key || (same_row other first || stands other keys))
 unfolding stands
 key_here key other first keys placed Less is later = refl
 key_here key other first keys placed Equal is later =
-    twice (same_row other first) (stands other keys) ∙ ap (λ (k : Row). same_row other k || (same_row other first || stands other keys)) (sym (tied_keys key first is))
+    sym (or_self_left (same_row other first) (stands other keys)) ∙ ap (λ (k : Row). same_row other k || (same_row other first || stands other keys)) (sym (tied_keys key first is))
 key_here key other first keys placed Greater is later =
     ap (λ (b : Bool). same_row other first || b) later ∙ or_swapped (same_row other first) (same_row other key) (stands other keys)
 

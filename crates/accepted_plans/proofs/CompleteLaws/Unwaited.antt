@@ -3,6 +3,7 @@ use Rattle.std.proofs.Common.{◌≡◌, ◌≢◌, ◌⊎◌, ℕ, Bool, true, 
 use Rattle.std.specs.Prelude.{codes, fold}
 use Rattle.std.specs.List.{AllByRecursion, list_any}
 use Rattle.std.specs.Str.{bytes_eq}
+use Rattle.std.proofs.Math.Bool.{or-true}
 use Rattle.std.proofs.lemmas.Bool.{true≢false, false≢true}
 use Rattle.std.proofs.lemmas.List.{append_cancel_left}
 use Rattle.script_text.specs.declared.actor.Actor.{Actor}
@@ -42,7 +43,7 @@ use Rattle.journal_facts.proofs.Actors.{same_actor_is}
 use Rattle.journal_facts.proofs.Journals.{JournalHolds}
 use Rattle.journal_facts.proofs.Waiting.{IsDone, done_answers}
 use Rattle.journal_facts.specs.RunLaws.Laws.{Living, NoneWaits}
-use Rattle.plain_server.proofs.StatementLaws.Tests.{are_same, or_true, same_bytes}
+use Rattle.plain_server.proofs.StatementLaws.Tests.{are_same, same_bytes}
 use Rattle.migration_facts.proofs.AttemptLaws.Stages.{RenamerAt, StandsAt}
 use Rattle.migration_facts.proofs.AttemptLaws.Standing.{CourseAt, IsStanding}
 use Rattle.migration_facts.proofs.CourseLaws.Owners.{AllOwned}
@@ -361,7 +362,7 @@ module _ (plan : PlanData) (journal : List Entry) (entry : Entry) (is : IsStandi
           (own_prompt plan journal entry is.tabled.all.tool.known served (old_name work.cutover.table) (asked ∙ ap Call same)
           (ap (λ (s : Standing). list_any (bytes_eq (old_name work.cutover.table)) s.locked) (ap has who ∙ at.locker ∙ ap (held work.cutover.table) locks) ∙ among)) where
             among : list_any (bytes_eq (old_name work.cutover.table)) (both_names work.cutover.table) ≡ true
-            among = rw (same_bytes (old_name work.cutover.table)) (or_true (bytes_eq (old_name work.cutover.table) work.cutover.table))
+            among = rw (same_bytes (old_name work.cutover.table)) (or-true (bytes_eq (old_name work.cutover.table) work.cutover.table))
 
       waits_held : (hold : Hold) → work.cutover.hold ≡ hold → (held work.cutover.table hold).waits ≡ None
       waits_held hold same = ap (λ (s : Standing). s.waits) (sym (at.locker ∙ ap (held work.cutover.table) same)) ∙ waits Lock refl

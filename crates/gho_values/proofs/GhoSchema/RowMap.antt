@@ -1,8 +1,8 @@
 -- A map from keys to rows beside the rows in order of their keys.
-use Rattle.std.proofs.Common.{◌≡◌, ℕ, Bool, true, false, ◌||◌, is_some, cond, List, [], ◌∷◌, ◌++◌, map, option_to_list, Option, Some, None, Ordering, Less, Equal, Greater, refl, sym, ap, ◌∙◌}
+use Rattle.std.proofs.Common.{◌≡◌, ℕ, Bool, true, false, ◌||◌, is_some, cond, List, [], ◌∷◌, Option, Some, Ordering, Less, Equal, Greater, refl, sym, ap, ◌∙◌}
 use Rattle.std.proofs.lemmas.Bool.{or_parts, false≢true}
 use Rattle.std.specs.Ordering.{is_eq, match_ordering}
-use Rattle.std.specs.List.{list_any, slice_get}
+use Rattle.std.specs.List.{list_any}
 use Rattle.std.specs.Map.{lookup}
 use Rattle.std.specs.BTreeMap.{is_at, insert_entry}
 use Rattle.gho_values.specs.declared.value.Value.{Value}

@@ -1,9 +1,9 @@
 -- Lists all of whose items have a property, and where a test finds an item.
-use Rattle.std.proofs.Common.{◌≡◌, ℕ, zero, suc, ◌+◌, ◌<◌, ◌≤◌, Bool, true, false, not, ◌&&◌, ◌||◌, cond, ltb, List, [], ◌∷◌, ◌++◌, length, take, drop, Option, Some, None, refl, sym, ap, subst, ◌∙◌, map, arith}
-use Rattle.std.specs.Prelude.{filter, fold, find, position}
-use Rattle.std.specs.List.{cons_option, filter_map, list_all, list_any, slice_get, prefix_len, position_or_len, remove, AllByRecursion}
-use Rattle.std.proofs.lemmas.Bool.{ltb-true, lt-ltb, and_parts, or_right}
-use Rattle.gho_values.proofs.SchemaRules.Steps.{some_if, first_or}
+use Rattle.std.proofs.Common.{◌≡◌, ℕ, zero, suc, ◌+◌, ◌<◌, Bool, true, false, not, ◌||◌, cond, ltb, List, [], ◌∷◌, ◌++◌, length, take, drop, Option, Some, None, refl, ap, subst, map, arith}
+use Rattle.std.specs.Prelude.{filter, fold, position}
+use Rattle.std.specs.List.{cons_option, filter_map, list_all, list_any, slice_get, position_or_len, remove, AllByRecursion}
+use Rattle.std.proofs.lemmas.Bool.{ltb-true, lt-ltb, and_parts, or_left, or_right}
+use Rattle.std.proofs.lemmas.Option.{cond_some}
 
 module _ {X Y : Type 0} (P : X → Type 0) (Q : Y → Type 0) where
   pub All-map : (f : X → Y) → ((x : X) → P x → Q (f x)) → (xs : List X) → AllByRecursion P xs → AllByRecursion Q (map f xs)
@@ -82,7 +82,7 @@ All-list_all test (x ∷ xs) all = rw (all.0, All-list_all test xs all.1) refl
 pub each-any : {N X : Type 0} (test : N → X → Bool) (xs : List X) → AllByRecursion (λ x. (n : N) → test n x ≡ true → list_any (test n) xs ≡ true) xs
 each-any {N} {X} test [] = tt
 each-any {N} {X} test (x ∷ xs) = (
-  (λ n e. first_or (test n x) (list_any (test n) xs) e),
+  (λ n e. or_left (test n x) (list_any (test n) xs) e),
   All-weaker (λ (y : X). (n : N) → test n y ≡ true → list_any (test n) xs ≡ true) (λ (y : X). (n : N) → test n y ≡ true → list_any (test n) (x ∷ xs) ≡ true) (λ y here n e. or_right (test n x) (list_any (test n) xs) (here n e)) xs (each-any test xs),
 )
 
@@ -104,7 +104,7 @@ position-some test xs e = rw (lt-ltb _ _ (any-within test xs e)) refl
 -- where an item was found there is one
 pub position-within : {X : Type 0} (test : X → Bool) (xs : List X) (place : ℕ) → position test xs ≡ Some place → place < length xs
 position-within test xs place e =
-    let found = some_if (ltb (position_or_len test xs) (length xs)) (position_or_len test xs) place e in
+    let found = cond_some (ltb (position_or_len test xs) (length xs)) (position_or_len test xs) place e in
     subst (λ (n : ℕ). n < length xs) found.1 (ltb-true _ _ found.0)
 
 -- the item that was found
@@ -127,7 +127,7 @@ found-first test (x ∷ xs) lt = found-cons test x xs (test x) refl (found-first
 
 pub position-found : {X : Type 0} (test : X → Bool) (xs : List X) (place : ℕ) → position test xs ≡ Some place → Found test xs place
 position-found test xs place e =
-    let is = some_if (ltb (position_or_len test xs) (length xs)) (position_or_len test xs) place e in
+    let is = cond_some (ltb (position_or_len test xs) (length xs)) (position_or_len test xs) place e in
     subst (Found test xs) is.1 (found-first test xs (ltb-true _ _ is.0))
 
 pub slice_get-map-some : {X Y : Type 0} (f : X → Y) (xs : List X) (i : ℕ) (x : X) → slice_get xs i ≡ Some x → slice_get (map f xs) i ≡ Some (f x)

@@ -1,5 +1,5 @@
 -- Taking apart an answer that was given step by step.
-use Rattle.std.proofs.Common.{◌≡◌, Bool, true, false, cond, ◌∷◌, ◌||◌, Option, Some, None, Result, Ok, Err, refl, ap}
+use Rattle.std.proofs.Common.{◌≡◌, Bool, true, false, cond, ◌∷◌, Option, Some, None, Result, Ok, Err, refl, ap}
 use Rattle.gho_values.specs.SchemaRules.Results.{◌>>=◌}
 use Rattle.gho_values.specs.SchemaRules.Reasons.{Reasons, first_reason, unless}
 use Rattle.gho_values.specs.declared.fault.Unfit.{Unfit}
@@ -40,17 +40,6 @@ there A x = Some x
 
 pub some_is : {A : Type 0} (x y : A) → there A x ≡ there A y → x ≡ y
 some_is x y e = cc
-
--- a choice that is there
-pub some_if : {A : Type 0} (b : Bool) (x y : A) → cond b (Some x) None ≡ Some y → (b ≡ true) × (x ≡ y)
-some_if true x y e = (refl, cc)
-some_if false x y e = absurd cc
-
--- ---- tests
-
-pub first_or : (a b : Bool) → a ≡ true → (a || b) ≡ true
-first_or true b e = refl
-first_or false b e = absurd cc
 
 -- ---- defaults
 

@@ -148,6 +148,3 @@ delete_locks schema at key rows locks within = reach_locked schema at (at_key sc
 pub update_locks : (schema : Schema) (at : Clustered schema) (key : Row) (sets : Result (List (Option Value)) _) (rows : List Row) (locks : List Lock) → Within (needs schema rows (Update (at_key schema at key) sets)) locks → is_locked schema locks key ≡ true
 unfolding needs
 update_locks schema at key sets rows locks within = reach_locked schema at (at_key schema at key) key locks refl (point_has_key key) within.0
-
-pub ext : {A B : Type 0} (f g : A → B) → ((x : A) → f x ≡ g x) → f ≡ g
-ext f g same = λ i x. same x i

@@ -1,5 +1,6 @@
 -- A change that goes with the rows makes the same of them by value and by key.
 use Rattle.std.proofs.Common.{◌≡◌, ℕ, Bool, true, false, ◌||◌, List, [], ◌∷◌, find, cond, Some, refl, sym, ap, ◌∙◌, subst}
+use Rattle.std.proofs.Math.Bool.{or-true}
 use Rattle.std.proofs.lemmas.Bool.{false≢true, true≢false}
 use Rattle.gho_values.specs.declared.gho_schema.schema.Schema.{Schema}
 use Rattle.gho_values.specs.GhoSchema.Rows.{key_of, key_places, with_row}
@@ -18,12 +19,11 @@ use Rattle.plain_server.proofs.StatementLaws.OneRow.{one_of_key, own_key, same_r
 use Rattle.plain_server.specs.Rows.{change_rows, same_row, stands, without_row}
 use Rattle.plain_server.proofs.StatementLaws.Orderly.{nulls}
 use Rattle.plain_server.proofs.StatementLaws.Standing.{one_row, same_itself}
-use Rattle.plain_server.proofs.StatementLaws.Tests.{or_true}
 
 -- a row that is found stands
 found_here : (test : Row → Bool) (row first : Row) (rows : List Row) (b : Bool) → cond b (Some first) (find test rows) ≡ Some row → (find test rows ≡ Some row → stands row rows ≡ true) → (same_row row first || stands row rows) ≡ true
 found_here test row first rows true is rest = let one : first ≡ row = cc in rw (ap (same_row row) one ∙ same_itself row) refl
-found_here test row first rows false is rest = rw (rest is) (or_true (same_row row first))
+found_here test row first rows false is rest = rw (rest is) (or-true (same_row row first))
 
 pub found_stands : (test : Row → Bool) (row : Row) (rows : List Row) → find test rows ≡ Some row → stands row rows ≡ true
 unfolding stands

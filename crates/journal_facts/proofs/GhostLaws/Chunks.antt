@@ -2,6 +2,8 @@
 use Rattle.std.proofs.Common.{◌≡◌, ℕ, zero, suc, ◌<◌, ◌≤◌, Bool, true, false, ◌&&◌, List, [], ◌∷◌, length, filter, take, find, cond, Some, Ok, Ordering, Less, Equal, Greater, refl, sym, ap, ◌∙◌, subst, arith}
 use Rattle.std.specs.Prelude.{nat_lt}
 use Rattle.std.proofs.lemmas.Bool.{false≢true, and_parts}
+use Rattle.std.proofs.lemmas.List.{take_all}
+use Rattle.std.proofs.Math.Bool.{and-false}
 use Rattle.std.specs.List.{AllByRecursion}
 use Rattle.std.specs.Ordering.{is_le, ordering_reverse}
 use Rattle.gho_values.specs.Comparing.{compare_keys}
@@ -107,21 +109,12 @@ nearer low near far key within = at (above low key) (is_le (compare_keys key nea
   at : (a b : Bool) → is_le (compare_keys key near) ≡ b → (a && b) ≡ ((a && is_le (compare_keys key far)) && b)
   at false b is = refl
   at true true is = rw (no_greater key near far (compare_keys key near) refl is within) refl
-  at true false is = two (is_le (compare_keys key far)) where
-    two : (c : Bool) → false ≡ (c && false)
-    two true = refl
-    two false = refl
+  at true false is = sym (and-false (is_le (compare_keys key far)))
 
 pub keys_taken : (places : List ℕ) (n : ℕ) (rows : List Row) → take n (keys_of places rows) ≡ keys_of places (take n rows)
 keys_taken places zero rows = refl
 keys_taken places (suc n) [] = refl
 keys_taken places (suc n) (row ∷ rows) = ap (λ (ks : List Row). key_of places row ∷ ks) (keys_taken places n rows)
-
-take_all : (n : ℕ) (keys : List Row) → length keys ≤ n → take n keys ≡ keys
-take_all zero [] within = refl
-take_all (suc n) [] within = refl
-take_all zero (key ∷ keys) within = absurd (omega (arith, within))
-take_all (suc n) (key ∷ keys) within = ap (λ (ks : List Row). key ∷ ks) (take_all n keys (omega (arith, within)))
 
 pub below_end : (low : Bound) (end key : Row) → has (record { low = low; high = Closed end }) key ≡ true → is_le (compare_keys key end) ≡ true
 unfolding has

@@ -2,6 +2,8 @@
 use Rattle.std.proofs.Common.{◌≡◌, ℕ, zero, suc, Bool, true, false, ◌||◌, List, [], ◌∷◌, ◌++◌, length, filter, take, find, Option, Some, None, Ok, refl, sym, ap, ◌∙◌, subst}
 use Rattle.std.specs.Prelude.{◌==◌}
 use Rattle.std.proofs.lemmas.Bool.{false≢true, true≢false}
+use Rattle.std.proofs.Math.Path.{fun_ext}
+use Rattle.std.proofs.Math.Seq.{take-length}
 use Rattle.std.specs.List.{AllByRecursion, list_any, slice_get}
 use Rattle.std.specs.Ordering.{is_eq}
 use Rattle.gho_values.specs.Comparing.{compare_keys}
@@ -19,7 +21,6 @@ use Rattle.row_store.specs.Databases.{TableRows, Database, find_table}
 use Rattle.row_store.specs.RowLists.{is_at}
 use Rattle.row_store.proofs.Orders.{is_Equal}
 use Rattle.plain_server.specs.declared.work.Work.TheVariants as works
-use Rattle.journal_facts.proofs.GhostLaws.Applying.{ext}
 use Rattle.journal_facts.proofs.GhostLaws.Chunks.{copied_by_key, span_same}
 use Rattle.journal_facts.proofs.GhostLaws.Ending.{all_joins, chunk_joins}
 use Rattle.journal_facts.proofs.GhostLaws.Joining.{table_stands}
@@ -57,7 +58,7 @@ retaken m rows done half taken other progress ghost copier applier now hold same
     record {
       joined = record {
         under_way = kept.joined.under_way;
-        granted = record { apart = g.apart; applier_holds = g.applier_holds; copier_holds = g.copier_holds ∙ ext (is_among taken) (is_among other) same; taken = λ key among. g.taken key (same key ∙ among); batch = g.batch; chunk = g.chunk };
+        granted = record { apart = g.apart; applier_holds = g.applier_holds; copier_holds = g.copier_holds ∙ fun_ext same; taken = λ key among. g.taken key (same key ∙ among); batch = g.batch; chunk = g.chunk };
       };
       old = kept.old;
       new = kept.new;
@@ -98,16 +99,12 @@ begins_span m rows half progress ghost copier applier now hold holds own keys lo
     step_keeps m rows done half (is_done_in (Some (record { low = low; high = Closed top })) (Some (record { low = Open high; high = Closed top })) keys) half [] progress progress ghost copier applier now holds there
     (chunk_joins m rows now.log half (holds applier).locks (holds copier).locks [] progress ghost keys low high top told there.joined)
 
-take_whole : (keys : List Row) → take (length keys) keys ≡ keys
-take_whole [] = refl
-take_whole (key ∷ keys) = ap (λ (ks : List Row). key ∷ ks) (take_whole keys)
-
 -- *The chunk's COMMIT*, when all keys told are taken
 pub commits_chunk : (m : Migration) (rows : List Row) (left behind : Option Span) (keys : List Row) (half : Row → Bool) (progress : Progress Row) (ghost : GhostRows) (copier applier : ℕ) (now after : Stored) (hold holds : ℕ → SessionHold) → IsPlanned m rows → IsServed now hold
     → GhostInvariant m rows (is_done_in left behind keys) half (take (length keys) keys) progress ghost copier applier now hold → (applier == copier) ≡ false → Besides copier hold holds no_hold → after.tables ≡ after_events now.tables (hold copier).writes → after.log ≡ now.log ++ (hold copier).writes
     → GhostInvariant m rows (is_done behind) half [] (record progress { end = length after.log; copier_holds = λ _. false }) (record ghost { committed = rows_after_all (key_places m.new) ghost.chunk ghost.committed; chunk = [] }) copier applier after holds
 commits_chunk m rows left behind keys half progress ghost copier applier now after hold holds planned served kept differ besides tables log =
-    chunk_keeps m rows left behind keys half (take (length keys) keys) progress ghost copier applier now after hold holds planned served kept differ (λ key. ap (λ (ks : List Row). is_among ks key) (take_whole keys)) besides tables log
+    chunk_keeps m rows left behind keys half (take (length keys) keys) progress ghost copier applier now after hold holds planned served kept differ (λ key. ap (λ (ks : List Row). is_among ks key) (take-length keys)) besides tables log
 
 -- the chunk that ends at the greatest key was the last
 pub copied_all : (m : Migration) (rows : List Row) (half : Row → Bool) (progress : Progress Row) (ghost : GhostRows) (copier applier : ℕ) (now : Stored) (hold : ℕ → SessionHold) (top : Row) → GhostInvariant m rows (is_done (Some (record { low = Open top; high = Closed top }))) half [] progress ghost copier applier now hold

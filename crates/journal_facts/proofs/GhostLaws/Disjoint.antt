@@ -1,6 +1,6 @@
 -- What two sessions changed has no point in common.
-use Rattle.std.proofs.Common.{◌≡◌, Bool, true, false, List, [], ◌∷◌, Some, refl, sym, ◌∙◌, subst}
-use Rattle.std.proofs.lemmas.Bool.{true≢false}
+use Rattle.std.proofs.Common.{◌≡◌, true, false, List, [], ◌∷◌, Some, sym, ◌∙◌, subst}
+use Rattle.std.proofs.lemmas.Bool.{false_from_ne_true, true≢false}
 use Rattle.std.specs.List.{AllByRecursion}
 use Rattle.gho_values.specs.declared.gho_schema.schema.Schema.{Schema}
 use Rattle.gho_values.specs.GhoSchema.Rows.{key_of, key_places}
@@ -26,14 +26,10 @@ use Rattle.plain_server.proofs.StatementLaws.Points.{clash_under, under-within}
 use Rattle.plain_server.specs.StatementLaws.Agreeing.{Within}
 use Rattle.plain_server.specs.StatementLaws.Covering.{rows_of, RowsCovered, Apart, Covered}
 
-false_unless : (b : Bool) → (b ≡ true → ⊥) → b ≡ false
-false_unless true not_so = absurd (not_so refl)
-false_unless false not_so = refl
-
 -- rows whose points two sessions hold don't clash
 no_clash : (schema : Schema) (own others : List Lock) (row other : Row) → Apart own others → Within (points schema row) own → Within (points schema other) others → clash schema.uniques other row ≡ false
 no_clash schema own others row other apart mine theirs =
-    false_unless (clash schema.uniques other row) (λ clashes.
+    false_from_ne_true (clash schema.uniques other row) (λ clashes.
     true≢false (sym (under-within schema (points schema other) others row theirs (clash_under schema other row clashes)) ∙ not_under schema own others row apart mine))
 
 -- *Rows whose points two sessions hold are disjoint_rows.*

@@ -1,6 +1,7 @@
 -- Beginnings, walks over the log, commits and losses keep the migration under way, with its locks.
 use Rattle.std.proofs.Common.{◌≡◌, ℕ, zero, suc, ◌+◌, ◌<◌, ◌≤◌, Bool, true, false, List, [], ◌++◌, length, map, filter, Option, Some, None, refl, sym, ap, ◌∙◌, subst, arith}
 use Rattle.std.proofs.lemmas.Bool.{true≢false}
+use Rattle.std.proofs.Math.Path.{fun_ext}
 use Rattle.gho_values.specs.declared.span.Bound.{Bound}
 use Rattle.gho_values.specs.declared.span.Bound.TheVariants.{Open, Closed}
 use Rattle.gho_values.specs.declared.span.Span.{Span}
@@ -8,7 +9,6 @@ use Rattle.gho_values.specs.Spans.{has}
 use Rattle.gho_values.specs.GhoSchema.Rows.{key_of, key_places}
 use Rattle.event_codec.specs.declared.event.RowEvent.{RowEvent}
 use Rattle.row_locks.specs.declared.lock.Lock.{Lock}
-use Rattle.journal_facts.proofs.GhostLaws.Applying.{ext}
 use Rattle.journal_facts.proofs.GhostLaws.Disjoint.{held_apart}
 use Rattle.journal_facts.proofs.GhostLaws.Joining.{none_among, none_locked}
 use Rattle.journal_facts.proofs.GhostLaws.Keys.{locked_more}
@@ -152,7 +152,7 @@ pub chunk_ends : (m : Migration) (rows : List Row) (log : List RowEvent) (left b
     → IsJoined m rows log (is_done behind) half own [] [] (record progress { copier_holds = λ _. false }) (record ghost { committed = rows_after_all (key_places m.new) ghost.chunk ghost.committed; chunk = [] })
 chunk_ends m rows log left behind keys half own others taken progress ghost planned all now =
     record {
-      under_way = chunk_commits_on m rows log left behind keys half progress ghost planned (now.granted.copier_holds ∙ ext (is_among taken) (is_among keys) all) now.under_way;
+      under_way = chunk_commits_on m rows log left behind keys half progress ghost planned (now.granted.copier_holds ∙ fun_ext all) now.under_way;
       granted = chunk_granted m own others taken progress ghost now.granted;
     }
 

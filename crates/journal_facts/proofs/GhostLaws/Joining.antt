@@ -1,6 +1,7 @@
 -- Each step of the copier and of the applier keeps the migration under way, with the locks that the step was granted.
 use Rattle.std.proofs.Common.{◌≡◌, ℕ, ◌+◌, ◌<◌, Bool, true, false, List, [], ◌∷◌, ◌++◌, find, Option, Some, None, Ok, Err, refl, sym, ap, ◌∙◌, subst, ◌⊎◌, inl, inr}
 use Rattle.std.proofs.lemmas.List.{append-nil}
+use Rattle.std.proofs.Math.Path.{fun_ext}
 use Rattle.std.specs.List.{AllByRecursion}
 use Rattle.std.specs.Ordering.{is_eq}
 use Rattle.gho_values.specs.Comparing.{compare_keys}
@@ -18,7 +19,7 @@ use Rattle.gho_values.specs.GhoSchema.Tables.{Ascends, no_null}
 use Rattle.gho_values.specs.declared.alter_image.image_fault.UnfitAt.{UnfitAt}
 use Rattle.plain_server.specs.declared.work.Work.{Work}
 use Rattle.plain_server.specs.declared.work.Work.TheVariants as works
-use Rattle.journal_facts.proofs.GhostLaws.Applying.{UpdateTold, all_set, at_key, copy_rested, copy_told, delete_locks, delete_told, ext, key_met, replace_told, update_locks, update_makes, update_told}
+use Rattle.journal_facts.proofs.GhostLaws.Applying.{UpdateTold, all_set, at_key, copy_rested, copy_told, delete_locks, delete_told, key_met, replace_told, update_locks, update_makes, update_told}
 use Rattle.journal_facts.proofs.GhostLaws.Disjoint.{NamesRows, all_disjoint, covered_keys, held_apart, image_free, named_rows, none_removed}
 use Rattle.journal_facts.proofs.GhostLaws.Keys.{clustered, full_key, locked_more, row_locked}
 use Rattle.journal_facts.proofs.GhostLaws.Telling.{tells_fit}
@@ -52,11 +53,11 @@ use Rattle.least_session.proofs.Kept.{both}
 
 pub none_locked : (schema : Schema) → is_locked schema [] ≡ (λ _. false)
 unfolding is_locked
-none_locked schema = ext (is_locked schema []) (λ _. false) (λ key. refl)
+none_locked schema = fun_ext (λ key. refl)
 
 pub none_among : is_among [] ≡ (λ _. false)
 unfolding is_among
-none_among = ext (is_among []) (λ _. false) (λ key. refl)
+none_among = fun_ext (λ key. refl)
 
 -- ---- what stands at the log's end
 

@@ -1,5 +1,6 @@
 -- Keys that are held, and keys that aren't.
 use Rattle.std.proofs.Common.{◌≡◌, ℕ, ◌==◌, ◌<◌, arith, Bool, true, false, ◌&&◌, ◌||◌, List, [], ◌∷◌, length, Option, Some, None, refl, sym, ap, ◌∙◌, subst, inl, inr}
+use Rattle.std.proofs.Math.Bool.{or-true}
 use Rattle.std.proofs.lemmas.Bool.{false≢true, true≢false, and_parts}
 use Rattle.std.specs.List.{list_any, slice_get}
 use Rattle.std.specs.Str.{bytes_eq}
@@ -20,7 +21,7 @@ use Rattle.journal_facts.specs.GhostLaws.Holding.{Clustered, is_locked, is_place
 use Rattle.plain_server.specs.Needing.{lock_on, points}
 use Rattle.plain_server.proofs.StatementLaws.Orderly.{nulls}
 use Rattle.plain_server.proofs.StatementLaws.Points.{among-within, point_of}
-use Rattle.plain_server.proofs.StatementLaws.Tests.{are_one, are_same, or_true, same_bytes, same_number}
+use Rattle.plain_server.proofs.StatementLaws.Tests.{are_one, are_same, same_bytes, same_number}
 use Rattle.plain_server.specs.StatementLaws.Agreeing.{Among, Within}
 use Rattle.plain_server.specs.StatementLaws.Covering.{Apart}
 
@@ -44,7 +45,7 @@ clustered schema has = at_place schema (clustered_place schema) refl refl has.so
 pub among_any : (test : Lock → Bool) (lock : Lock) (locks : List Lock) → Among lock locks → test lock ≡ true → list_any test locks ≡ true
 among_any test lock [] among is = absurd among
 among_any test lock (first ∷ locks) (inl same) is = let now : test first ≡ true = ap test (sym same) ∙ is in rw now refl
-among_any test lock (first ∷ locks) (inr among) is = rw (among_any test lock locks among is) (or_true (test first))
+among_any test lock (first ∷ locks) (inr among) is = rw (among_any test lock locks among is) (or-true (test first))
 
 pub record Passing (test : Lock → Bool) (locks : List Lock) : Type 0 where
   pub lock : Lock

@@ -4,6 +4,7 @@ use Rattle.std.specs.Prelude.{◌==◌, nat_lt}
 use Rattle.std.specs.List.{AllByRecursion, slice_get}
 use Rattle.std.specs.Ordering.{is_eq, is_le}
 use Rattle.std.specs.Str.{bytes_eq}
+use Rattle.std.proofs.Math.Bool.{or-true}
 use Rattle.std.proofs.lemmas.Cmp.{tied_itself}
 use Rattle.gho_values.specs.Comparing.{compare_keys}
 use Rattle.gho_values.proofs.Orders.{keys_total}
@@ -29,7 +30,6 @@ use Rattle.journal_facts.specs.GhostLaws.GhostRows.Timelines.{IsPlanned, Migrati
 use Rattle.journal_facts.specs.GhostLaws.GhostRows.Views.{GhostRows, is_among, is_left}
 use Rattle.journal_facts.specs.Scenes.{SessionHold, Stored, no_hold}
 use Rattle.plain_server.specs.Chunks.{keys_of, last_of}
-use Rattle.plain_server.proofs.StatementLaws.Tests.{or_true}
 
 -- *The start*, where the table has rows: these are the least and the greatest key
 pub tool_starts : (m : Migration) (at : Clustered m.schema) (rows : List Row) (position copier applier : ℕ) (now : Stored) (hold : ℕ → SessionHold) (first : Row) (others : List Row) → IsPlanned m rows → LogFits m.name m.schema rows now.log → position ≤ length now.log
@@ -102,7 +102,7 @@ among_at : (keys : List Row) (n : ℕ) (key : Row) → slice_get keys n ≡ Some
 unfolding is_among
 among_at [] n key at = absurd cc
 among_at (first ∷ keys) zero key at = let one : first ≡ key = cc in rw (ap (λ (k : Row). is_eq (compare_keys key k)) one ∙ ap is_eq (tied_itself keys_total key)) refl
-among_at (first ∷ keys) (suc n) key at = rw (among_at keys n key at) (or_true _)
+among_at (first ∷ keys) (suc n) key at = rw (among_at keys n key at) (or-true _)
 
 pub key_told : (m : Migration) (at : Clustered m.schema) (rows : List Row) (low : Bound) (high top : Row) (keys : List Row) (n : ℕ) (apply : ApplyState) (progress : Progress Row) (ghost : GhostRows) (copier applier : ℕ) (now : Stored) (hold : ℕ → SessionHold) (k : ℕ) (key : Row) → IsPlanned m rows → ToolInvariant m at rows (Taking low high top keys n) apply progress ghost copier applier now hold
     → slice_get keys k ≡ Some key → SomeRow (key_places m.schema) key (rows_at m.name (key_places m.schema) rows now.log (length now.log))

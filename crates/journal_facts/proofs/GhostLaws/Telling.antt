@@ -1,5 +1,6 @@
 -- What a statement changes goes with the rows, change by change.
 use Rattle.std.proofs.Common.{◌≡◌, ℕ, Bool, true, false, not, ◌||◌, List, [], ◌∷◌, map, find, filter, cond, Option, Some, Result, Ok, Err, Less, refl, sym, ap, ◌∙◌, subst}
+use Rattle.std.proofs.Math.Bool.{or-true}
 use Rattle.std.proofs.lemmas.Bool.{true≢false}
 use Rattle.std.specs.List.{AllByRecursion, list_any}
 use Rattle.gho_values.specs.declared.value.Value.{Value}
@@ -29,7 +30,6 @@ use Rattle.plain_server.specs.Rows.{change_rows, reaches, rows_met, same_row, st
 use Rattle.plain_server.specs.Saying.{change_first, clashes_besides, only, result_or_refusal, tells, updated, updates, with_sets}
 use Rattle.plain_server.proofs.StatementLaws.Orderly.{none_besides, with_sets_row}
 use Rattle.plain_server.proofs.StatementLaws.Standing.{stands-filter, stands-put, other_row}
-use Rattle.plain_server.proofs.StatementLaws.Tests.{or_true}
 use Rattle.plain_server.specs.StatementLaws.Covering.{IsSound, SetsFit}
 
 -- no row clashes where none is found to
@@ -70,7 +70,7 @@ either_way schema rows false false still later one two = two refl
 still_stands : (places : List ℕ) (old new other : Row) (rows : List Row) → same_row old other ≡ false → stands other rows ≡ true → stands other (change_rows places (changes.Update old new) rows) ≡ true
 unfolding change_rows
 still_stands places old new other rows differs stood =
-    stands-put places other new (without_row old rows) ∙ ap (λ (s : Bool). same_row other new || s) (stands-filter (λ r. not (same_row old r)) other rows ∙ rw (stood, differs) refl) ∙ or_true (same_row other new)
+    stands-put places other new (without_row old rows) ∙ ap (λ (s : Bool). same_row other new || s) (stands-filter (λ r. not (same_row old r)) other rows ∙ rw (stood, differs) refl) ∙ or-true (same_row other new)
 
 all_stand : (places : List ℕ) (old new : Row) (met rows : List Row) → AllByRecursion (λ other. compare_keys (key_of places old) (key_of places other) ≡ Less) met → AllByRecursion (λ other. stands other rows ≡ true) met
     → AllByRecursion (λ other. stands other (change_rows places (changes.Update old new) rows) ≡ true) met

@@ -1,6 +1,7 @@
 -- Whether an UPDATE changes a unique key is told alike by given values and by the old rows.
 use Rattle.std.proofs.Common.{◌≡◌, ℕ, zero, suc, Bool, true, not, List, [], ◌∷◌, ◌++◌, map, unwrap_or, option_map, Option, Some, None, refl, sym, ap, ◌∙◌, ◌⊎◌, inl, inr}
 use Rattle.std.proofs.lemmas.List.{append_assoc}
+use Rattle.std.specs.Cmp.{both_ways}
 use Rattle.std.specs.Prelude.{option_to_list}
 use Rattle.std.specs.List.{AllByRecursion, list_any, slice_get}
 use Rattle.std.specs.Ordering.{is_eq}
@@ -18,7 +19,6 @@ use Rattle.gho_values.specs.AlterImage.Images.{source}
 use Rattle.row_store.proofs.Orders.{Row, is_Equal}
 use Rattle.journal_facts.proofs.GhostLaws.Texts.{given}
 use Rattle.journal_facts.specs.GhostLaws.GhostRows.Timelines.{changes_key, kept_keys, old_place, old_places}
-use Rattle.plain_server.proofs.StatementLaws.Standing.{both_ways}
 
 -- the values given for the columns at these places
 abbrev pub values_at : List Value → List ℕ → List Value

@@ -1,8 +1,8 @@
 -- The applier's REPLACE of given values is work on the row's image, and is refused as CopyRow is.
-use Rattle.std.proofs.Common.{◌≡◌, ℕ, zero, suc, ◌+◌, ◌==◌, Bool, true, false, List, [], ◌∷◌, length, map, Option, Some, None, Result, Ok, Err, refl, sym, ap, ◌∙◌, subst, arith}
+use Rattle.std.proofs.Common.{◌≡◌, ℕ, zero, suc, ◌+◌, ◌==◌, true, false, List, [], ◌∷◌, length, map, Option, Some, None, Result, Ok, Err, refl, sym, ap, ◌∙◌, subst, arith}
 use Rattle.std.proofs.lemmas.Bool.Decides.{nat_tests}
 use Rattle.std.specs.Prelude.{not, position}
-use Rattle.std.proofs.lemmas.Bool.{false≢true, and_parts, or_parts}
+use Rattle.std.proofs.lemmas.Bool.{not-true, and_parts, or_parts}
 use Rattle.std.specs.List.{list_any, slice_get}
 use Rattle.gho_values.specs.GhoSchema.Rows.{key_places}
 use Rattle.script_text.specs.declared.statement.Condition.TheVariants as conditions
@@ -120,11 +120,8 @@ key_itself [] (value ∷ values) once long = absurd (omega (arith, long))
 key_itself (place ∷ places) [] once long = absurd (omega (arith, long))
 key_itself (place ∷ places) (value ∷ values) once long =
     let parts = and_parts (not (list_any (λ other. place == other) places)) (are_distinct places) once in
-    let none : list_any (λ other. place == other) places ≡ false = not_true (list_any (λ other. place == other) places) parts.0 in
-    rw (same_number place) (ap (λ (k : List Value). value ∷ k) (key_besides places place value places values none ∙ key_itself places values parts.1 (omega (arith, long)))) where
-      not_true : (b : Bool) → not b ≡ true → b ≡ false
-      not_true true is = absurd (false≢true is)
-      not_true false is = refl
+    let none : list_any (λ other. place == other) places ≡ false = not-true (list_any (λ other. place == other) places) parts.0 in
+    rw (same_number place) (ap (λ (k : List Value). value ∷ k) (key_besides places place value places values none ∙ key_itself places values parts.1 (omega (arith, long))))
 
 -- *The condition by key reaches the key*, where the values given are sought as these
 pub reach_given : (schema : Schema) (at : Clustered schema) (sets : List Set) (key : Row) → FindsKey schema at (map (λ (s : Set). s.column) sets) → sought_each schema (key_places schema) (map (λ (s : Set). s.value) sets) ≡ Ok key → length key ≡ length (key_places schema)

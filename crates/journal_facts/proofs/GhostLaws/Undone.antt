@@ -6,7 +6,6 @@ use Rattle.plain_server.specs.declared.answer.Answer.{Answer}
 use Rattle.plain_server.specs.declared.answer.Answer.TheVariants as answers
 use Rattle.plain_server.specs.declared.session.Limits.{Limits}
 use Rattle.plain_server.specs.declared.entry.Entry.{Entry}
-use Rattle.plain_server.specs.declared.session.Session.{Session}
 use Rattle.plain_server.specs.declared.session.Waiting.{Waiting}
 use Rattle.plain_server.specs.declared.entry.Asked.{Asked}
 use Rattle.plain_server.specs.declared.entry.Asked.TheVariants.{Call, Poll, Cut, Command}
@@ -15,17 +14,16 @@ use Rattle.plain_server.specs.Deeds.{Deed, deed}
 use Rattle.plain_server.specs.Deeds.Deed.{Rests, Grows, Writes, Forgets, Moves, Locks, Unlocks}
 use Rattle.plain_server.specs.Entries.{is_command, is_client, is_cut}
 use Rattle.plain_server.specs.Locking.{need, blocker}
-use Rattle.plain_server.specs.Serving.{called_unless, calls, counting, does, done, forgets, is_over, leaves, loses, polled_of, polled_over, polled_unless, polls, serves, without_waiting}
+use Rattle.plain_server.specs.Serving.{called_unless, calls, counting, does, done, forgets, is_over, leaves, polled_of, polled_over, polled_unless, polls, serves, without_waiting}
 use Rattle.plain_server.specs.States.{State, opened, polls_of, session_of, waiting_of, with_session}
 use Rattle.migration_program.specs.JournalWords.Journals.{after_entry, opens, opens_if}
-use Rattle.journal_facts.specs.Scenes.{Scene, Besides, SessionHold, Stored, no_hold}
-use Rattle.journal_facts.specs.Holdings.{face_in, face_of, stored}
+use Rattle.journal_facts.specs.Scenes.{Scene, Besides, SessionHold, no_hold}
+use Rattle.journal_facts.specs.Holdings.{face_in, stored}
 use Rattle.journal_facts.specs.Turns.{about, answer_at, inner, missed_at, request_of, scene_state, told_at}
 use Rattle.journal_facts.proofs.Faces.{faces_opened, opened_live}
 use Rattle.journal_facts.proofs.Journals.{state_more, found_live, no_command, stored_opened}
 use Rattle.journal_facts.proofs.Tooling.{final}
 use Rattle.journal_facts.proofs.Waiting.{IsDone, done_answers}
-use Rattle.journal_facts.proofs.ServerLaws.Others.{at_wait}
 use Rattle.journal_facts.specs.GhostLaws.Laws.{CutsAreLeft, DeedsAnswer, UndoneIsLeft}
 use Rattle.journal_facts.specs.GhostLaws.Leaving.{deed_answer, told_done, undone_hold, unless_lost, was_done, where_done}
 use Rattle.journal_facts.proofs.GhostLaws.Leaving.{There, changed_so, hold_found, holds_of, resting_hold, rests_so, same_so, stored_final}

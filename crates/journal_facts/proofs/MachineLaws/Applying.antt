@@ -1,6 +1,5 @@
 -- The applier's step and its session go together: a transaction is open exactly from BEGIN to COMMIT.
-use Rattle.std.proofs.Common.{◌≡◌, ◌<◌, ℕ, zero, suc, ◌+◌, ◌-◌, ◌==◌, Bool, true, false, cond, List, [], ◌∷◌, ◌++◌, length, Option, Some, None, refl, sym, ap, ◌∙◌, arith}
-use Rattle.std.specs.List.{slice_get}
+use Rattle.std.proofs.Common.{◌≡◌, ◌<◌, ℕ, ◌+◌, ◌==◌, Bool, true, false, cond, List, [], ◌∷◌, ◌++◌, length, Some, None, refl, sym, ap, ◌∙◌, arith}
 use Rattle.std.proofs.lemmas.Bool.Decides.{nat_tests}
 use Rattle.event_codec.specs.declared.event.RowEvent.{RowEvent}
 use Rattle.plain_server.specs.declared.answer.Answer.{Answer}
@@ -9,7 +8,7 @@ use Rattle.plain_server.specs.declared.entry.Entry.{Entry}
 use Rattle.plain_server.specs.declared.outcome.Progress.TheVariants.{Going, TaskDone, Unfit}
 use Rattle.plain_server.specs.declared.request.Request.{Request}
 use Rattle.plain_server.specs.declared.request.Request.TheVariants as requests
-use Rattle.plain_server.specs.Entries.{answer_at, answer_of}
+use Rattle.plain_server.specs.Entries.{answer_at}
 use Rattle.migration_program.specs.declared.event_applier.applier.Applier.{Applier}
 use Rattle.migration_program.specs.declared.event_applier.applier.ApplyStep.{ApplyStep}
 use Rattle.migration_program.specs.declared.event_applier.applier.ApplyStep.TheVariants.{Reading, Beginning, Applying, Committing}

@@ -3,7 +3,6 @@ use Rattle.std.proofs.Common.{◌≡◌, ℕ, zero, suc, ◌-◌, Bool, true, fa
 use Rattle.std.specs.Prelude.{◌==◌, unwrap_or}
 use Rattle.std.specs.List.{AllByRecursion, slice_get}
 use Rattle.std.proofs.lemmas.Bool.{true≢false}
-use Rattle.std.proofs.lemmas.List.Sums.{fold-append}
 use Rattle.script_text.specs.declared.actor.Side.{Side}
 use Rattle.script_text.specs.declared.actor.Side.TheVariants.{Before}
 use Rattle.script_text.specs.declared.script.ScriptLine.{ScriptLine}
@@ -21,11 +20,10 @@ use Rattle.plain_server.specs.declared.transaction.Mark.TheVariants as marks
 use Rattle.plain_server.specs.declared.transaction.Reply.{Reply}
 use Rattle.plain_server.specs.Conditions.{ComesWell}
 use Rattle.plan_words.specs.PlanData.{PlanData}
-use Rattle.migration_program.specs.JournalWords.Clients.{Reached, Waits, Marked, became_of, became_in, is_inside, ends_with, closes, behind_transaction, left_behind, kept_unless, with_line, marked, client_after, after_turn, script_of, client_at, new_client, client_asks, line_asks, word_asks}
+use Rattle.migration_program.specs.JournalWords.Clients.{Reached, Waits, Marked, became_of, became_in, is_inside, ends_with, closes, behind_transaction, left_behind, kept_unless, with_line, marked, client_after, script_of, client_at, new_client, client_asks, line_asks, word_asks}
 use Rattle.migration_program.proofs.JournalWords.Lines.{inside_more}
 use Rattle.journal_facts.specs.MachineLaws.Standings.{Standing, free, answered, serves_to, IsAbout, is_called, is_polled}
 use Rattle.journal_facts.specs.MachineLaws.Scripts.{WordFits, inside_behind, LinesFit, ScriptsFit}
-use Rattle.journal_facts.proofs.Linking.{client_more}
 
 -- what waits on the server is the client's next line, where the client waits
 pub record ClientStands (client : Reached) (standing : Standing) : Type 0 where

@@ -1,7 +1,5 @@
 -- The tool's turns are the journal's, and its server is the plain server behind the journal.
 use Rattle.std.proofs.Common.{◌≡◌, ℕ, ◌+◌, ◌==◌, Bool, true, false, cond, List, [], ◌∷◌, ◌++◌, length, refl, ap, ◌∙◌}
-use Rattle.std.proofs.lemmas.List.Sums.{fold-append}
-use Rattle.std.proofs.lemmas.List.{length-append}
 use Rattle.script_text.specs.declared.actor.Actor.{Actor}
 use Rattle.script_text.specs.declared.actor.Actor.TheVariants.{Insp, Copy, Apply, Lock, Ren}
 use Rattle.script_text.specs.declared.operator.OperatorWord.{OperatorWord}
@@ -17,7 +15,6 @@ use Rattle.plain_server.specs.declared.outcome.Progress.{Progress}
 use Rattle.plain_server.specs.declared.outcome.Progress.TheVariants.{Going, TaskDone, TaskFailed, Unfit}
 use Rattle.plain_server.specs.States.{State, has_work}
 use Rattle.plan_words.specs.PlanData.{PlanData}
-use Rattle.migration_program.specs.JournalWords.Journals.{opening}
 use Rattle.migration_program.specs.declared.chunk_copier.copier.Copier.{Copier}
 use Rattle.migration_program.specs.ChunkCopier.Copiers as copiers
 use Rattle.migration_program.specs.declared.event_applier.applier.Applier.{Applier}
@@ -29,7 +26,7 @@ use Rattle.migration_program.specs.CutoverCore.CutOvers.{is_bad}
 use Rattle.migration_program.specs.Setups.{Setup, Listing, setup_after}
 use Rattle.plain_server.specs.Entries.{is_command}
 use Rattle.migration_program.specs.Operators.{Operator, commanded}
-use Rattle.migration_program.specs.Tools.{Work, Course, SettingUp, Migrating, Reason, CopyUnfit, ApplyUnfit, Spent, Panicked, Tool, Moment, new_tool, first_reason, stopped, is_renamed, reverts, spends, is_reverting, working, copy_after, apply_after, attempt_after, is_failure, drains, course_of, setup_took, copy_took, apply_took, actor_took, turn_counts, resizes, command_took, asked_took, took, after_turn, moment}
+use Rattle.migration_program.specs.Tools.{Work, Course, SettingUp, Migrating, Reason, CopyUnfit, ApplyUnfit, Spent, Panicked, Tool, Moment, first_reason, stopped, is_renamed, reverts, spends, is_reverting, working, copy_after, apply_after, attempt_after, is_failure, drains, course_of, setup_took, copy_took, apply_took, actor_took, turn_counts, resizes, command_took, asked_took, took, moment}
 use Rattle.journal_facts.proofs.SentryLaws.Inductions.{moment_more}
 
 -- ONE TURN MORE
@@ -138,6 +135,3 @@ operator_commanded plan journal entry word asks =
     ap (λ (now : Moment). now.tool.operator) (moment_more plan journal entry)
     ∙ ap (λ (asked : Asked). (asked_took plan (moment plan journal).server entry asked (record (moment plan journal).tool { turns = (moment plan journal).tool.turns + 1 })).operator) asks
     ∙ ap (λ (b : Base). b.operator) (command_base word (record (moment plan journal).tool { turns = (moment plan journal).tool.turns + 1 }))
-
-pub length_more : (journal : List Entry) (entry : Entry) → length (journal ++ entry ∷ []) ≡ length journal + 1
-length_more journal entry = length-append journal (entry ∷ [])

@@ -3,6 +3,7 @@ use Rattle.std.proofs.Common.{◌≡◌, ℕ, Bool, true, false, ◌&&◌, ◌||
 use Rattle.std.specs.Prelude.{◌==◌}
 use Rattle.std.specs.List.{list_any}
 use Rattle.std.specs.Str.{bytes_eq}
+use Rattle.std.proofs.Math.Bool.{or-true}
 use Rattle.std.proofs.lemmas.Bool.{false≢true}
 use Rattle.gho_values.specs.declared.value.Value.{Value}
 use Rattle.gho_values.specs.GhoSchema.Rows.{key_places}
@@ -30,7 +31,7 @@ use Rattle.journal_facts.specs.Turns.{request_of}
 use Rattle.journal_facts.proofs.Names.{as_held}
 use Rattle.journal_facts.proofs.Replies.{IsReply, line_replies_so, copied_replies}
 use Rattle.journal_facts.proofs.ServerLaws.Others.{holds_parts}
-use Rattle.plain_server.proofs.StatementLaws.Tests.{same_bytes, are_same, or_true}
+use Rattle.plain_server.proofs.StatementLaws.Tests.{same_bytes, are_same}
 use Rattle.journal_facts.specs.MachineLaws.Standings.{needs_names, gives, is_refusable, serves_to}
 
 -- WHAT IS DONE
@@ -195,7 +196,7 @@ unfolding holds
 own_locked holder number [] name own is = absurd (false≢true is)
 own_locked holder number (h ∷ held) name own is = at h.exclusive refl is (own_locked holder number held name own) where
   rest_is : holds (as_held holder held) number name true ≡ true → ((holder == number) && (bytes_eq h.name name && (h.exclusive || false)) || holds (as_held holder held) number name true) ≡ true
-  rest_is more = rw more (or_true ((holder == number) && (bytes_eq h.name name && (h.exclusive || false))))
+  rest_is more = rw more (or-true ((holder == number) && (bytes_eq h.name name && (h.exclusive || false))))
 
   first : (b : Bool) → bytes_eq name h.name ≡ b → h.exclusive ≡ true → (b || list_any (bytes_eq name) (locked_names held)) ≡ true → (list_any (bytes_eq name) (locked_names held) ≡ true → holds (as_held holder held) number name true ≡ true)
       → ((holder == number) && (bytes_eq h.name name && (h.exclusive || false)) || holds (as_held holder held) number name true) ≡ true
@@ -214,7 +215,7 @@ locked_held number (first ∷ sessions) found name is among = at (first.number =
   at true here is rest =
       let same : first ≡ found = cc in
       holds_parts (as_held first.number first.names) (names_held sessions) number name true ∙ rw (own_locked first.number number first.names name here (ap (λ (s : Session). list_any (bytes_eq name) (locked_names s.names)) same ∙ among)) refl
-  at false here is rest = holds_parts (as_held first.number first.names) (names_held sessions) number name true ∙ rw (rest is) (or_true (holds (as_held first.number first.names) number name true))
+  at false here is rest = holds_parts (as_held first.number first.names) (names_held sessions) number name true ∙ rw (rest is) (or-true (holds (as_held first.number first.names) number name true))
 
 -- the answer came at once
 abbrev pub IsPrompt : Answer → Type 0

@@ -2,7 +2,10 @@
 use Rattle.std.proofs.Common.{◌≡◌, ◌⊎◌, ℕ, ◌+◌, Bool, true, false, cond, not, ◌&&◌, List, [], ◌∷◌, ◌++◌, length, Option, Some, None, refl, sym, ap, ◌∙◌, subst, inl, inr}
 use Rattle.std.specs.List.{list_any}
 use Rattle.std.specs.Str.{bytes_eq}
+use Rattle.std.proofs.Math.Bool.{or-true}
 use Rattle.std.proofs.lemmas.Bool.{true≢false}
+use Rattle.std.proofs.lemmas.List.{length_push}
+use Rattle.std.proofs.lemmas.Option.{none-some}
 use Rattle.script_text.specs.declared.actor.Actor.{Actor}
 use Rattle.script_text.specs.declared.actor.Actor.TheVariants.{Op, Insp, Copy, Apply, Lock, Ren, Client}
 use Rattle.script_text.specs.declared.operator.OperatorWord.{OperatorWord}
@@ -34,12 +37,12 @@ use Rattle.migration_program.specs.CutoverCore.CutOvers.{is_resting, is_done}
 use Rattle.migration_program.specs.Operators.{is_throttled}
 use Rattle.migration_program.specs.Programs.{waits, calls, tool_call, tool_asks, copy_call, apply_call, may_read, may_begin, rolls_back, given, IsFollowed, IsGiven, Follows}
 use Rattle.migration_program.specs.Tools.{Work, Course, SettingUp, Migrating, Tool, Moment, is_reverting, actor_took, asked_took, took, after_turn, moment}
-use Rattle.plain_server.proofs.StatementLaws.Tests.{same_bytes, or_true}
+use Rattle.plain_server.proofs.StatementLaws.Tests.{same_bytes}
 use Rattle.journal_facts.specs.MachineLaws.Standings.{Standing, free, standing_in, standing_of, answered, answers_to, IsAbout, is_called, is_polled}
 use Rattle.journal_facts.specs.MachineLaws.Machines.{Stands, inspector_asks, inspector_waits, copier_asks, copier_busy, applier_asks, ApplierStands, both_names, held, WorkStands, CourseStands}
 use Rattle.journal_facts.proofs.MachineLaws.Seated.{IsKnown, IsServed, known_begins, known_more, state_more, others_stand, own_stands, own_fits, own_prompt, own_lost, own_session}
 use Rattle.journal_facts.proofs.MachineLaws.Fitting.{IsPrompt}
-use Rattle.journal_facts.proofs.MachineLaws.Counting.{turns_more, length_more}
+use Rattle.journal_facts.proofs.MachineLaws.Counting.{turns_more}
 use Rattle.journal_facts.proofs.MachineLaws.Copying.{copier_stands, copier_unfit}
 use Rattle.journal_facts.proofs.MachineLaws.Applying.{applier_stands, applier_unfit}
 use Rattle.journal_facts.proofs.MachineLaws.CuttingOver.{LockerAsks, ListsFree, locker_stands, locker_lost, renamer_has}
@@ -180,9 +183,7 @@ module _ (plan : PlanData) (journal : List Entry) (entry : Entry) (is : IsTogeth
     by (inr stands) = stands
 
   copy_asked : entry.actor ≡ Copy → Asking plan journal Copy entry.asked → (course : Course) → now.tool.course ≡ course → CourseStands journal has (is_reverting now.tool.reason) course → Together (actor_took plan Copy entry.answer course tool)
-  copy_asked same asks (SettingUp setup tries) course at = absurd (setup_none Copy at.copier (λ request call. absurd (no request (ap (λ (c : Course). tool_call plan now.server journal now.tool c Copy) (sym course) ∙ call))) asks) where
-    no : (request : Request) → None ≡ Some request → ⊥
-    no request same = cc
+  copy_asked same asks (SettingUp setup tries) course at = absurd (setup_none Copy at.copier (λ request call. absurd (none-some request (ap (λ (c : Course). tool_call plan now.server journal now.tool c Copy) (sym course) ∙ call))) asks)
   copy_asked same asks (Migrating work) course at =
       copy_turn plan journal entry has now_has entry.answer work tool course (others_same Copy same) at
       (λ going. copy_about work course at going asks (Stands (copier_asks (copiers.took tool.turns work.copier entry.answer).step) (copier_busy (copiers.took tool.turns work.copier entry.answer).step) [] (now_has Copy))
@@ -208,9 +209,7 @@ module _ (plan : PlanData) (journal : List Entry) (entry : Entry) (is : IsTogeth
   apply_about work course at going (polls_so request asks some) P then = then request (is_polled asks some) (waits_asks (applier_asks work.applier.step) (has Apply).waits request (applier_had work at going).stands.waits some)
 
   apply_asked : entry.actor ≡ Apply → Asking plan journal Apply entry.asked → (course : Course) → now.tool.course ≡ course → CourseStands journal has (is_reverting now.tool.reason) course → Together (actor_took plan Apply entry.answer course tool)
-  apply_asked same asks (SettingUp setup tries) course at = absurd (setup_none Apply at.applier (λ request call. absurd (no request (ap (λ (c : Course). tool_call plan now.server journal now.tool c Apply) (sym course) ∙ call))) asks) where
-    no : (request : Request) → None ≡ Some request → ⊥
-    no request same = cc
+  apply_asked same asks (SettingUp setup tries) course at = absurd (setup_none Apply at.applier (λ request call. absurd (none-some request (ap (λ (c : Course). tool_call plan now.server journal now.tool c Apply) (sym course) ∙ call))) asks)
   apply_asked same asks (Migrating work) course at =
       apply_turn plan journal entry has now_has entry.answer work tool course (others_same Apply same) at
       (λ going. apply_about work course at going asks (ApplierStands more (appliers.took tool.turns work.applier entry.answer) (now_has Apply))
@@ -231,7 +230,7 @@ module _ (plan : PlanData) (journal : List Entry) (entry : Entry) (is : IsTogeth
 
   -- the sentry is dropped at once
   old_among : (table : List ℕ) → list_any (bytes_eq (old_name table)) (both_names table) ≡ true
-  old_among table = rw (same_bytes (old_name table)) (or_true (bytes_eq (old_name table) table))
+  old_among table = rw (same_bytes (old_name table)) (or-true (bytes_eq (old_name table) table))
 
   drop_held : (table : List ℕ) (hold : Hold) (phase : Phase) → LockerAsks table hold phase (requests.Drop (old_name table)) → hold ≡ Locks
   drop_held table Locks phase asks = refl
@@ -257,9 +256,7 @@ module _ (plan : PlanData) (journal : List Entry) (entry : Entry) (is : IsTogeth
       no same = cc
 
   lock_asked : entry.actor ≡ Lock → Asking plan journal Lock entry.asked → (course : Course) → now.tool.course ≡ course → CourseStands journal has (is_reverting now.tool.reason) course → Together (actor_took plan Lock entry.answer course tool)
-  lock_asked same asks (SettingUp setup tries) course at = absurd (setup_none Lock at.locker (λ request call. absurd (no request (ap (λ (c : Course). tool_call plan now.server journal now.tool c Lock) (sym course) ∙ call))) asks) where
-    no : (request : Request) → None ≡ Some request → ⊥
-    no request same = cc
+  lock_asked same asks (SettingUp setup tries) course at = absurd (setup_none Lock at.locker (λ request call. absurd (none-some request (ap (λ (c : Course). tool_call plan now.server journal now.tool c Lock) (sym course) ∙ call))) asks)
   lock_asked same asks (Migrating work) course at =
       lock_about work course at asks (Together (actor_took plan Lock entry.answer (Migrating work) tool))
       (λ request is_about kind. lock_turn plan journal entry has now_has entry.answer work tool (others_same Lock same) at
@@ -273,9 +270,7 @@ module _ (plan : PlanData) (journal : List Entry) (entry : Entry) (is : IsTogeth
   ren_about work course at (polls_so request asks some) P then = then request (is_polled asks some) (renamer_waits work.cutover.table work.cutover.renamer_waits request (ap (λ (s : Standing). s.waits) (sym at.renamer) ∙ some))
 
   ren_asked : entry.actor ≡ Ren → Asking plan journal Ren entry.asked → (course : Course) → now.tool.course ≡ course → CourseStands journal has (is_reverting now.tool.reason) course → Together (actor_took plan Ren entry.answer course tool)
-  ren_asked same asks (SettingUp setup tries) course at = absurd (setup_none Ren at.renamer (λ request call. absurd (no request (ap (λ (c : Course). tool_call plan now.server journal now.tool c Ren) (sym course) ∙ call))) asks) where
-    no : (request : Request) → None ≡ Some request → ⊥
-    no request same = cc
+  ren_asked same asks (SettingUp setup tries) course at = absurd (setup_none Ren at.renamer (λ request call. absurd (none-some request (ap (λ (c : Course). tool_call plan now.server journal now.tool c Ren) (sym course) ∙ call))) asks)
   ren_asked same asks (Migrating work) course at =
       ren_about work course at asks (Together (actor_took plan Ren entry.answer (Migrating work) tool))
       (λ request is_about kind. ren_turn plan journal entry has now_has entry.answer work tool (others_same Ren same) at
@@ -463,7 +458,7 @@ module _ (plan : PlanData) (journal : List Entry) (entry : Entry) (is : IsTogeth
   together_more = record {
     known = known_more plan journal entry is.known served;
     server = ap (λ (m : Moment). m.server) (moment_more plan journal entry) ∙ ap (λ (s : State). after_entry s entry) is.server ∙ sym (state_more plan journal entry);
-    turns = turns_more plan journal entry ∙ ap (λ (n : ℕ). n + 1) is.turns ∙ sym (length_more journal entry);
+    turns = turns_more plan journal entry ∙ ap (λ (n : ℕ). n + 1) is.turns ∙ sym (length_push journal entry);
     stands = subst (λ (m : Moment). CourseStands more now_has (is_reverting m.tool.reason) m.tool.course) (sym (moment_more plan journal entry)) (all_turns entry.asked refl run.followed.given);
   }
 

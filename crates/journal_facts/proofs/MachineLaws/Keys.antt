@@ -1,9 +1,9 @@
 -- The clustered keys of a table's rows are of its kinds; and so are the keys that the server answers.
-use Rattle.std.proofs.Common.{◌≡◌, ◌≤◌, ℕ, zero, suc, ◌-◌, Bool, true, false, cond, not, ◌&&◌, List, [], ◌∷◌, take, length, Option, Some, None, Ok, Err, refl, subst, arith}
+use Rattle.std.proofs.Common.{◌≡◌, ◌≤◌, ℕ, zero, suc, ◌-◌, Bool, true, false, cond, ◌&&◌, List, [], ◌∷◌, take, length, Option, Some, None, Ok, Err, refl, subst, arith}
 use Rattle.std.specs.Prelude.{nat_lt, nat_le, int_le, unwrap_or}
 use Rattle.std.specs.List.{AllByRecursion, slice_get, flat_map}
 use Rattle.std.specs.Fmt.{signed_decimal}
-use Rattle.std.proofs.lemmas.Bool.{false≢true}
+use Rattle.std.proofs.lemmas.Bool.{false≢true, not-true}
 use Rattle.std.proofs.lemmas.Bool.Decides.{nat_tests}
 use Rattle.gho_values.specs.declared.kind.Kind.{Kind}
 use Rattle.gho_values.specs.declared.kind.Kind.TheVariants.{Int, VarChar, VarBinary}
@@ -73,10 +73,7 @@ stored_kind (Blob blob) (VarChar limit) is = absurd cc
 value_kind : (columns : List Column) (row : Row) (place : ℕ) (P : Type 0) → IsRow columns row → is_not_null (slice_get columns place) ≡ true → ((column : Column) (value : Value) → slice_get columns place ≡ Some column → slice_get row place ≡ Some value → IsOfKind value column.kind → P) → P
 value_kind [] row place P fits not_null then = absurd (false≢true not_null)
 value_kind (column ∷ columns) [] place P fits not_null then = absurd fits
-value_kind (column ∷ columns) (value ∷ row) zero P fits not_null then = then column value refl refl (stored_kind value column.kind (subst (λ (b : Bool). stores value column.kind b ≡ Ok value) (off column.nullable not_null) fits.0)) where
-  off : (b : Bool) → not b ≡ true → b ≡ false
-  off true is = absurd (false≢true is)
-  off false is = refl
+value_kind (column ∷ columns) (value ∷ row) zero P fits not_null then = then column value refl refl (stored_kind value column.kind (subst (λ (b : Bool). stores value column.kind b ≡ Ok value) (not-true column.nullable not_null) fits.0))
 value_kind (column ∷ columns) (value ∷ row) (suc place) P fits not_null then = value_kind columns row place P fits.1 not_null then
 
 key_typed : (columns : List Column) (row : Row) (places : List ℕ) → IsRow columns row → AllByRecursion (λ place. is_not_null (slice_get columns place) ≡ true) places → AreOfKinds (key_of places row) (flat_map (λ place. kind_in (slice_get columns place)) places)

@@ -1,7 +1,7 @@
 -- The greatest number that the server gave is the greatest that the journal names.
-use Rattle.std.proofs.Common.{◌≡◌, ◌≤◌, ℕ, Bool, true, false, cond, max, List, [], ◌∷◌, ◌++◌, Option, Some, None, refl, sym, ap, ◌∙◌, arith}
+use Rattle.std.proofs.Common.{◌≡◌, ◌≤◌, ℕ, Bool, true, false, cond, max, List, [], ◌∷◌, ◌++◌, Option, Some, None, refl, sym, ap, ◌∙◌}
 use Rattle.std.specs.Prelude.{is_some}
-use Rattle.std.proofs.lemmas.List.Sums.{fold-append}
+use Rattle.std.proofs.Math.Nat.{max-eq_left}
 use Rattle.script_text.specs.declared.actor.Side.{Side}
 use Rattle.script_text.specs.declared.actor.Side.TheVariants.{Before, After}
 use Rattle.plain_server.specs.Along.{Along-keeps}
@@ -72,9 +72,6 @@ pub record IsNumbered (plan : PlanData) (journal : List Entry) : Type 0 where
   pub known : IsKnown plan journal
   pub made : (state_at plan journal).made ≡ sessions_named journal
 
-max_same : (n most : ℕ) → n ≤ most → max most n ≡ most
-max_same n most below = omega (arith, below)
-
 module _ (plan : PlanData) (journal : List Entry) (entry : Entry) (is : IsNumbered plan journal) (served : IsServed plan journal entry) where
   abbrev now : State
   now = state_at plan journal
@@ -85,7 +82,7 @@ module _ (plan : PlanData) (journal : List Entry) (entry : Entry) (is : IsNumber
   opened_made (GoesOn calls live) =
       let lives : is_some (session_of entry.session now.sessions) ≡ true = is.known.live entry.actor entry.session live in
       let below : entry.session ≤ sessions_named journal = (is.known.sessions.own entry.actor entry.session live).1 in
-      rw (calls, lives) (is.made ∙ sym (max_same entry.session (sessions_named journal) below))
+      rw (calls, lives) (is.made ∙ sym (max-eq_left below))
   opened_made (Begins calls uncut live above) =
       let gone : is_some (session_of entry.session now.sessions) ≡ false = ap is_some (is.known.fresh entry.session above) in
       rw (calls, gone) (ap (λ (n : ℕ). max n entry.session) is.made)

@@ -11,7 +11,6 @@ use Rattle.script_text.specs.declared.script.ScriptWord.{ScriptWord}
 use Rattle.script_text.specs.declared.script.ScriptWord.TheVariants as words
 use Rattle.gho_values.specs.declared.gho_schema.schema.Schema.{Schema}
 use Rattle.gho_values.specs.SchemaRules.Lawful.{IsLawful}
-use Rattle.gho_values.specs.SchemaRules.Lawful as lawful
 use Rattle.plain_server.specs.StatementLaws.Databases.{IsOrderly}
 use Rattle.plain_server.specs.Along.{Along}
 use Rattle.plain_server.specs.declared.entry.Asked.{Asked}

@@ -2,6 +2,7 @@
 use Rattle.std.proofs.Common.{◌≡◌, ◌⊎◌, ℕ, ◌+◌, Bool, true, false, cond, not, ◌&&◌, List, [], ◌∷◌, ◌++◌, Option, Some, None, refl, sym, ap, ◌∙◌, subst, inl, inr}
 use Rattle.std.specs.List.{slice_get}
 use Rattle.std.proofs.lemmas.Bool.{true≢false, false≢true}
+use Rattle.std.proofs.lemmas.Option.{none-some}
 use Rattle.script_text.specs.declared.actor.Actor.{Actor}
 use Rattle.script_text.specs.declared.actor.Actor.TheVariants.{Op, Insp, Copy, Apply, Lock, Ren, Client}
 use Rattle.script_text.specs.declared.operator.OperatorWord.{OperatorWord}
@@ -652,9 +653,6 @@ module _ (plan : PlanData) (journal : List Entry) (entry : Entry) (is : AllToget
   setup_none actor none no_call (calls_so request asks idle call) = no_call request call
   setup_none actor none no_call (polls_so request asks some) = none_some ⊥ request (has actor).waits (free_waits (has actor) none) some
 
-  none_called : (request : Request) → None ≡ Some request → ⊥
-  none_called request same = cc
-
   insp_turn : entry.actor ≡ Insp → Asking plan journal Insp entry.asked → (course : Course) → now.tool.course ≡ course → CourseTables plan before has course → Tabled (actor_took plan Insp entry.answer course tool)
   insp_turn same (calls_so request asks idle call) (SettingUp setup tries) course at =
       setup_asked same setup tries course at request (is_called asks idle) (unless_called (is_reverting now.tool.reason) (setup_call plan setup) request (ap (λ (c : Course). tool_call plan now.server journal now.tool c Insp) (sym course) ∙ call))
@@ -662,11 +660,11 @@ module _ (plan : PlanData) (journal : List Entry) (entry : Entry) (is : AllToget
   insp_turn same asks (Migrating work) course at = insp_asked same entry.answer work course at (λ off. absurd (insp_none work course (at.going off) asks))
 
   lock_turn : entry.actor ≡ Lock → Asking plan journal Lock entry.asked → (course : Course) → now.tool.course ≡ course → CourseTables plan before has course → Tabled (actor_took plan Lock entry.answer course tool)
-  lock_turn same asks (SettingUp setup tries) course at = absurd (setup_none Lock (setup_has setup tries course).locker (λ request call. none_called request (ap (λ (c : Course). tool_call plan now.server journal now.tool c Lock) (sym course) ∙ call)) asks)
+  lock_turn same asks (SettingUp setup tries) course at = absurd (setup_none Lock (setup_has setup tries course).locker (λ request call. none-some request (ap (λ (c : Course). tool_call plan now.server journal now.tool c Lock) (sym course) ∙ call)) asks)
   lock_turn same asks (Migrating work) course at = lock_asked same entry.answer work course at (λ off. lock_none work course off (at.going off) asks)
 
   ren_turn : entry.actor ≡ Ren → Asking plan journal Ren entry.asked → (course : Course) → now.tool.course ≡ course → CourseTables plan before has course → Tabled (actor_took plan Ren entry.answer course tool)
-  ren_turn same asks (SettingUp setup tries) course at = absurd (setup_none Ren (setup_has setup tries course).renamer (λ request call. none_called request (ap (λ (c : Course). tool_call plan now.server journal now.tool c Ren) (sym course) ∙ call)) asks)
+  ren_turn same asks (SettingUp setup tries) course at = absurd (setup_none Ren (setup_has setup tries course).renamer (λ request call. none-some request (ap (λ (c : Course). tool_call plan now.server journal now.tool c Ren) (sym course) ∙ call)) asks)
   ren_turn same asks (Migrating work) course at = ren_asked same entry.answer work course at (λ off. absurd (ren_none work course (at.going off) asks))
 
   asked_so : (actor : Actor) → entry.actor ≡ actor → given plan journal actor ≡ Some entry.asked → (entry.asked ≡ Cut → ⊥) → ((word : OperatorWord) → entry.asked ≡ Command word → ⊥) → CourseTables plan before has now.tool.course

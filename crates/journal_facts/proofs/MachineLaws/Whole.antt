@@ -3,6 +3,7 @@ use Rattle.std.proofs.Common.{◌≡◌, ◌⊎◌, ℕ, Bool, true, false, not,
 use Rattle.std.specs.List.{slice_get}
 use Rattle.std.specs.Option.{option_map}
 use Rattle.std.proofs.lemmas.Bool.{true≢false}
+use Rattle.std.proofs.lemmas.Option.{same_Some}
 use Rattle.gho_values.specs.declared.span.Bound.{Bound}
 use Rattle.gho_values.specs.declared.span.Bound.TheVariants.{Open, Closed, Free}
 use Rattle.gho_values.specs.Spans.{EndOfKinds, SpanOfKinds}
@@ -262,11 +263,9 @@ given_polled plan journal actor runs faithful follows gives =
 
 polled_lost : (plan : PlanData) (journal : List Entry) (n : ℕ) (side : Side) → (live : Option ℕ) → live ≡ Some n → (m : ℕ) × (live ≡ Some m) × MayPoll (state_at plan journal) m → MayLose (state_at plan journal) n (Some side) Poll
 polled_lost plan journal n side live is found =
-    let same : found.0 ≡ n = some_number found.0 n (sym found.1 ∙ is) in
+    let same : found.0 ≡ n = same_Some found.0 n (sym found.1 ∙ is) in
     let may : MayPoll (state_at plan journal) n = subst (MayPoll (state_at plan journal)) same found.2 in
-    record { live = may.live; well = may } where
-      some_number : (a b : ℕ) → Some a ≡ Some b → a ≡ b
-      some_number a b both = cc
+    record { live = may.live; well = may }
 
 -- *Losses may be*
 pub losses : LossesMayBe

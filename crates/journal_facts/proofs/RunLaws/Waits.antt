@@ -3,6 +3,7 @@ use Rattle.std.proofs.Common.{◌≡◌, ℕ, ◌==◌, Bool, true, false, not, 
 use Rattle.std.specs.List.{list_any}
 use Rattle.std.specs.Option.{option_map}
 use Rattle.std.proofs.lemmas.Bool.{true≢false, false≢true}
+use Rattle.std.proofs.lemmas.Option.{none-some}
 use Rattle.script_text.specs.declared.actor.Side.{Side}
 use Rattle.script_text.specs.declared.actor.Side.TheVariants.{Before, After}
 use Rattle.plain_server.specs.declared.entry.Asked.{Asked}
@@ -63,9 +64,6 @@ opens_command state entry is = rw is refl
 command_still : (state : State) (entry : Entry) → is_command entry.asked ≡ true → is_lost entry.side entry.asked ≡ false → after_entry state entry ≡ state
 command_still state entry is unlost = after_command entry.side entry.asked (opens entry state) entry.session is unlost ∙ opens_command state entry is
 
-some_none : {A : Type 0} (x : A) → None ≡ Some x → ⊥
-some_none x e = cc
-
 module _ (journal : List Entry) (state : State) (entry : Entry) (living : Living journal state) (known : SessionsKnown journal) (at : Placed journal entry) (answered : IsAnswered state entry) (waits : NoneWaits state) where
   left_rec : Leaves (is_lost entry.side entry.asked) entry.session (opens entry state) (after_entry state entry)
   left_rec = turn_leaves entry.side (opens entry state) entry.session entry.asked
@@ -75,7 +73,7 @@ module _ (journal : List Entry) (state : State) (entry : Entry) (living : Living
       let still : after_entry state entry ≡ state = command_still state entry is unlost in
       subst (λ (s : State). is_waiting s entry.session ≡ false) (sym still) (waits entry.session (subst (λ (s : State). kind_of entry.session s.sessions ≡ None) still none))
   kept_waits false call unlost none =
-      absurd (some_none (not (is_client entry.actor))
+      absurd (none-some (not (is_client entry.actor))
       (sym none ∙ left_rec.own ∙ ap (λ (b : Bool). kind_left b (kind_of entry.session (opens entry state).sessions)) unlost ∙ own_kind journal state entry living known at answered call))
 
   own_by : (b : Bool) → is_lost entry.side entry.asked ≡ b → kind_of entry.session (after_entry state entry).sessions ≡ None → is_waiting (after_entry state entry) entry.session ≡ false

@@ -1,5 +1,6 @@
 -- *The tool knows whether the RENAME waits*, and with it the statement over journals that follow the program.
 use Rattle.std.proofs.Common.{◌≡◌, ℕ, ◌+◌, Bool, true, false, cond, List, [], ◌∷◌, ◌++◌, Option, Some, None, refl, sym, ap, ◌∙◌, subst}
+use Rattle.std.proofs.lemmas.Bool.{both_ways}
 use Rattle.script_text.specs.declared.actor.Actor.{Actor}
 use Rattle.script_text.specs.declared.actor.Actor.TheVariants.{Op, Insp, Copy, Apply, Lock, Ren, Client}
 use Rattle.script_text.specs.declared.operator.OperatorWord.{OperatorWord}
@@ -40,11 +41,7 @@ stops w (SettingUp setup tries) at = at
 stops w (Migrating work) at = at
 
 setup_course : (plan : PlanData) (w : Bool) (size : ℕ) (setup : Setup) (tries : List ℕ) → w ≡ false → AgreesIn w (course_of plan size setup tries)
-setup_course plan w size (Ready position range) tries no_wait = λ is. absurd (by w no_wait is)
-  where
-    by : (w : Bool) → w ≡ false → w ≡ true → ⊥
-    by true e f = cc
-    by false e f = cc
+setup_course plan w size (Ready position range) tries no_wait = λ is. absurd (both_ways w no_wait is)
 setup_course plan w size Listing tries no_wait = no_wait
 setup_course plan w size (Clearing left) tries no_wait = no_wait
 setup_course plan w size MakingLog tries no_wait = no_wait
@@ -128,11 +125,7 @@ ren_answers plan w answer (SettingUp setup tries) tool is late says = absurd (la
 
 nothing_asks : (w : Bool) (course : Course) → w ≡ false → AgreesIn w course
 nothing_asks w (SettingUp setup tries) is = is
-nothing_asks w (Migrating work) is = λ so. absurd (by w is so)
-  where
-    by : (w : Bool) → w ≡ false → w ≡ true → ⊥
-    by true e f = cc
-    by false e f = cc
+nothing_asks w (Migrating work) is = λ so. absurd (both_ways w is so)
 
 is_ren : (actor : Actor) → same_actor actor Ren ≡ true → actor ≡ Ren
 is_ren Ren e = refl
@@ -142,10 +135,6 @@ is_ren Copy e = absurd cc
 is_ren Apply e = absurd cc
 is_ren Lock e = absurd cc
 is_ren (Client client) e = absurd cc
-
-both_false : (w : Bool) → w ≡ false → w ≡ true → ⊥
-both_false true e f = cc
-both_false false e f = cc
 
 -- while the setup goes on the renamer is asked nothing
 late : (plan : PlanData) (journal : List Entry) (setup : Setup) (tries : List ℕ) (asked : Asked) → (moment plan journal).tool.course ≡ SettingUp setup tries → renamer_at plan journal ≡ false → is_cut asked ≡ false → given plan journal Ren ≡ Some asked → ⊥
@@ -159,7 +148,7 @@ late plan journal setup tries (Call request) is quiet cut e =
     none : None ≡ Some request → ⊥
     none e = cc
 late plan journal setup tries Poll is quiet cut e =
-    both_false (renamer_at plan journal) quiet (asks_poll (waits (moment plan journal).server (live_session journal Ren)) (tool_call plan (moment plan journal).server journal (moment plan journal).tool (moment plan journal).tool.course Ren) e)
+    both_ways (renamer_at plan journal) quiet (asks_poll (waits (moment plan journal).server (live_session journal Ren)) (tool_call plan (moment plan journal).server journal (moment plan journal).tool (moment plan journal).tool.course Ren) e)
 late plan journal setup tries Cut is quiet cut e = absurd cc
 late plan journal setup tries (Command word) is quiet cut e = never (waits (moment plan journal).server (live_session journal Ren)) (tool_call plan (moment plan journal).server journal (moment plan journal).tool (moment plan journal).tool.course Ren) e
   where

@@ -1,5 +1,6 @@
 -- *What the program has the locker and the renamer ask*, and what the server's laws then give for the sentry relation.
 use Rattle.std.proofs.Common.{◌≡◌, ◌≢◌, ℕ, Bool, true, false, not, ◌&&◌, cond, List, [], ◌∷◌, Option, Some, None, refl, sym, ap, ◌∙◌, subst}
+use Rattle.std.proofs.lemmas.Option.{same_Some}
 use Rattle.std.proofs.lemmas.Slice.Eq.{bytes_eq-Decides}
 use Rattle.script_text.specs.declared.actor.Actor.TheVariants.{Lock, Ren}
 use Rattle.plain_server.specs.declared.answer.Answer.TheVariants as answers
@@ -31,9 +32,6 @@ use Rattle.migration_program.specs.Tools.{Work, Moment, moment}
 use Rattle.migration_program.specs.Tools.Course.{Migrating}
 use Rattle.migration_program.specs.Programs.{given, tool_call, lock_call, may_begin, calls, waits}
 
-some_is : (a b : Request) → Some a ≡ Some b → b ≡ a
-some_is a b e = cc
-
 -- THE LOCKER'S CALLS
 
 locker_calls : (cutover : CutOver) (phase : Phase) (request : Request) → locker_call cutover phase ≡ Some request → LockerCalls cutover.table phase cutover.hold request
@@ -41,14 +39,14 @@ locker_calls cutover Resting request e = by cutover.is_stopped e
   where
     by : (b : Bool) → cond b None (Some (requests.Create (sentry_schema cutover.table))) ≡ Some request → request ≡ requests.Create (sentry_schema cutover.table)
     by true e = absurd cc
-    by false e = some_is (requests.Create (sentry_schema cutover.table)) request e
-locker_calls cutover (Attempting Locking) request e = some_is (requests.LockTables (cutover.table ∷ old_name cutover.table ∷ [])) request e
-locker_calls cutover (Attempting Dropping) request e = some_is (requests.Drop (old_name cutover.table)) request e
-locker_calls cutover (Attempting Unlocking) request e = some_is requests.Unlock request e
+    by false e = sym (same_Some (requests.Create (sentry_schema cutover.table)) request e)
+locker_calls cutover (Attempting Locking) request e = sym (same_Some (requests.LockTables (cutover.table ∷ old_name cutover.table ∷ [])) request e)
+locker_calls cutover (Attempting Dropping) request e = sym (same_Some (requests.Drop (old_name cutover.table)) request e)
+locker_calls cutover (Attempting Unlocking) request e = sym (same_Some requests.Unlock request e)
 locker_calls cutover (Ending clearing) request e = by cutover.hold e
   where
     by : (hold : Hold) → unlocks hold ≡ Some request → (hold ≡ Locks) × (request ≡ requests.Unlock)
-    by Locks e = (refl, some_is requests.Unlock request e)
+    by Locks e = (refl, sym (same_Some requests.Unlock request e))
     by Nothing e = absurd cc
     by WaitsToGuard e = absurd cc
     by WaitsToLock e = absurd cc

@@ -1,8 +1,9 @@
 -- The applier's turns: what it knows of the hint row, and that nothing opens a batch once all is applied.
-use Rattle.std.proofs.Common.{◌≡◌, ℕ, ◌+◌, ◌-◌, ◌≤◌, Bool, true, false, nat_eq, ◌||◌, cond, List, [], ◌∷◌, ◌++◌, length, take, drop, filter, refl, sym, ap, ◌∙◌, subst, arith, inl, inr}
+use Rattle.std.proofs.Common.{◌≡◌, ℕ, ◌-◌, ◌≤◌, Bool, true, false, nat_eq, ◌||◌, cond, List, [], ◌∷◌, ◌++◌, length, take, drop, filter, refl, sym, ap, ◌∙◌, subst, arith, inl, inr}
 use Rattle.std.specs.Prelude.{◌⊎◌}
 use Rattle.std.proofs.lemmas.List.{take-append-le, drop-drop, length-append}
 use Rattle.std.proofs.lemmas.List.Sums.{fold-append}
+use Rattle.std.proofs.Math.Nat.{add-sub_of_le}
 use Rattle.std.specs.Str.{bytes_eq}
 use Rattle.event_codec.specs.declared.event.RowEvent.{RowEvent}
 use Rattle.plain_server.specs.declared.answer.Answer.TheVariants as answers
@@ -106,13 +107,10 @@ reads_nothing t log copier applier turn next events is_t step none forward withi
     let planned_none : length (planned applier events) ≡ 0 = plans_nothing applier events (subst (λ name. events_of name events ≡ []) (sym is_t) none) in
     subst (IsDrained t log copier) (sym is) (rw planned_none (record {
       copied = drained.copied;
-      applied = ap (events_of t) (ap (λ count. drop count log) (gap applier.position next forward) ∙ sym (drop-drop (next - applier.position) applier.position log)) ∙ none_behind t (next - applier.position) (drop applier.position log) drained.applied;
+      applied = ap (events_of t) (ap (λ count. drop count log) (sym (add-sub_of_le forward)) ∙ sym (drop-drop (next - applier.position) applier.position log)) ∙ none_behind t (next - applier.position) (drop applier.position log) drained.applied;
       within = within;
       idle = refl;
     }))
-  where
-    gap : (a b : ℕ) → a ≤ b → b ≡ a + (b - a)
-    gap a b le = omega arith
 
 -- the hint changes only where the position moves: then no batch is open
 after_hint : (turn : ℕ) (applier : Applier) (step : ApplyStep) (answer : Answer) → ((after_answer turn applier step answer).hint ≡ applier.hint) ⊎ (starts (after_answer turn applier step answer) ≡ true)

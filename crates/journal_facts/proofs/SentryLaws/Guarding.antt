@@ -1,7 +1,7 @@
 -- The sentry relation through the steps of an attempt.
 use Rattle.std.proofs.Common.{◌≡◌, ◌≢◌, ℕ, zero, suc, ◌+◌, ◌≤◌, Bool, true, false, cond, List, [], ◌∷◌, ◌++◌, length, take, drop, None, refl, sym, ap, ◌∙◌, subst, arith, inl, inr}
 use Rattle.std.specs.Prelude.{◌⊎◌}
-use Rattle.std.proofs.lemmas.Bool.{false_from_ne_true, false≢true}
+use Rattle.std.proofs.lemmas.Bool.{cases_eq, false_from_ne_true, false≢true}
 use Rattle.std.proofs.lemmas.List.{append_assoc, drop-append-le, take-append-le, length-append}
 use Rattle.std.proofs.lemmas.List.Elements.{filter-append}
 use Rattle.std.specs.Str.{bytes_eq}
@@ -11,7 +11,7 @@ use Rattle.std.proofs.Math.Seq.{drop-append-add}
 use Rattle.row_store.specs.Databases.{has_table as has_table_name}
 use Rattle.metadata_locks.specs.Granting.{HeldName, holds, refuser_of_name}
 use Rattle.journal_facts.specs.SentryLaws.Sentries.{Scene, HasSentry, IsAlone, IsLocked, IsHinted, IsDrained, RenameWaits, MayExchange, BehindLock, BehindHint, BehindDrain, BehindRename, BehindDrop, BehindUnlock, BehindFailure, WhereItWaits, HoldsLock, AtEnd, Guards, OthersHold, OthersTurn, DropsSentry, FreesLock, OnlyFreesLock, KnowsHint, MayAnswer}
-use Rattle.journal_facts.proofs.SentryLaws.Holding.{refused_shared, waits_behind, one_or_two}
+use Rattle.journal_facts.proofs.SentryLaws.Holding.{refused_shared, waits_behind}
 use Rattle.gho_values.specs.ToolNames.{log_name, old_name}
 use Rattle.changelog_table.specs.Hints.{hint_row, last_hint}
 use Rattle.migration_program.specs.declared.chunk_copier.copier.Copier.{Copier}
@@ -28,7 +28,7 @@ use Rattle.migration_program.specs.declared.cutover_core.cutover.Hold.TheVariant
 
 -- a turn in which the session doesn't come to hold the table
 pub still_alone : (t : List ℕ) (r s l : ℕ) (before after : Scene) (turn : OthersTurn t r s before after) → l ≢ s → (refuser_of_name before.held before.waiting s t false ≡ None → ⊥) → IsAlone t before.held l → IsAlone t after.held l
-still_alone t r s l before after turn apart refused alone other differs = by (one_or_two other s)
+still_alone t r s l before after turn apart refused alone other differs = by (cases_eq other s)
   where
     lacked : holds before.held s t false ≡ false
     lacked = alone s (λ same. apart (sym same))
@@ -238,7 +238,7 @@ pub rename_is_gone : (t : List ℕ) (l r : ℕ) (before after : Scene) (copier :
 rename_is_gone t l r before after copier applier hold waits apart at others gone = record { lock = locked hold at.lock; rename = tt }
   where
     alone : IsAlone t before.held l → IsAlone t after.held l
-    alone was other differs = by (one_or_two other r)
+    alone was other differs = by (cases_eq other r)
       where
         by : (other ≡ r) ⊎ (other ≢ r) → holds after.held other t false ≡ false
         by (inl is) = ap (λ session. holds after.held session t false) is ∙ gone

@@ -1,8 +1,6 @@
 -- Who holds a name, as the steps of an attempt change it.
-use Rattle.std.proofs.Common.{◌≡◌, ◌≢◌, ℕ, Bool, true, false, not, nat_eq, ◌&&◌, ◌||◌, cond, List, [], ◌∷◌, Option, Some, None, refl, sym, ◌∙◌, arith, inl, inr}
-use Rattle.std.specs.Prelude.{◌⊎◌}
-use Rattle.std.proofs.lemmas.Bool.{and_parts, false_from_ne_true, false≢true, or_left, or_right}
-use Rattle.std.proofs.lemmas.Bool.Decides.{nat_tests}
+use Rattle.std.proofs.Common.{◌≡◌, ◌≢◌, ℕ, Bool, true, false, not, nat_eq, ◌&&◌, ◌||◌, cond, List, [], ◌∷◌, Option, Some, None, refl, sym, ◌∙◌}
+use Rattle.std.proofs.lemmas.Bool.{and_parts, false_from_ne_true, false≢true, or_left, or_right, eqb-true, ne_eqb}
 use Rattle.std.specs.Cmp.Lexicographic.{pointwise}
 use Rattle.std.specs.List.{list_any}
 use Rattle.metadata_locks.specs.Granting.{HeldName, has_name, is_on, holds, holding_session, waiting_session, least_holder, least_waiter, refuser_of_name, refuser_of_names, ahead_of}
@@ -19,12 +17,6 @@ refuses true on s e f g = absurd cc
 refuses false true s e f g = cc
 refuses false false s e f g = absurd cc
 
-pub are_one : (m n : ℕ) → nat_eq m n ≡ true → m ≡ n
-are_one m n e = grind (arith, nat_tests)
-
-pub are_two : (m n : ℕ) → m ≢ n → nat_eq m n ≡ false
-are_two m n other = grind (arith, nat_tests)
-
 either_true : (a b : Bool) → (a || b) ≡ true → (a ≡ false → b ≡ true)
 either_true true b e f = absurd cc
 either_true false b e f = e
@@ -32,8 +24,8 @@ either_true false b e f = e
 one_other : (other : HeldName) (s l : ℕ) (t : List ℕ) (x : Bool) → s ≢ l → (nat_eq other.session s && is_on other t x) ≡ true → holding_session l t x other ≡ None → ⊥
 one_other other s l t x apart h e =
     let parts : (nat_eq other.session s ≡ true) × (is_on other t x ≡ true) = and_parts (nat_eq other.session s) (is_on other t x) h in
-    let same : other.session ≡ s = are_one other.session s parts.0 in
-    refuses (nat_eq other.session l) (is_on other t x) other.session (are_two other.session l (λ same_l. apart (sym same ∙ same_l))) parts.1 e
+    let same : other.session ≡ s = eqb-true other.session s parts.0 in
+    refuses (nat_eq other.session l) (is_on other t x) other.session (ne_eqb other.session l (λ same_l. apart (sym same ∙ same_l))) parts.1 e
 
 -- where a session holds a name, another one isn't alone with it
 pub not_alone : (held : List HeldName) (s l : ℕ) (t : List ℕ) (x : Bool) → s ≢ l → holds held s t x ≡ true → least_holder held l t x ≡ None → ⊥
@@ -97,7 +89,7 @@ waiter_refuses (other ∷ waiting) r s t apart h e =
     by : (b : Bool) → (nat_eq other.session r && has_name other.names t) ≡ b → (list_any (λ waiter. nat_eq waiter.session r && has_name waiter.names t) waiting ≡ true → ⊥) → ⊥
     by true is again =
         let parts : (nat_eq other.session r ≡ true) × (has_name other.names t ≡ true) = and_parts (nat_eq other.session r) (has_name other.names t) is in
-        refuses (nat_eq other.session s) (has_name other.names t) other.session (are_two other.session s (λ same. apart (sym (are_one other.session r parts.0) ∙ same))) parts.1
+        refuses (nat_eq other.session s) (has_name other.names t) other.session (ne_eqb other.session s (λ same. apart (sym (eqb-true other.session r parts.0) ∙ same))) parts.1
         ((none_of (waiting_session s t other) (least_waiter waiting s t) e).0)
     by false is again = again (either_true (nat_eq other.session r && has_name other.names t) (list_any (λ waiter. nat_eq waiter.session r && has_name waiter.names t) waiting) h is)
 
@@ -107,13 +99,3 @@ waits_behind held waiting s r t other lacks waits e =
     let second : cond (holds held s t false) None (least_waiter waiting s t) ≡ None = (none_of (least_holder held s t true) (cond (holds held s t false) None (least_waiter waiting s t)) e).1 in
     let bare : least_waiter waiting s t ≡ None = rw lacks at second in
     waiter_refuses waiting r s t other waits bare
-
-pub one_or_two : (m n : ℕ) → (m ≡ n) ⊎ (m ≢ n)
-one_or_two m n = by (nat_eq m n) refl
-  where
-    by : (b : Bool) → nat_eq m n ≡ b → (m ≡ n) ⊎ (m ≢ n)
-    by true is = inl (are_one m n is)
-    by false is = inr (λ same. false≢true (sym is ∙ eq_true m n same))
-      where
-        eq_true : (m n : ℕ) → m ≡ n → nat_eq m n ≡ true
-        eq_true m n same = grind (arith, nat_tests)

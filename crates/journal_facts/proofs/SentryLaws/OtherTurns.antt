@@ -1,7 +1,7 @@
 -- The sentry relation through the turns of the inspector, the applier and the renamer, and through a revert.
-use Rattle.std.proofs.Common.{◌≡◌, ◌≢◌, ℕ, ◌+◌, nat_eq, nat_le, Bool, true, false, cond, List, refl, inl, inr, arith}
+use Rattle.std.proofs.Common.{◌≡◌, ◌≢◌, ℕ, ◌+◌, nat_eq, nat_le, Bool, true, false, cond, List, refl, inl, inr}
 use Rattle.std.specs.Prelude.{◌⊎◌}
-use Rattle.std.proofs.lemmas.Bool.Decides.{nat_tests}
+use Rattle.std.proofs.lemmas.Bool.{eqb-true}
 use Rattle.plain_server.specs.declared.answer.Answer.TheVariants as answers
 use Rattle.metadata_locks.specs.Granting.{holds}
 use Rattle.journal_facts.specs.SentryLaws.Sentries.{WritesHint, InspectorServes, HasTurned, Scene, IsDrained, KnowsHint, BehindHint, BehindDrain, BehindRename, BehindFailure, WhereItWaits, HoldsLock, AtEnd, Guards, OthersTurn, OthersHold, BehindUnlock, Fits, MayAnswer, Rests, IsLocked}
@@ -81,15 +81,12 @@ next_both t l r scene copier later applier next cutover goes Finished at = tt
 next_applier : (t : List ℕ) (l r : ℕ) (scene : Scene) (copier : Copier) (applier next : Applier) (cutover : CutOver) → (IsDrained t scene.log copier applier → IsDrained t scene.log copier next) → (phase : Phase) → Guards t scene copier applier cutover l r phase → Guards t scene copier next cutover l r phase
 next_applier t l r scene copier applier next cutover goes phase at = next_both t l r scene copier copier applier next cutover goes phase at
 
-are_one : (m n : ℕ) → nat_eq m n ≡ true → m ≡ n
-are_one m n e = grind (arith, nat_tests)
-
 drained_or_not : (t : List ℕ) (l r : ℕ) (scene : Scene) (copier : Copier) (applier next : Applier) (cutover : CutOver) (turns : ℕ) → HasTurned t scene copier applier next cutover.attempts (Attempting (Draining turns)) → copier.is_copied ≡ true → Fits (Attempting (Draining turns)) cutover.hold cutover.renamer_waits
     → BehindHint t scene cutover.attempts l → Guards t scene copier next cutover l r (drained cutover next.hint (Attempting (Draining turns)))
 drained_or_not t l r scene copier applier next cutover turns turned copied fits at = by (nat_eq next.hint cutover.attempts) refl (nat_le cutover.drain_limit (turns + 1))
   where
     by : (b : Bool) → nat_eq next.hint cutover.attempts ≡ b → (c : Bool) → Guards t scene copier next cutover l r (cond b (Attempting Drained) (cond c (Ending Looking) (Attempting (Draining (turns + 1)))))
-    by true is c = let same : next.hint ≡ cutover.attempts = are_one next.hint cutover.attempts is in drains t cutover.attempts l scene copier next at turned.knows same copied turned.within (turned.idle tt same)
+    by true is c = let same : next.hint ≡ cutover.attempts = eqb-true next.hint cutover.attempts is in drains t cutover.attempts l scene copier next at turned.knows same copied turned.within (turned.idle tt same)
     by false is true = ends_guarded t l r scene copier next cutover (Draining turns) fits at
     by false is false = at
 

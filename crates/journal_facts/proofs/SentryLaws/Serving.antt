@@ -1,7 +1,7 @@
 -- *The premises of the sentry relation from what the server gives.*
-use Rattle.std.proofs.Common.{◌≡◌, ◌≢◌, ℕ, nat_eq, Bool, true, false, not, ◌||◌, cond, List, [], ◌∷◌, refl, sym, ap, ◌∙◌, inl, inr}
+use Rattle.std.proofs.Common.{◌≡◌, ◌≢◌, ℕ, nat_eq, Bool, true, false, not, cond, List, [], ◌∷◌, refl, sym, ap, ◌∙◌, inl, inr}
 use Rattle.std.specs.Prelude.{◌⊎◌, Ok, Err}
-use Rattle.std.proofs.lemmas.Bool.{false_from_ne_true, false≢true}
+use Rattle.std.proofs.lemmas.Bool.{false_from_ne_true, false≢true, ne_eqb, or_right}
 use Rattle.std.proofs.lemmas.Slice.Eq.{bytes_eq-Decides}
 use Rattle.std.specs.List.{AllByRecursion, list_any}
 use Rattle.std.specs.Str.{bytes_eq}
@@ -14,7 +14,6 @@ use Rattle.journal_facts.specs.SentryLaws.Sentries.{scene, OthersHold, OthersTur
 use Rattle.journal_facts.specs.SentryLaws.Turning.{IsRenamed}
 use Rattle.journal_facts.specs.ServerLaws.Others.{TurnOf, IsGrantedName, MayWrite, IsAlone, held_at}
 use Rattle.journal_facts.specs.SentryLaws.Turns.{LocksAreTaken, LogsNothing, Defines}
-use Rattle.journal_facts.proofs.SentryLaws.Holding.{are_two}
 use Rattle.plain_server.specs.States.{State, names_in, waiters}
 use Rattle.plan_words.specs.PlanData.{PlanData}
 use Rattle.gho_values.specs.ToolNames.{old_name, ghost_name}
@@ -35,10 +34,10 @@ none_written t s before (event ∷ events) lacks refused written = by (bytes_eq 
     by false is more = more
 
 others : (t : List ℕ) (s : ℕ) {takes : Bool} (before after : State) → TurnOf takes s before after → OthersHold t s (held_at before) (held_at after)
-others t s before after turn other name x apart = turn.others other name x (are_two other s apart)
+others t s before after turn other name x apart = turn.others other name x (ne_eqb other s apart)
 
 pub waits_on : (t : List ℕ) (r s : ℕ) {takes : Bool} (before after : State) → TurnOf takes s before after → r ≢ s → RenameWaits t (scene before) r → RenameWaits t (scene after) r
-waits_on t r s before after turn apart waits = turn.waits r t (are_two r s apart) ∙ waits
+waits_on t r s before after turn apart waits = turn.waits r t (ne_eqb r s apart) ∙ waits
 
 -- *Another session's turn*: a client's, the copier's, the applier's, the inspector's
 pub others_turn : (t : List ℕ) (r s : ℕ) (before after : State) → r ≢ s → TurnOf false s before after → OthersTurn t r s (scene before) (scene after)
@@ -76,12 +75,8 @@ pub takes_lock : (t : List ℕ) (l : ℕ) (before after : State) → LocksAreTak
 takes_lock t l before after taken alone stays =
     record {
       tables = stays (old_name t);
-      locked = record { own = taken t (name_in t (old_name t ∷ [])); old = taken (old_name t) (second (bytes_eq (old_name t) t) (name_in (old_name t) [])); alone = λ other apart. alone other (are_two other l apart) };
+      locked = record { own = taken t (name_in t (old_name t ∷ [])); old = taken (old_name t) (or_right (bytes_eq (old_name t) t) _ (name_in (old_name t) [])); alone = λ other apart. alone other (ne_eqb other l apart) };
     }
-  where
-    second : (a : Bool) {b : Bool} → b ≡ true → (a || b) ≡ true
-    second true e = refl
-    second false e = e
 
 -- *The sentry's DROP, done*: what DROP leaves has no table of the name
 gone : (name : List ℕ) (tables : Database) → has_table name (without_table name tables) ≡ false
@@ -116,5 +111,5 @@ pub is_renamed : (plan : PlanData) (r : ℕ) (before after : State) → rename_t
 is_renamed plan r before after renamed alone =
     record {
       free = exchange_free plan.table (record { old = ghost_name plan.table; new = plan.table } ∷ []) (record { old = plan.table; new = old_name plan.table }) before.tables after.tables renamed;
-      alone = λ other apart. alone.alone other plan.table (are_two other r apart) (exchange_names plan.table);
+      alone = λ other apart. alone.alone other plan.table (ne_eqb other r apart) (exchange_names plan.table);
     }

@@ -3,12 +3,10 @@ use Rattle.std.proofs.Common.{◌≡◌, ◌≢◌, ◌≤◌, ◌<◌, ℕ, max
 use Rattle.std.proofs.lemmas.Bool.{false≢true}
 use Rattle.std.proofs.lemmas.List.Sums.{fold-append}
 use Rattle.script_text.specs.declared.actor.Actor.{Actor}
-use Rattle.script_text.specs.declared.actor.Actor.TheVariants.{Op, Insp, Copy, Apply, Lock, Ren, Client}
 use Rattle.plain_server.specs.Along.{Along, Along-keeps}
 use Rattle.plain_server.specs.declared.answer.Answer.TheVariants as answers
 use Rattle.journal_facts.proofs.Actors.{live_more, same_actor_is, same_actor_itself}
 use Rattle.journal_facts.specs.SentryLaws.Turning.{last_session, session_next, session_after, IsNumbered}
-use Rattle.journal_facts.proofs.SentryLaws.Holding.{are_one}
 use Rattle.journal_facts.proofs.SentryLaws.Inductions.{last_more}
 use Rattle.plain_server.specs.declared.answer.Answer.{Answer}
 use Rattle.plain_server.specs.declared.entry.Entry.{Entry}

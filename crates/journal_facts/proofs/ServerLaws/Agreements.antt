@@ -1,8 +1,9 @@
 -- What a session sees under its locks stays while others have their turns.
-use Rattle.std.proofs.Common.{◌≡◌, ℕ, Bool, true, false, not, ◌||◌, List, [], ◌∷◌, ◌++◌, map, Option, Some, None, Result, Ok, Err, refl, sym, ap, ◌∙◌, subst, inl, inr}
+use Rattle.std.proofs.Common.{◌≡◌, ℕ, Bool, true, false, not, List, [], ◌∷◌, ◌++◌, map, Option, Some, None, Result, Ok, Err, refl, sym, ap, ◌∙◌, subst, inl, inr}
 use Rattle.std.specs.Prelude.{◌==◌}
 use Rattle.std.specs.List.{list_any}
 use Rattle.std.specs.Str.{bytes_eq}
+use Rattle.std.proofs.lemmas.Bool.{or_right}
 use Rattle.event_codec.specs.declared.event.RowEvent.{RowEvent}
 use Rattle.gho_values.specs.declared.gho_schema.schema.Schema.{Schema}
 use Rattle.gho_values.specs.GhoSchema.Rows.{key_places}
@@ -192,10 +193,7 @@ under_one : (schema : Schema) (lock : Lock) (locks : List Lock) (row : _) → Am
 unfolding is_under
 under_one schema lock [] row among is = absurd among
 under_one schema lock (first ∷ locks) row (inl same) is = rw (subst (λ (l : Lock). covers schema row l ≡ true) same is) refl
-under_one schema lock (first ∷ locks) row (inr more) is = at (covers schema row first) (under_one schema lock locks row more is) where
-  at : (b : Bool) {rest : Bool} → rest ≡ true → (b || rest) ≡ true
-  at true is = refl
-  at false is = is
+under_one schema lock (first ∷ locks) row (inr more) is = or_right (covers schema row first) _ (under_one schema lock locks row more is)
 
 -- *Rows under a lock stay*
 pub rows_stay : RowsStay

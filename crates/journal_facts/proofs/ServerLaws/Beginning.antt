@@ -2,6 +2,7 @@
 use Rattle.std.proofs.Common.{◌≡◌, ℕ, Bool, true, false, not, List, [], ◌∷◌, ◌++◌, Option, Some, None, refl, sym, ap, ◌∙◌, subst, inl}
 use Rattle.std.specs.List.{list_any}
 use Rattle.std.specs.Str.{bytes_eq}
+use Rattle.std.proofs.lemmas.Option.{same_Some}
 use Rattle.gho_values.specs.declared.value.Value.{Value}
 use Rattle.gho_values.specs.declared.span.Span.{Span}
 use Rattle.gho_values.specs.declared.gho_schema.schema.Schema.{Schema}
@@ -44,9 +45,7 @@ use Rattle.plain_server.proofs.StatementLaws.Points.{among-right}
 -- events leave a table's schema
 schema_if : (b : Bool) (change : Change) (found : Option TableRows) (table : TableRows) → found ≡ Some table → (later : TableRows) × (change_if b change found ≡ Some later) × (later.schema ≡ table.schema)
 schema_if true change None table is = absurd (cc)
-schema_if true change (Some t) table is = (change_table change t, refl, ap (λ (s : TableRows). s.schema) (the t table is)) where
-  the : (x y : TableRows) → Some x ≡ Some y → x ≡ y
-  the x y same = cc
+schema_if true change (Some t) table is = (change_table change t, refl, ap (λ (s : TableRows). s.schema) (same_Some t table is))
 schema_if false change found table is = (table, none change found ∙ is, refl) where
   none : (change : Change) (found : Option TableRows) → change_if false change found ≡ found
   none change None = refl

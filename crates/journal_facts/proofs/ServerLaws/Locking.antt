@@ -1,6 +1,7 @@
 -- LOCK TABLES that is done leaves its names with the session.
 use Rattle.std.proofs.Common.{◌≡◌, ℕ, Bool, true, false, not, ◌&&◌, ◌||◌, List, [], ◌∷◌, ◌++◌, map, cond, Option, Some, None, refl, sym, ap, ◌∙◌, subst}
 use Rattle.std.specs.Prelude.{◌==◌}
+use Rattle.std.proofs.Math.Bool.{or-true}
 use Rattle.std.proofs.lemmas.Bool.{false≢true}
 use Rattle.std.specs.List.{list_any}
 use Rattle.std.specs.Str.{bytes_eq}
@@ -27,7 +28,7 @@ use Rattle.plain_server.specs.Deeds.{all_stand, deed_unless, is_outside, locks_i
 use Rattle.plain_server.specs.Serving.{called_unless, calls, does, done, exclusive, is_over, leaves, locking, polled_of, polled_over, polled_unless, polls, serves, without_waiting}
 use Rattle.plain_server.specs.Locking.{need, blocker}
 use Rattle.migration_program.specs.JournalWords.Journals.{after_entry, opens}
-use Rattle.plain_server.proofs.StatementLaws.Tests.{same_bytes, are_same, or_true}
+use Rattle.plain_server.proofs.StatementLaws.Tests.{same_bytes, are_same}
 
 own_taken : (holder number : ℕ) (held : List HeldName) (names : List (List ℕ)) (name : List ℕ) → (holder == number) ≡ true → list_any (bytes_eq name) names ≡ true → holds (as_held holder (held ++ map exclusive names)) number name true ≡ true
 unfolding holds
@@ -35,8 +36,8 @@ own_taken holder number [] [] name own is = absurd (false≢true is)
 own_taken holder number [] (first ∷ names) name own is = at (bytes_eq name first) refl is (own_taken holder number [] names name own) where
   at : (b : Bool) → bytes_eq name first ≡ b → (b || list_any (bytes_eq name) names) ≡ true → (list_any (bytes_eq name) names ≡ true → holds (as_held holder (map exclusive names)) number name true ≡ true) → (((holder == number) && (bytes_eq first name && (true || false))) || holds (as_held holder (map exclusive names)) number name true) ≡ true
   at true same is rest = rw (own, ap (λ (n : List ℕ). bytes_eq first n) (are_same name first same) ∙ same_bytes first) refl
-  at false off is rest = rw (rest is) (or_true ((holder == number) && (bytes_eq first name && (true || false))))
-own_taken holder number (h ∷ held) names name own is = rw (own_taken holder number held names name own is) (or_true ((holder == number) && (bytes_eq h.name name && (h.exclusive || false))))
+  at false off is rest = rw (rest is) (or-true ((holder == number) && (bytes_eq first name && (true || false))))
+own_taken holder number (h ∷ held) names name own is = rw (own_taken holder number held names name own is) (or-true ((holder == number) && (bytes_eq h.name name && (h.exclusive || false))))
 
 taken : (number : ℕ) (names : List (List ℕ)) (sessions : List Session) (found : Session) (name : List ℕ) → session_of number sessions ≡ Some found → list_any (bytes_eq name) names ≡ true → holds (names_held (with_session number (locking names) sessions)) number name true ≡ true
 unfolding with_session
@@ -45,7 +46,7 @@ taken number names (first ∷ sessions) found name is among = at (first.number =
   at : (b : Bool) → (first.number == number) ≡ b → cond b (Some first) (session_of number sessions) ≡ Some found → (session_of number sessions ≡ Some found → holds (names_held (with_session number (locking names) sessions)) number name true ≡ true)
       → holds (names_held (cond b (locking names first ∷ sessions) (first ∷ with_session number (locking names) sessions))) number name true ≡ true
   at true here is rest = holds_parts (as_held first.number (first.names ++ map exclusive names)) (names_held sessions) number name true ∙ rw (own_taken first.number number first.names names name here among) refl
-  at false here is rest = holds_parts (as_held first.number first.names) (names_held (with_session number (locking names) sessions)) number name true ∙ rw (rest is) (or_true (holds (as_held first.number first.names) number name true))
+  at false here is rest = holds_parts (as_held first.number first.names) (names_held (with_session number (locking names) sessions)) number name true ∙ rw (rest is) (or-true (holds (as_held first.number first.names) number name true))
 
 abbrev pub Taken : State → ℕ → List (List ℕ) → Type 0
 Taken after number names = (name : List ℕ) → list_any (bytes_eq name) names ≡ true → holds (held_at after) number name true ≡ true

@@ -1,6 +1,7 @@
 -- What a turn of a session does to names that are held, to requests that wait, to the log and to the tables that stand.
 use Rattle.std.proofs.Common.{◌≡◌, ◌⊎◌, ℕ, ◌+◌, Bool, true, false, not, ◌&&◌, ◌||◌, List, [], ◌∷◌, ◌++◌, map, filter, cond, Option, Some, None, Result, Ok, Err, refl, sym, ap, ◌∙◌, subst, inl, inr, arith}
 use Rattle.std.specs.Prelude.{◌==◌}
+use Rattle.std.proofs.Math.Bool.{or-true}
 use Rattle.std.proofs.lemmas.Bool.{false≢true}
 use Rattle.std.proofs.lemmas.Bool.Decides.{nat_tests}
 use Rattle.std.proofs.lemmas.List.{append-nil}
@@ -53,7 +54,7 @@ use Rattle.plain_server.specs.declared.need.Need.{Need}
 use Rattle.plain_server.specs.Locking.{need, need_within, blocker}
 use Rattle.plain_server.specs.declared.session.Waiting.{Waiting}
 use Rattle.migration_program.specs.JournalWords.Journals.{after_entry, opens, opens_if}
-use Rattle.plain_server.proofs.StatementLaws.Tests.{same_number, same_bytes, are_same, turned_bytes, or_true, nor_left}
+use Rattle.plain_server.proofs.StatementLaws.Tests.{same_number, same_bytes, are_same, turned_bytes, nor_left}
 use Rattle.least_session.proofs.Sessions.{none_of}
 
 -- WHAT OTHERS HOLD
@@ -124,8 +125,8 @@ holds_from [] number name one is own same = absurd is
 holds_from (h ∷ held) number name one (inl eq) own same =
     let a : (h.session == number) ≡ true = ap (λ (x : grants.HeldName). x.session == number) (sym eq) ∙ own in
     let b : bytes_eq h.name name ≡ true = ap (λ (x : grants.HeldName). bytes_eq x.name name) (sym eq) ∙ same in
-    rw (a, b, or_true h.exclusive) refl
-holds_from (h ∷ held) number name one (inr more) own same = rw (holds_from held number name one more own same) (or_true ((h.session == number) && (bytes_eq h.name name && (h.exclusive || true))))
+    rw (a, b, or-true h.exclusive) refl
+holds_from (h ∷ held) number name one (inr more) own same = rw (holds_from held number name one more own same) (or-true ((h.session == number) && (bytes_eq h.name name && (h.exclusive || true))))
 
 name_granted : (held : List grants.HeldName) (waiters : List Waiter) (number : ℕ) (asked : Bool) (names : List (List ℕ)) (one : grants.HeldName) → refuser_of_names held waiters number asked names ≡ None → IsHeld one (as_held number (as_needed asked names)) → refuser_of_name held waiters number one.name asked ≡ None
 unfolding refuser_of_names
@@ -383,7 +384,7 @@ deed_does before w number false busy seen (BeginSpan table span size) own free =
   at (Some t) = does_grows false before w number (need_within seen (BeginSpan table span size)) [] free
 deed_does before w number false busy seen (CopyRow from into columns key) own free = at busy where
   one : IsGrantedName before number into false
-  one = name_in_granted (held_at before) (waiters_at before) number false (from ∷ into ∷ []) into free (rw (same_bytes into) (or_true (bytes_eq into from)))
+  one = name_in_granted (held_at before) (waiters_at before) number false (from ∷ into ∷ []) into free (rw (same_bytes into) (or-true (bytes_eq into from)))
 
   at : (b : Bool) → Does false before number (does (result_deed b (need_within seen (CopyRow from into columns key)) (job_says seen (copy_job seen from into columns key))) (at_wait before w) number).after
   at true = does_grows false before w number (need_within seen (CopyRow from into columns key)) (job_says seen (copy_job seen from into columns key)).events free

@@ -1,17 +1,13 @@
 -- The rows of a span of the clustered key: as the store finds them, and as locks see them.
-use Rattle.std.proofs.Common.{◌≡◌, ℕ, zero, suc, Bool, true, not, List, [], ◌∷◌, filter, cond, Option, Some, None, Ok, refl, sym, ap, ◌∙◌, subst, arith}
+use Rattle.std.proofs.Common.{◌≡◌, ℕ, Bool, true, List, [], ◌∷◌, filter, cond, Option, Some, None, refl, sym, ap, ◌∙◌, subst, arith}
 use Rattle.std.specs.Prelude.{◌<◌, length}
 use Rattle.std.specs.List.{AllByRecursion, slice_get}
 use Rattle.gho_values.specs.declared.value.Value.{Value}
-use Rattle.gho_values.specs.declared.value.Value.TheVariants.{Null, Num, Text, Blob}
 use Rattle.gho_values.specs.declared.span.Span.{Span}
 use Rattle.gho_values.specs.Spans.{has}
-use Rattle.gho_values.specs.Storing.{stores}
-use Rattle.gho_values.specs.Laws.{StoresNullWhereNullable}
 use Rattle.gho_values.specs.declared.gho_schema.schema.Schema.{Schema}
 use Rattle.gho_values.specs.declared.gho_schema.schema.Index.{Index}
-use Rattle.gho_values.specs.declared.gho_schema.schema.Column.{Column}
-use Rattle.gho_values.specs.GhoSchema.Clustering.{is_not_null, clustered_place, unique_at}
+use Rattle.gho_values.specs.GhoSchema.Clustering.{clustered_place, unique_at}
 use Rattle.gho_values.specs.GhoSchema.Rows.{key_of, key_places, places_of}
 use Rattle.gho_values.specs.GhoSchema.Tables.{IsRow, no_null}
 use Rattle.row_store.specs.Databases.{TableRows, rows_in}

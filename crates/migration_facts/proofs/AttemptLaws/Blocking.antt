@@ -2,7 +2,7 @@
 use Rattle.std.proofs.Common.{◌≡◌, ◌≢◌, ℕ, ◌==◌, Bool, true, false, cond, ◌&&◌, ◌||◌, List, [], ◌∷◌, Option, Some, None, refl, sym, ap, ◌∙◌, subst, arith}
 use Rattle.std.specs.List.{list_any}
 use Rattle.std.specs.Str.{bytes_eq}
-use Rattle.std.proofs.lemmas.Bool.{true≢false, false≢true, or_left, or_right}
+use Rattle.std.proofs.lemmas.Bool.{true≢false, false≢true, or_from, or_left, or_right}
 use Rattle.std.proofs.lemmas.Bool.Decides.{nat_tests}
 use Rattle.script_text.specs.declared.actor.Actor.{Actor}
 use Rattle.script_text.specs.declared.actor.Side.{Side}
@@ -88,21 +88,17 @@ pub unlocked_holds : (number : ℕ) (sessions : List Session) (name : List ℕ) 
 unfolding AreApart holds
 unlocked_holds number [] name apart none = refl
 unlocked_holds number (first ∷ sessions) name apart none = at (first.number == number) refl none (unlocked_holds number sessions name apart.1) where
-  both : (a b : Bool) → a ≡ false → b ≡ false → (a || b) ≡ false
-  both false b off none = none
-  both true b off none = absurd (true≢false off)
-
   same_number : (n m : ℕ) → (n == m) ≡ true → n ≡ m
   same_number n m is = grind (arith, nat_tests)
 
   at : (b : Bool) → (first.number == number) ≡ b → (face_in (cond b (Some first) (session_of number sessions))).locked ≡ [] → ((face_of sessions number).locked ≡ [] → holds (names_held sessions) number name true ≡ false) → holds (names_held (first ∷ sessions)) number name true ≡ false
   at true here none rest =
       holds_parts (as_held first.number first.names) (names_held sessions) number name true
-      ∙ both (holds (as_held first.number first.names) number name true) (holds (names_held sessions) number name true) (none_holds first.number number first.names name none)
+      ∙ or_from (holds (as_held first.number first.names) number name true) (holds (names_held sessions) number name true) (none_holds first.number number first.names name none)
       (rest (ap (λ (o : Option Session). (face_in o).locked) (ap (λ (n : ℕ). session_of n sessions) (sym (same_number first.number number here)) ∙ apart.0)))
   at false there none rest =
       holds_parts (as_held first.number first.names) (names_held sessions) number name true
-      ∙ both (holds (as_held first.number first.names) number name true) (holds (names_held sessions) number name true) (other_holds first.number number first.names name there) (rest none)
+      ∙ or_from (holds (as_held first.number first.names) number name true) (holds (names_held sessions) number name true) (other_holds first.number number first.names name there) (rest none)
 
 -- WHO WAITS
 

@@ -4,6 +4,7 @@ use Rattle.std.specs.Prelude.{fold, is_some}
 use Rattle.std.specs.List.{list_any}
 use Rattle.std.specs.Option.{option_map}
 use Rattle.std.specs.Str.{bytes_eq}
+use Rattle.std.proofs.Math.Bool.{or-false, or_assoc}
 use Rattle.std.proofs.lemmas.Bool.{true≢false, false≢true}
 use Rattle.std.proofs.lemmas.List.{take-append-drop}
 use Rattle.std.proofs.lemmas.List.Folds.{list_any-append}
@@ -55,15 +56,9 @@ inserted test names place new =
       by false false false = refl
 
 placed_any : (test : TableName → Bool) (rest names : List TableName) → list_any test (fold placed_name names rest) ≡ (list_any test names || list_any test rest)
-placed_any test [] names = by (list_any test names) where
-  by : (b : Bool) → b ≡ (b || false)
-  by true = refl
-  by false = refl
+placed_any test [] names = sym (or-false (list_any test names))
 placed_any test (first ∷ rest) names =
-    placed_any test rest (placed_name names first) ∙ ap (λ (b : Bool). b || list_any test rest) (inserted test names _ first) ∙ by (list_any test names) (test first) (list_any test rest) where
-      by : (a b c : Bool) → ((a || b) || c) ≡ (a || (b || c))
-      by true b c = refl
-      by false b c = refl
+    placed_any test rest (placed_name names first) ∙ ap (λ (b : Bool). b || list_any test rest) (inserted test names _ first) ∙ or_assoc (list_any test names) (test first) (list_any test rest)
 
 shown_any : (test : TableName → Bool) (tables : Database) → list_any test (tables_shown tables) ≡ list_any test (map shown_of tables)
 unfolding tables_shown

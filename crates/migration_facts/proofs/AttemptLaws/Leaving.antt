@@ -3,6 +3,7 @@ use Rattle.std.proofs.Common.{◌≡◌, ℕ, Bool, true, false, cond, not, ◌|
 use Rattle.std.specs.Prelude.{is_some}
 use Rattle.std.specs.Option.{option_map}
 use Rattle.std.proofs.lemmas.Bool.{true≢false}
+use Rattle.std.proofs.lemmas.Option.{same_Some}
 use Rattle.gho_values.specs.declared.gho_schema.schema.Schema.{Schema}
 use Rattle.row_store.specs.Databases.{TableRows, Database, find_table, has_table, is_named, with_name, rename_tables}
 use Rattle.script_text.specs.declared.actor.Side.{Side}
@@ -249,16 +250,13 @@ module _ (plan : PlanData) (journal : List Entry) (entry : Entry) (known : IsKno
     served_so : Has P (serves open_now entry.session entry.asked)
     served_so = served_left P request about undone each
 
-    same_answer : (one other : Answer) → Some one ≡ Some other → one ≡ other
-    same_answer one other same = cc
-
     heard_so : entry.side ≡ None → Some entry.answer ≡ Some told → P told after
-    heard_so at is = subst (λ (a : Answer). P a after) (own_given plan journal entry known served at ∙ same_answer entry.answer told is) (subst (P (serves open_now entry.session entry.asked).answer) (sym (behind None at)) served_so)
+    heard_so at is = subst (λ (a : Answer). P a after) (own_given plan journal entry known served at ∙ same_Some entry.answer told is) (subst (P (serves open_now entry.session entry.asked).answer) (sym (behind None at)) served_so)
 
     missed_so : entry.side ≡ Some After → entry.missed ≡ Some told → P told after
     missed_so at is =
         subst (λ (a : Answer). P a after)
-        (same_answer (serves open_now entry.session entry.asked).answer told
+        (same_Some (serves open_now entry.session entry.asked).answer told
         (sym (told_missed (state_at plan journal) entry served.answered ∙ ap (λ (side : Option Side). missed_at side (inner (state_at plan journal) entry)) at) ∙ is))
         (subst (P (serves open_now entry.session entry.asked).answer) (sym (behind (Some After) at)) served_so)
 

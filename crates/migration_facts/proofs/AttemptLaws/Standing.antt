@@ -4,6 +4,7 @@ use Rattle.std.proofs.Common.{◌≡◌, ◌⊎◌, ℕ, ◌+◌, Bool, true, fa
 use Rattle.std.specs.List.{list_any}
 use Rattle.std.specs.Str.{bytes_eq}
 use Rattle.std.proofs.lemmas.Bool.{true≢false, false≢true, or_left}
+use Rattle.std.proofs.lemmas.Option.{none-some}
 use Rattle.script_text.specs.declared.actor.Actor.{Actor}
 use Rattle.script_text.specs.declared.actor.Actor.TheVariants.{Op, Insp, Copy, Apply, Lock, Ren, Client}
 use Rattle.script_text.specs.declared.operator.OperatorWord.{OperatorWord}
@@ -541,9 +542,6 @@ module _ (plan : PlanData) (journal : List Entry) (entry : Entry) (is : IsStandi
   no_asking actor none no_call (calls_so request asks idle call) = no_call request call
   no_asking actor none no_call (polls_so request asks some) = none_some request (has actor).waits (ap (λ (s : Standing). s.waits) none) some
 
-  pub no_request : (request : Request) → None ≡ Some request → ⊥
-  no_request request both = cc
-
   pub quiet_still : (actor : Actor) → entry.actor ≡ actor → may_define actor ≡ false → given plan journal actor ≡ Some entry.asked → (entry.asked ≡ Cut → ⊥) → ((word : OperatorWord) → entry.asked ≡ Command word → ⊥) → (course : Course) → now.tool.course ≡ course → same_actor actor Insp ≡ false
       → CourseAt plan after (now_has Insp).waits course
   quiet_still actor same none gives called commanded course eq differ =
@@ -558,10 +556,10 @@ module _ (plan : PlanData) (journal : List Entry) (entry : Entry) (is : IsStandi
   heard_at Apply same gives called commanded (SettingUp setup tries) eq = quiet_still Apply same refl gives called commanded (SettingUp setup tries) eq refl
   heard_at Apply same gives called commanded (Migrating work) eq = apply_at entry.answer work (quiet_still Apply same refl gives called commanded (Migrating work) eq refl)
   heard_at Lock same gives called commanded (SettingUp setup tries) eq =
-      absurd (no_asking Lock (setup_has setup tries eq).locker (λ request call. no_request request (ap (λ (c : Course). tool_call plan now.server journal now.tool c Lock) (sym eq) ∙ call)) (asking plan journal Lock entry.asked is.tabled.all.tool.server gives))
+      absurd (no_asking Lock (setup_has setup tries eq).locker (λ request call. none-some request (ap (λ (c : Course). tool_call plan now.server journal now.tool c Lock) (sym eq) ∙ call)) (asking plan journal Lock entry.asked is.tabled.all.tool.server gives))
   heard_at Lock same gives called commanded (Migrating work) eq = locker_turn work eq same (asking plan journal Lock entry.asked is.tabled.all.tool.server gives)
   heard_at Ren same gives called commanded (SettingUp setup tries) eq =
-      absurd (no_asking Ren (setup_has setup tries eq).renamer (λ request call. no_request request (ap (λ (c : Course). tool_call plan now.server journal now.tool c Ren) (sym eq) ∙ call)) (asking plan journal Ren entry.asked is.tabled.all.tool.server gives))
+      absurd (no_asking Ren (setup_has setup tries eq).renamer (λ request call. none-some request (ap (λ (c : Course). tool_call plan now.server journal now.tool c Ren) (sym eq) ∙ call)) (asking plan journal Ren entry.asked is.tabled.all.tool.server gives))
   heard_at Ren same gives called commanded (Migrating work) eq = renamer_turn work eq same (asking plan journal Ren entry.asked is.tabled.all.tool.server gives)
   heard_at Op same gives called commanded (SettingUp setup tries) eq = quiet_still Op same refl gives called commanded (SettingUp setup tries) eq refl
   heard_at Op same gives called commanded (Migrating work) eq = quiet_still Op same refl gives called commanded (Migrating work) eq refl

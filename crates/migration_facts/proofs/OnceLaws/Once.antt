@@ -1,7 +1,8 @@
 -- The RENAME is done once at most, in every journal that is kept.
-use Rattle.std.proofs.Common.{◌≡◌, ℕ, Bool, true, false, ◌||◌, List, [], ◌∷◌, ◌++◌, Option, Some, None, Ok, refl, sym, ap, ◌∙◌, subst, append_assoc}
+use Rattle.std.proofs.Common.{◌≡◌, ℕ, Bool, true, false, ◌||◌, List, [], ◌∷◌, ◌++◌, Option, Some, None, refl, sym, ap, ◌∙◌, subst, append_assoc}
 use Rattle.std.specs.List.{list_any}
 use Rattle.std.proofs.lemmas.Bool.{true≢false}
+use Rattle.std.proofs.lemmas.Option.{none-some}
 use Rattle.row_store.specs.declared.renaming.Pair.{Pair}
 use Rattle.script_text.specs.declared.actor.Actor.{Actor}
 use Rattle.script_text.specs.declared.actor.Actor.TheVariants.{Apply, Client, Copy, Insp, Lock, Op, Ren}
@@ -123,12 +124,9 @@ module _ (definitions_are_done : DefinitionsAreDone) (plan : PlanData) (journal 
     stands : SetupStands has
     stands = subst (CourseStands journal has (is_reverting (moment plan journal).tool.reason)) course known.marking.tabled.all.tool.stands
 
-    no : {request : Request} → None ≡ Some request → ⊥
-    no same = cc
-
     setting : Asking plan journal Ren entry.asked → ⊥
-    setting (calls_so request asks idle call) = no (ap (λ (c : Course). tool_call plan (moment plan journal).server journal (moment plan journal).tool c Ren) (sym course) ∙ call)
-    setting (polls_so request asks some) = no (sym (ap (λ (s : Standing). s.waits) stands.renamer) ∙ some)
+    setting (calls_so request asks idle call) = none-some request (ap (λ (c : Course). tool_call plan (moment plan journal).server journal (moment plan journal).tool c Ren) (sym course) ∙ call)
+    setting (polls_so request asks some) = none-some request (sym (ap (λ (s : Standing). s.waits) stands.renamer) ∙ some)
 
 -- *Behind the RENAME*
 pub renamed_past : DefinitionsAreDone → (plan : PlanData) (journal : List Entry) (entry : Entry) → IsRunnable plan → IsSerialPlan plan → IsKept plan (journal ++ entry ∷ []) → IsUnaltered plan journal → list_any is_alter (entry_adds plan journal entry) ≡ true → IsPast plan (journal ++ entry ∷ [])

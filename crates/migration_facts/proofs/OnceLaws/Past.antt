@@ -52,7 +52,7 @@ use Rattle.journal_facts.proofs.Joined.{told_answer, told_missed}
 use Rattle.journal_facts.proofs.Journals.{opened_waits, stored_opened}
 use Rattle.journal_facts.proofs.Moves.{renamed_other, renamed_old, found_has, renamed_ok}
 use Rattle.journal_facts.specs.ServerLaws.Others.{DefinitionsAreDone}
-use Rattle.journal_facts.specs.MachineLaws.Machines.{CourseStands, Stands, WorkStands, inspector_asks, inspector_waits}
+use Rattle.journal_facts.specs.MachineLaws.Machines.{CourseStands, WorkStands, inspector_asks, inspector_waits}
 use Rattle.journal_facts.specs.MachineLaws.Runnable.{IsRunnable}
 use Rattle.journal_facts.specs.MachineLaws.Standings.{IsAbout, Standing, answered, free, is_called, is_polled, standing_of}
 use Rattle.journal_facts.specs.MachineLaws.Tabling.{schema_of}

@@ -1,5 +1,5 @@
 -- A command changes nothing on the server.
-use Rattle.std.proofs.Common.{◌≡◌, ◌+◌, ℕ, Bool, true, false, not, List, [], ◌∷◌, ◌++◌, Option, Some, None, refl, sym, ◌∙◌}
+use Rattle.std.proofs.Common.{◌≡◌, ◌+◌, ℕ, Bool, true, not, List, [], ◌∷◌, ◌++◌, Option, Some, None, refl, sym, ◌∙◌}
 use Rattle.std.proofs.lemmas.Bool.{false≢true}
 use Rattle.script_text.specs.declared.actor.Actor.TheVariants.{Lock, Ren}
 use Rattle.script_text.specs.declared.actor.Side.{Side}

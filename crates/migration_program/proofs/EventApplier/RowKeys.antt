@@ -1,6 +1,7 @@
 -- Keys of rows, value by value.
 use Rattle.std.proofs.Common.{◌≡◌, refl, ℕ, List, [], ◌∷◌, ◌++◌, Bool, true, ◌&&◌, Option, Some, None, ap, sym, ◌∙◌}
 use Rattle.std.specs.Prelude.{option_to_list, unwrap_or}
+use Rattle.std.specs.Cmp.{tied_then}
 use Rattle.std.specs.List.{list_all, slice_get}
 use Rattle.std.specs.Option.{option_map}
 use Rattle.std.specs.Ordering.{is_eq, ordering_then}
@@ -20,11 +21,6 @@ alone Less = refl
 alone Equal = refl
 alone Greater = refl
 
-then_equal : (first rest : Ordering) → is_eq (ordering_then first rest) ≡ (is_eq first && is_eq rest)
-then_equal Less rest = refl
-then_equal Equal rest = refl
-then_equal Greater rest = refl
-
 -- a row's value at a place is what the column there gets
 given_at : (columns : List MapColumn) (row : List Value) (place : ℕ) → slice_get (given_values columns row) place ≡ option_map (λ column. source column.origin row) (slice_get columns place)
 given_at columns row place = slice_get-map (λ column. source column.origin row) columns place
@@ -33,7 +29,7 @@ given_at columns row place = slice_get-map (λ column. source column.origin row)
 front_equal : (column : Option MapColumn) (before after : MapColumn → Value) (xs ys : List Value) → is_eq (compare_keys (option_to_list (option_map before column) ++ xs) (option_to_list (option_map after column) ++ ys)) ≡ (is_eq (compare_keys (option_to_list (option_map before column)) (option_to_list (option_map after column))) && is_eq (compare_keys xs ys))
 front_equal None before after xs ys = refl
 front_equal (Some column) before after xs ys =
-    then_equal (compare_values (before column) (after column)) (compare_keys xs ys)
+    sym (tied_then (compare_values (before column) (after column)) (compare_keys xs ys))
     ∙ ap (λ same. same && is_eq (compare_keys xs ys)) (sym (alone (compare_values (before column) (after column))))
 
 -- the two rows' values at a place are equal

@@ -2,6 +2,7 @@
 use Rattle.std.proofs.Common.{◌≡◌, ℕ, Bool, true, false, List, [], ◌∷◌, ◌++◌, Option, Some, None, refl, sym, ap, ◌∙◌, subst}
 use Rattle.std.specs.Prelude.{if◌then◌else◌, ◌&&◌, not, nat_le, nat_lt}
 use Rattle.std.specs.List.{slice_get}
+use Rattle.std.proofs.lemmas.Bool.{not-false}
 use Rattle.gho_values.specs.declared.value.Value.{Value}
 use Rattle.plain_server.specs.Along.{Along}
 use Rattle.script_text.specs.declared.actor.Actor.{Actor}
@@ -73,10 +74,6 @@ attempt_free : (copied few throttled postponed : Bool) → (copied && few && not
 attempt_free true true false false is = (refl, refl)
 attempt_free copied few throttled postponed is = absurd cc
 
-is_on : (b : Bool) → not b ≡ false → b ≡ true
-is_on true is = refl
-is_on false is = absurd cc
-
 one_call : (A : Request → Type 0) (one request : Request) → Some one ≡ Some request → A one → A request
 one_call A one request is at = subst A (let same : one ≡ request = cc in same) at
 
@@ -138,7 +135,7 @@ module _ (plan : PlanData) (now : Moment) (journal : List Entry) where
   applier_free : (work : Work) → now.tool.course ≡ Migrating work → (appliers.starts work.applier && not (may_read plan now.server now.tool work)) ≡ false → appliers.starts work.applier ≡ true
       → Rattle.migration_program.specs.Online.attempt_stands now.tool.course ≡ false → is_throttled plan now.server now.tool.operator ≡ false
   applier_free work course free starts out =
-      let may : may_read plan now.server now.tool work ≡ true = is_on (may_read plan now.server now.tool work) (held_back (appliers.starts work.applier) (not (may_read plan now.server now.tool work)) free starts) in
+      let may : may_read plan now.server now.tool work ≡ true = not-false (may_read plan now.server now.tool work) (held_back (appliers.starts work.applier) (not (may_read plan now.server now.tool work)) free starts) in
       let unheld : is_held plan now.server now.tool work ≡ false = batch_free (nat_lt 0 (unread_in now.server work)) (is_held plan now.server now.tool work) may in
       let outside : stands work.cutover.phase ≡ false = ap Rattle.migration_program.specs.Online.attempt_stands (sym course) ∙ out in
       read_free (stands work.cutover.phase) work.cutover.is_asked (is_throttled plan now.server now.tool.operator) unheld outside
@@ -176,7 +173,7 @@ module _ (plan : PlanData) (now : Moment) (journal : List Entry) where
 
   locker_in : (work : Work) (phase : Phase) (request : Request) → now.tool.course ≡ Migrating work → work.cutover.phase ≡ phase → IsNamed plan work → (is_resting phase && not (may_begin plan now.server now.tool work)) ≡ false
       → cutovers.locker_call work.cutover phase ≡ Some request → AsksWell plan now Lock request
-  locker_in work Resting request course at names free is = begun work request course names (is_on (may_begin plan now.server now.tool work) free) is
+  locker_in work Resting request course at names free is = begun work request course names (not-false (may_begin plan now.server now.tool work) free) is
   locker_in work (Attempting stage) request course at names free is = locker_at work.cutover.table stage request names.cutover (stage_goes work stage course at) is
   locker_in work (Ending clearing) request course at names free is = unlocked work.cutover.hold request is
   locker_in work phase request course at names free is = absurd cc

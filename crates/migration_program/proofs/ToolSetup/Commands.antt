@@ -1,27 +1,21 @@
 -- Commands, each as often as it has units.
-use Rattle.std.proofs.Common.{◌≡◌, ◌⊎◌, refl, ap, ◌∙◌, sym, ℕ, zero, suc, ◌+◌, ◌-◌, ◌≤◌, ◌<◌, true, false, List, [], ◌∷◌, ◌++◌, length, drop, get_or, Some, None, arith, inl, inr}
+use Rattle.std.proofs.Common.{◌≡◌, ◌⊎◌, refl, ap, ◌∙◌, sym, ℕ, zero, suc, ◌+◌, ◌-◌, ◌≤◌, ◌<◌, List, [], ◌∷◌, ◌++◌, length, drop, get_or, Some, None, arith, inl, inr}
 use Rattle.std.specs.Prelude.{nat_lt, is_some}
 use Rattle.std.specs.List.{slice_get, repeat}
-use Rattle.std.proofs.lemmas.Bool.Decides.{nat_tests}
+use Rattle.std.proofs.lemmas.Bool.{lt-ltb, le-ltb}
 use Rattle.std.proofs.lemmas.List.{drop_more}
 use Rattle.std.proofs.lemmas.Option.{slice_get_cases}
 use Rattle.script_text.specs.declared.operator.Command.{Command}
 use Rattle.script_text.specs.declared.operator.OperatorWord.{OperatorWord}
 use Rattle.migration_program.specs.ToolSetup.Meanings.{words_in}
 
-is_less : (i n : ℕ) → i < n → true ≡ nat_lt i n
-is_less i n less = grind (arith, nat_tests)
-
-is_not_less : (i n : ℕ) → n ≤ i → false ≡ nat_lt i n
-is_not_less i n more = grind (arith, nat_tests)
-
 -- there is one at a place within the list
 pub stands_within : {A : Type 0} → (xs : List A) (i : ℕ) → is_some (slice_get xs i) ≡ nat_lt i (length xs)
 stands_within xs i = by (slice_get_cases xs i).1
   where
     by : ((x : _) × (i < length xs) × (slice_get xs i ≡ Some x) × (get_or xs i x ≡ x)) ⊎ ((length xs ≤ i) × (slice_get xs i ≡ None)) → is_some (slice_get xs i) ≡ nat_lt i (length xs)
-    by (inl found) = ap is_some found.2 ∙ is_less i (length xs) found.1
-    by (inr past) = ap is_some past.1 ∙ is_not_less i (length xs) past.0
+    by (inl found) = ap is_some found.2 ∙ sym (lt-ltb i (length xs) found.1)
+    by (inr past) = ap is_some past.1 ∙ sym (le-ltb i (length xs) past.0)
 
 among : (word : OperatorWord) (rest : List OperatorWord) (units i : ℕ) → i < units → slice_get (repeat units (word ∷ []) ++ rest) i ≡ Some word
 among word rest zero i within = absurd (omega arith)

@@ -1,5 +1,5 @@
 -- What is first by one order is first by another.
-use Rattle.std.proofs.Common.{◌≡◌, ◌⊎◌, inl, inr, ◌∙◌, ℕ, Bool, true, false, cond, List, [], ◌∷◌, Option, Some, None, find, not, ◌&&◌, ◌||◌, ◌+◌, suc, Ordering, Less, Equal, Greater, refl, sym, ap, subst, arith}
+use Rattle.std.proofs.Common.{◌≡◌, ◌⊎◌, inl, inr, ◌∙◌, ℕ, Bool, true, false, cond, List, [], ◌∷◌, Option, Some, None, find, not, ◌&&◌, ◌||◌, ◌+◌, suc, Ordering, Less, Equal, Greater, refl, sym, ap, subst, arith, one-add}
 use Rattle.std.specs.Ordering.{is_eq, is_gt, ordering_reverse, ordering_then}
 use Rattle.std.specs.List.{AllByRecursion, prefix_len, slice_get}
 use Rattle.std.specs.Option.{option_and_then}
@@ -14,7 +14,7 @@ use Rattle.paged_tables.specs.RowPages.Clashing.{besides_test, earlier}
 use Rattle.paged_tables.specs.declared.row_pages.indexes.KeyIndex.{KeyIndex}
 use Rattle.paged_tables.specs.RowPages.RowOrders.{row_of, rows_of, compare_by, Ascending, Has}
 use Rattle.paged_tables.proofs.RowPages.Ordered.{has_all}
-use Rattle.paged_tables.proofs.RowPages.RowPlaces.{Rows, all_rows, key_equal, if_at, none_behind, one_more}
+use Rattle.paged_tables.proofs.RowPages.RowPlaces.{Rows, all_rows, key_equal, if_at, none_behind}
 
 -- an entry whose row passes is found
 some_by : (test : Row → Bool) (slab : Rows) (entry e : ℕ) (entries : List ℕ) (b : Bool) → test (row_of slab e) ≡ b → Has (e ∷ entries) entry → test (row_of slab entry) ≡ true → cond b (Some (row_of slab e)) (find test (rows_of slab entries)) ≡ None
@@ -173,7 +173,7 @@ besides_by first second key named r row rows Equal is asc here at is_named behin
     let yes_named : is_at second named row ≡ true = ap (λ (x : Row). is_at second named x) same ∙ is_named in
     rw (is, yes_named) (next_by first second key named row rows yes_at yes_named asc.0 asc.1)
 besides_by first second key named r row rows Greater is asc here at is_named behind =
-    let later : slice_get rows (prefix_len (comes_before first key) rows) ≡ Some r = rw (is, one_more) at here in
+    let later : slice_get rows (prefix_len (comes_before first key) rows) ≡ Some r = rw (is, one-add) at here in
     let place : 1 + prefix_len (comes_before first key) rows + 1 ≡ suc (prefix_len (comes_before first key) rows + 1) = omega arith in
     rw (is, place) (behind later)
 

@@ -1,13 +1,10 @@
 -- Lists in order, and the entries that they have.
-use Rattle.std.proofs.Common.{sym, ◌≡◌, ◌⊎◌, inl, inr, ◌∙◌, ℕ, zero, suc, ◌+◌, Bool, false, cond, List, [], ◌∷◌, map, insert, remove, ◌-◌, Some, Ordering, Less, Equal, Greater, refl, ap, subst, arith}
+use Rattle.std.proofs.Common.{sym, ◌≡◌, ◌⊎◌, inl, inr, ◌∙◌, ℕ, zero, suc, ◌+◌, Bool, false, cond, List, [], ◌∷◌, map, insert, remove, ◌-◌, Some, Ordering, Less, Equal, Greater, refl, ap, subst, one-add}
 use Rattle.std.specs.Cmp.{IsTotalOrder}
 use Rattle.std.specs.Ordering.{is_gt, ordering_reverse}
 use Rattle.std.specs.List.{AllByRecursion, prefix_len, slice_get}
 use Rattle.paged_list.specs.Pages.{FailsOn, first_passes, last_page}
 use Rattle.paged_tables.specs.RowPages.RowOrders.{Ascending, Has, is_tied}
-
-plus_one : (n : ℕ) → 1 + n ≡ suc n
-plus_one n = omega arith
 
 module _ {X : Type 0} where
   pub all_insert : (P : X → Type 0) (k : ℕ) (x : X) (ys : List X) → P x → AllByRecursion P ys → AllByRecursion P (insert ys k x)
@@ -55,7 +52,7 @@ module _ {X : Type 0} where
   put_by cmp total Equal k x y ys is new asc put = absurd (cc)
   put_by cmp total Greater k x y ys is new asc put =
       let less : cmp y x ≡ Less = total.antisymm y x ∙ ap ordering_reverse is in
-      rw (plus_one k) (all_insert (λ z. cmp y z ≡ Less) k x ys less asc.0, put)
+      rw (one-add k) (all_insert (λ z. cmp y z ≡ Less) k x ys less asc.0, put)
 
   -- a new one in its place
   pub ascending_insert : (cmp : X → X → Ordering) → IsTotalOrder cmp → (x : X) (ys : List X) → AllByRecursion (λ y. is_tied (cmp x y) ≡ false) ys → Ascending cmp ys → Ascending cmp (insert ys (prefix_len (λ y. is_gt (cmp x y)) ys) x)
@@ -82,7 +79,7 @@ module _ {X : Type 0} where
       let less = all_at (λ z. cmp y z ≡ Less) k x ys asc.0 at in
       let more : cmp x y ≡ Greater = total.antisymm x y ∙ ap ordering_reverse less in
       let behind = stands_by cmp total k x ys asc.1 at in
-      rw more (plus_one (prefix_len (λ z. is_gt (cmp x z)) ys) ∙ ap (λ (n : ℕ). suc n) behind)
+      rw more (one-add (prefix_len (λ z. is_gt (cmp x z)) ys) ∙ ap (λ (n : ℕ). suc n) behind)
 
 -- Entries of lists.
 pub has_new : (k x : ℕ) (ys : List ℕ) → Has (insert ys k x) x
@@ -141,17 +138,6 @@ has_at (suc k) z (y ∷ ys) at = inr (has_at k z ys at)
 
 -- Maps of lists.
 module _ {X : Type 0} where
-  pub map_insert : (f : ℕ → X) (k h : ℕ) (hs : List ℕ) → map f (insert hs k h) ≡ insert (map f hs) k (f h)
-  map_insert f zero h hs = refl
-  map_insert f (suc k) h [] = refl
-  map_insert f (suc k) h (y ∷ hs) = ap (λ (xs : List X). f y ∷ xs) (map_insert f k h hs)
-
-  pub map_remove : (f : ℕ → X) (k : ℕ) (hs : List ℕ) → map f (remove hs k) ≡ remove (map f hs) k
-  map_remove f zero [] = refl
-  map_remove f (suc k) [] = refl
-  map_remove f zero (y ∷ hs) = refl
-  map_remove f (suc k) (y ∷ hs) = ap (λ (xs : List X). f y ∷ xs) (map_remove f k hs)
-
   pub map_same : (f g : ℕ → X) (hs : List ℕ) → AllByRecursion (λ h. f h ≡ g h) hs → map f hs ≡ map g hs
   map_same f g [] same = refl
   map_same f g (h ∷ hs) same = let here : f h ≡ g h = same.0 in let others = map_same f g hs same.1 in cc

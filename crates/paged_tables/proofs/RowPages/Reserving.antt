@@ -1,6 +1,7 @@
 -- A table after room is made, step by step.
-use Rattle.std.proofs.Common.{◌≡◌, ◌∙◌, ℕ, zero, suc, ◌+◌, ◌-◌, ◌<◌, ◌≤◌, List, [], ◌∷◌, length, min, Result, Ok, Err, OnOk, refl, arith}
+use Rattle.std.proofs.Common.{◌≡◌, ◌∙◌, ℕ, zero, suc, ◌+◌, ◌-◌, ◌<◌, ◌≤◌, List, [], ◌∷◌, length, min, refl, arith, le_trans}
 use Rattle.std.specs.List.{AllByRecursion, AllZip}
+use Rattle.std.proofs.lemmas.List.{nil_from_length}
 use Rattle.slab.specs.Slab.{slab_len}
 use Rattle.gho_values.specs.declared.gho_schema.schema.Schema.{Schema}
 use Rattle.gho_values.specs.GhoSchema.Rows.{key_places}
@@ -9,10 +10,6 @@ use Rattle.paged_tables.specs.RowPages.StoredRows.{IsStored}
 use Rattle.paged_tables.specs.declared.row_pages.indexes.KeyIndex.{KeyIndex}
 use Rattle.paged_tables.proofs.RowPages.RowPlaces.{Rows}
 use Rattle.paged_tables.proofs.RowPages.Indexing.{indexed_same, indexed_empty, keys_zip, room_kept, room_wide}
-
-no_entries : (order : List ℕ) → length order ≡ 0 → order ≡ []
-no_entries [] none = refl
-no_entries (entry ∷ order) none = absurd (omega (arith, none))
 
 pub least : (room : ℕ) (indexes : List KeyIndex) → room_in indexes room ≤ room
 least room [] = omega arith
@@ -30,7 +27,7 @@ prepared_by schema slab order olds news room zero is stored kept keys empty =
     let held = stored.held in
     let counted = stored.listed.counted in
     let none : slab_len slab ≡ 0 = omega (arith, held, is) in
-    let no_order : order ≡ [] = no_entries order (omega (arith, counted, none)) in
+    let no_order : order ≡ [] = nil_from_length order (omega (arith, counted, none)) in
     let few = least (min (slab.capacity - slab_len slab) room) olds in
     record {
       stored = record {
@@ -88,15 +85,12 @@ roomy schema old new order indexes stored keys same more =
       keyed = λ some. keys;
     }
 
-le_both : (a b c : ℕ) → a ≤ b → b ≤ c → a ≤ c
-le_both a b c ab bc = omega (arith, ab, bc)
-
 -- the room doesn't fall
 pub no_less : (schema : Schema) (old new : Rows) (order : List ℕ) (olds mids news : List KeyIndex) (room room' : ℕ) → IsPrepared schema old order olds mids room → AllZip IsSame mids news → old.capacity ≤ new.capacity → slab_len new ≡ slab_len old → room ≤ room'
     → room_in olds (min (old.capacity - slab_len old) room) ≤ room_in news (min (new.capacity - slab_len new) room')
 no_less schema old new order olds mids news room room' prepared zip wider same roomier =
     let more : min (old.capacity - slab_len old) room ≤ min (new.capacity - slab_len new) room' = omega (arith, wider, same, roomier) in
-    le_both _ _ _ prepared.roomier (room_kept (min (new.capacity - slab_len new) room') (min (old.capacity - slab_len old) room) mids news zip more)
+    le_trans prepared.roomier (room_kept (min (new.capacity - slab_len new) room') (min (old.capacity - slab_len old) room) mids news zip more)
 
 -- there is room for so many more
 pub enough : (schema : Schema) (old new : Rows) (order : List ℕ) (olds mids news : List KeyIndex) (room room' n total : ℕ) → IsPrepared schema old order olds mids room → AllZip (IsWide total) mids news → total ≡ slab_len old + n → slab_len new ≡ slab_len old → total ≤ length order + room'
@@ -108,8 +102,3 @@ enough schema old new order olds mids news room room' n total prepared zip total
 
 pub keys_kept : (schema : Schema) (mids news : List KeyIndex) → keys_of mids ≡ other_keys schema → AllZip IsSame mids news → keys_of news ≡ other_keys schema
 keys_kept schema mids news keys zip = keys_zip IsSame (λ old new same. same.places) mids news zip ∙ keys
-
-module _ {A E : Type 0} where
-  pub on_ok : (result : Result A E) (P Q : Type 0) → OnOk result P → (P → Q) → OnOk result Q
-  on_ok (Ok value) P Q holds then_so = then_so holds
-  on_ok (Err error) P Q holds then_so = holds

@@ -1,5 +1,5 @@
 -- Rows in order by two lists of places.
-use Rattle.std.proofs.Common.{◌≡◌, ◌⊎◌, inl, inr, ◌∙◌, ℕ, zero, suc, ◌+◌, ◌≤◌, Bool, true, false, cond, List, [], ◌∷◌, length, insert, remove, Option, Some, None, IsSome, OnSome, unwrap_or, find, filter, not, Ordering, Less, Equal, Greater, refl, sym, ap, subst, arith}
+use Rattle.std.proofs.Common.{◌≡◌, ◌⊎◌, inl, inr, ◌∙◌, ℕ, zero, suc, ◌+◌, ◌≤◌, Bool, true, false, cond, List, [], ◌∷◌, length, insert, remove, Option, Some, None, IsSome, OnSome, unwrap_or, find, filter, not, Ordering, Less, Equal, Greater, refl, sym, ap, subst, arith, one-add}
 use Rattle.std.specs.Cmp.{IsTotalOrder}
 use Rattle.std.proofs.lemmas.Cmp.{then_total, on_total}
 use Rattle.std.specs.Ordering.{is_gt, is_eq, ordering_reverse, ordering_then, match_ordering}
@@ -16,10 +16,11 @@ use Rattle.gho_values.proofs.Orders.{keys_total, tied_keys}
 use Rattle.gho_values.specs.GhoSchema.Rows.{key_of, with_row}
 use Rattle.paged_list.specs.Pages.{FailsOn, flat, StandsAt}
 use Rattle.paged_tables.specs.RowPages.Seeking.{IsFound}
+use Rattle.name_map.proofs.Entries.{map-insert, map-remove}
 use Rattle.row_store.proofs.Orders.{Row, FailsAbove, before_fails}
 use Rattle.row_store.specs.RowLists.{comes_before, is_at, without_key}
 use Rattle.paged_tables.specs.RowPages.RowOrders.{row_of, rows_of, compare_by, is_before, Ascending, place_by, Has, is_tied, IsNew, IsListed}
-use Rattle.paged_tables.proofs.RowPages.Ordered.{fails_on, ascending_insert, ascending_remove, stands_by, all_insert, all_at, has_new, has_old, has_fewer, has_all, all_has, has_place, has_at, map_insert, map_remove, map_same}
+use Rattle.paged_tables.proofs.RowPages.Ordered.{fails_on, ascending_insert, ascending_remove, stands_by, all_insert, all_at, has_new, has_old, has_fewer, has_all, all_has, has_place, has_at, map_same}
 
 pub by_total : (first second : List ℕ) → IsTotalOrder (compare_by first second)
 by_total first second = then_total (on_total (key_of first) keys_total) (on_total (key_of second) keys_total)
@@ -65,7 +66,7 @@ rows_kept old new entry row entries updates stored none = map_same (row_of new) 
 
 pub rows_put : (old new : Rows) (entry : ℕ) (row : Row) (entries : List ℕ) (k : ℕ) → Updates old new entry (Some row) → AllByRecursion (λ e. IsSome (get old e)) entries → get old entry ≡ None → rows_of new (insert entries k entry) ≡ insert (rows_of old entries) k row
 rows_put old new entry row entries k updates stored none =
-    map_insert (row_of new) k entry entries
+    map-insert (row_of new) entries k entry
     ∙ ap (λ (rs : List Row). insert rs k (row_of new entry)) (rows_kept old new entry row entries updates stored none)
     ∙ ap (λ (r : Row). insert (rows_of old entries) k r) (ap (λ (s : Option Row). unwrap_or s []) updates.changed)
 
@@ -143,15 +144,12 @@ none_behind first second key row (other ∷ rows) less at =
 abbrev pub if_at : List ℕ → Row → Row → Option Row
 if_at first key row = cond (is_at first key row) (Some row) None
 
-pub one_more : (n : ℕ) → 1 + n ≡ suc n
-one_more n = omega arith
-
 found_by : (first second : List ℕ) (key row : Row) (rows : List Row) (o : Ordering) → compare_keys key (key_of first row) ≡ o → AllByRecursion (λ other. compare_by first second row other ≡ Less) rows
     → find (is_at first key) rows ≡ option_and_then (if_at first key) (slice_get rows (prefix_len (comes_before first key) rows))
     → cond (is_eq o) (Some row) (find (is_at first key) rows) ≡ option_and_then (if_at first key) (slice_get (row ∷ rows) (cond (is_gt o) (1 + prefix_len (comes_before first key) rows) 0))
 found_by first second key row rows Less is less others = rw is (none_behind first second key row rows less is)
 found_by first second key row rows Equal is less others = rw is refl
-found_by first second key row rows Greater is less others = rw (one_more (prefix_len (comes_before first key) rows)) others
+found_by first second key row rows Greater is less others = rw (one-add (prefix_len (comes_before first key) rows)) others
 
 pub found_at : (first second : List ℕ) (key : Row) (rows : List Row) → Ascending (compare_by first second) rows → find (is_at first key) rows ≡ option_and_then (if_at first key) (slice_get rows (prefix_len (comes_before first key) rows))
 found_at first second key [] asc = refl
@@ -215,7 +213,7 @@ left old new entry slot entries updates not_there = all_has (λ e. row_of new e 
 pub rows_removed : (first second : List ℕ) (old new : Rows) (entry : ℕ) (slot : Option Row) (entries : List ℕ) (k : ℕ) → Updates old new entry slot → Ascending (compare_by first second) (rows_of old entries) → slice_get entries k ≡ Some entry
     → rows_of new (remove entries k) ≡ remove (rows_of old entries) k
 rows_removed first second old new entry slot entries k updates asc at =
-    map_same (row_of new) (row_of old) (remove entries k) (left old new entry slot (remove entries k) updates (gone first second old k entry entries asc at)) ∙ map_remove (row_of old) k entries
+    map_same (row_of new) (row_of old) (remove entries k) (left old new entry slot (remove entries k) updates (gone first second old k entry entries asc at)) ∙ map-remove (row_of old) entries k
 
 pub listed_remove : (first second : List ℕ) (old new : Rows) (entries entries' : List ℕ) (entry k : ℕ) → IsListed first second old entries → Updates old new entry None → slab_len new + 1 ≡ slab_len old → slice_get entries k ≡ Some entry → entries' ≡ remove entries k → IsListed first second new entries'
 listed_remove first second old new entries entries' entry k is updates fewer at entries_are =
@@ -308,7 +306,7 @@ on_some None P some on = absurd (cc)
 placed : (o : Ordering) (k : ℕ) (row first : Row) (rows rest : List Row) → insert rows k row ≡ rest → insert (first ∷ rows) (cond (is_gt (ordering_then o Equal)) (1 + k) 0) row ≡ match_ordering o (row ∷ first ∷ rows) (row ∷ first ∷ rows) (first ∷ rest)
 placed Less k row first rows rest same = refl
 placed Equal k row first rows rest same = refl
-placed Greater k row first rows rest same = rw (one_more k) (ap (λ (rs : List Row). first ∷ rs) same)
+placed Greater k row first rows rest same = rw (one-add k) (ap (λ (rs : List Row). first ∷ rs) same)
 
 pub put_is : (places : List ℕ) (row : Row) (rows : List Row) → insert rows (place_by places [] row rows) row ≡ with_row places row rows
 unfolding with_row key_of

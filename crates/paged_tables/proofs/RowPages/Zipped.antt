@@ -1,6 +1,7 @@
 -- A loop that changes each element of a list in turn.
-use Rattle.std.proofs.Common.{◌≡◌, ◌∙◌, ℕ, zero, suc, ◌+◌, ◌<◌, ◌≤◌, List, [], ◌∷◌, length, take, drop, set, get_or, refl, sym, ap, subst, arith, add-one}
+use Rattle.std.proofs.Common.{◌≡◌, ◌∙◌, ℕ, zero, suc, ◌+◌, ◌<◌, ◌≤◌, List, [], ◌∷◌, length, take, drop, set, get_or, refl, sym, subst, arith, add-one}
 use Rattle.std.specs.List.{AllZip}
+use Rattle.std.proofs.lemmas.List.{length-set, take_all}
 
 -- so many elements are changed, and the others are as they were
 pub record IsHalfDone {X : Type 0} (R : X → X → Type 0) (n : ℕ) (old now : List X) : Type 0 where
@@ -28,17 +29,6 @@ module _ {X : Type 0} where
   next_by zero (o ∷ old) (y ∷ now) d same size lt = cc
   next_by (suc n) (o ∷ old) (y ∷ now) d same size lt = next_by n old now d same (omega arith) (omega arith)
 
-  size_set : (n : ℕ) (xs : List X) (x : X) → length (set xs n x) ≡ length xs
-  size_set n [] x = refl
-  size_set zero (y ∷ xs) x = refl
-  size_set (suc n) (y ∷ xs) x = ap (λ (k : ℕ). suc k) (size_set n xs x)
-
-  all_taken : (n : ℕ) (xs : List X) → length xs ≤ n → take n xs ≡ xs
-  all_taken zero [] le = refl
-  all_taken (suc n) [] le = refl
-  all_taken zero (x ∷ xs) le = absurd (omega arith)
-  all_taken (suc n) (x ∷ xs) le = ap (λ (ys : List X). x ∷ ys) (all_taken n xs (omega arith))
-
   -- the next element is still the old one
   pub next_is : (R : X → X → Type 0) (n : ℕ) (old now : List X) (d : X) → IsHalfDone R n old now → n < length old → get_or now n d ≡ get_or old n d
   next_is R n old now d half lt = next_by n old now d half.others half.size lt
@@ -50,11 +40,11 @@ module _ {X : Type 0} where
       record {
         changed = changed_more R n old now x y lt half.size from half.changed;
         others = others_more n old now x half.others half.size;
-        size = size_set n now x ∙ half.size;
+        size = length-set now n x ∙ half.size;
       }
 
   pub all_done : (R : X → X → Type 0) (n : ℕ) (old now : List X) → IsHalfDone R n old now → length old ≤ n → AllZip R old now
-  all_done R n old now half le = rw (all_taken n old le, all_taken n now (omega (arith, half.size, le))) at half.changed
+  all_done R n old now half le = rw (take_all n old le, take_all n now (omega (arith, half.size, le))) at half.changed
 
   -- The rest is as it was.
   rest_by : (R : X → X → Type 0) → ((x : X) → R x x) → (xs : List X) → AllZip R xs xs

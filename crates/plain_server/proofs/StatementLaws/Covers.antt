@@ -1,5 +1,6 @@
 -- What a statement writes lies under what it needs; and what one session writes lies under no lock of another.
-use Rattle.std.proofs.Common.{◌≡◌, ℕ, ◌==◌, arith, Bool, true, false, not, ◌&&◌, ◌||◌, List, [], ◌∷◌, ◌++◌, map, cond, Option, Some, None, Result, Ok, Err, refl, sym, ap, ◌∙◌}
+use Rattle.std.proofs.Common.{◌≡◌, ℕ, ◌==◌, arith, Bool, true, false, not, ◌||◌, List, [], ◌∷◌, ◌++◌, map, cond, Option, Some, None, Result, Ok, Err, refl, sym, ap, ◌∙◌}
+use Rattle.std.proofs.Math.Bool.{and-true}
 use Rattle.std.proofs.lemmas.Bool.{false≢true, true≢false, and_parts}
 use Rattle.std.proofs.lemmas.Bool.Decides.{nat_tests}
 use Rattle.std.specs.List.{AllByRecursion, list_any, slice_get}
@@ -163,15 +164,11 @@ other_row2 test row new is not_new = at (same_row new row) refl where
   at true same = absurd (true≢false (sym is ∙ ap test (sym (one_row new row same)) ∙ not_new))
   at false same = refl
 
-and_true : (b : Bool) → (b && true) ≡ b
-and_true true = refl
-and_true false = refl
-
 put_elsewhere : (test : Row → Bool) (places : List ℕ) (new : Row) (rows : List Row) → test new ≡ false → SameWhere test rows (with_row places new rows)
 put_elsewhere test places new rows not_new row is = sym (stands-put places row new rows ∙ rw (other_row test row new is not_new) refl)
 
 gone_elsewhere : (test : Row → Bool) (gone : Row) (rows : List Row) → test gone ≡ false → SameWhere test rows (without_row gone rows)
-gone_elsewhere test gone rows not_gone row is = sym (stands-filter (λ other. not (same_row gone other)) row rows ∙ rw (other_row2 test row gone is not_gone) (and_true (stands row rows)))
+gone_elsewhere test gone rows not_gone row is = sym (stands-filter (λ other. not (same_row gone other)) row rows ∙ rw (other_row2 test row gone is not_gone) (and-true (stands row rows)))
 
 same-then : (test : Row → Bool) (a b c : List Row) → SameWhere test a b → SameWhere test b c → SameWhere test a c
 same-then test a b c one two row is = one row is ∙ two row is

@@ -1,6 +1,7 @@
 -- The footprint law: where two lists of rows agree under what a statement needs, it says and needs the same on both.
 use Rattle.std.proofs.Common.{◌≡◌, Bool, true, false, not, ◌&&◌, List, [], ◌∷◌, ◌++◌, map, Option, Ok, Err, refl, ap, ◌∙◌}
 use Rattle.std.specs.List.{AllByRecursion, list_any}
+use Rattle.std.proofs.Math.Bool.{or-true}
 use Rattle.std.proofs.lemmas.Bool.{and_parts}
 use Rattle.gho_values.specs.declared.value.Value.{Value}
 use Rattle.gho_values.specs.declared.gho_schema.schema.Schema.{Schema}
@@ -19,7 +20,7 @@ use Rattle.plain_server.specs.Needing.{lock_on, points, points_of, needs}
 use Rattle.plain_server.specs.StatementLaws.Agreeing.{is_under, SameWhere}
 use Rattle.plain_server.proofs.StatementLaws.Standing.{same-filter, same-any, same-within, same-changed}
 use Rattle.plain_server.proofs.StatementLaws.Points.{under-append, clash_under}
-use Rattle.plain_server.proofs.StatementLaws.Tests.{same_bytes, or_true}
+use Rattle.plain_server.proofs.StatementLaws.Tests.{same_bytes}
 
 -- what is said and needed on the one list is said and needed on the other
 pub record AreAlike (schema : Schema) (work : Work) (a b : List Row) : Type 0 where
@@ -35,7 +36,7 @@ pub front_under : (schema : Schema) (a b : List Lock) (row : Row) → is_under s
 front_under schema a b row is = under-append schema a b row ∙ rw is refl
 
 pub back_under : (schema : Schema) (a b : List Lock) (row : Row) → is_under schema b row ≡ true → is_under schema (a ++ b) row ≡ true
-back_under schema a b row is = under-append schema a b row ∙ rw is (or_true (is_under schema a row))
+back_under schema a b row is = under-append schema a b row ∙ rw is (or-true (is_under schema a row))
 
 -- each new row's clashes lie within the test
 abbrev pub ClashesWithin : Schema → List (Option Value) → (Row → Bool) → List Row → Type 0

@@ -1,6 +1,6 @@
 -- A statement leaves a table.
 use Rattle.std.proofs.Common.{◌≡◌, ℕ, Bool, true, false, not, ◌&&◌, ◌||◌, List, [], ◌∷◌, ◌++◌, map, filter, cond, Option, Some, None, Result, Ok, Err, refl, sym, ap, ◌∙◌}
-use Rattle.std.proofs.lemmas.Bool.{true≢false, and_parts}
+use Rattle.std.proofs.lemmas.Bool.{true≢false, and_parts, false_from_ne_true}
 use Rattle.std.specs.List.{AllByRecursion, list_any}
 use Rattle.gho_values.specs.declared.value.Value.{Value}
 use Rattle.gho_values.specs.declared.gho_schema.schema.Schema.{Schema}
@@ -54,10 +54,6 @@ with_sets_row (column ∷ columns) (set ∷ sets) [] fit is = absurd is
 with_sets_row (column ∷ columns) (None ∷ sets) (value ∷ row) fit is = (is.0, with_sets_row columns sets row fit is.1)
 with_sets_row (column ∷ columns) (Some new ∷ sets) (value ∷ row) fit is = (fit.0, with_sets_row columns sets row fit.1 is.1)
 
-false_unless : (b : Bool) → (b ≡ true → ⊥) → b ≡ false
-false_unless true not_so = absurd (not_so refl)
-false_unless false not_so = refl
-
 -- rows besides those that are removed
 removals_orderly : (schema : Schema) (gone rows : List Row) → IsTable schema rows → IsTable schema (change_all (key_places schema) (map changes.Delete gone) rows)
 unfolding change_all change_rows
@@ -83,7 +79,7 @@ left_over places row (first ∷ gone) rows stood =
 
 none_displaced : (schema : Schema) (row : Row) (rows : List Row) → list_any (clash schema.uniques row) (change_all (key_places schema) (map changes.Delete (displaced schema row rows)) rows) ≡ false
 none_displaced schema row rows =
-    false_unless (list_any (clash schema.uniques row) (change_all (key_places schema) (map changes.Delete (displaced schema row rows)) rows)) (λ some.
+    false_from_ne_true (list_any (clash schema.uniques row) (change_all (key_places schema) (map changes.Delete (displaced schema row rows)) rows)) (λ some.
     let one = some_row (clash schema.uniques row) (change_all (key_places schema) (map changes.Delete (displaced schema row rows)) rows) some in
     let left : Left one.row (displaced schema row rows) rows = left_over (key_places schema) one.row (displaced schema row rows) rows one.stands in
     let yes : stands one.row (displaced schema row rows) ≡ true = stands-filter (clash schema.uniques row) one.row rows ∙ rw (left.stood, one.passes) refl in
@@ -111,7 +107,7 @@ updates_here schema rows false false still later one two = two refl
 
 pub none_besides : (schema : Schema) (new old : Row) (rows : List Row) → clashes_besides schema new old rows ≡ false → list_any (clash schema.uniques new) (without_row old rows) ≡ false
 none_besides schema new old rows none =
-    false_unless (list_any (clash schema.uniques new) (without_row old rows)) (λ some.
+    false_from_ne_true (list_any (clash schema.uniques new) (without_row old rows)) (λ some.
     let one = some_row (clash schema.uniques new) (without_row old rows) some in
     let both : (stands one.row rows && not (same_row old one.row)) ≡ true = sym (stands-filter (λ other. not (same_row old other)) one.row rows) ∙ one.stands in
     let other : not (same_row old one.row) ≡ true = (and_parts (stands one.row rows) (not (same_row old one.row)) both).1 in

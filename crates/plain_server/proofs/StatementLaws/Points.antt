@@ -1,5 +1,6 @@
 -- Points of rows: what clashes with a row lies under one of its points.
 use Rattle.std.proofs.Common.{◌≡◌, ℕ, zero, suc, ◌+◌, Bool, true, false, ◌&&◌, ◌||◌, List, [], ◌∷◌, ◌++◌, Some, refl, sym, ap, ◌∙◌, subst, inl, inr, arith}
+use Rattle.std.proofs.Math.Bool.{or-true}
 use Rattle.std.proofs.lemmas.Bool.{false≢true}
 use Rattle.std.proofs.lemmas.List.Folds.{list_any-append}
 use Rattle.std.proofs.lemmas.Slice.Eq.{bytes_eq-Decides}
@@ -19,7 +20,7 @@ use Rattle.row_store.proofs.Orders.{Row, is_Equal}
 use Rattle.plain_server.specs.Rows.{lies_under}
 use Rattle.plain_server.specs.Needing.{lock_on, point_lock, points_from, points}
 use Rattle.plain_server.specs.StatementLaws.Agreeing.{covers, is_under, Among, Within}
-use Rattle.plain_server.proofs.StatementLaws.Tests.{same_bytes, or_true}
+use Rattle.plain_server.proofs.StatementLaws.Tests.{same_bytes}
 
 pub under-append : (schema : Schema) (a b : List Lock) (row : Row) → is_under schema (a ++ b) row ≡ (is_under schema a row || is_under schema b row)
 unfolding is_under
@@ -60,9 +61,9 @@ clash_here schema place index uniques row other true true same full get others s
           → (is_under schema (lock_on schema true (record { key = place; span = point (key_of index.places row) }) ∷ []) other || is_under schema (points_from schema (place + 1) uniques row) other) ≡ true
       first under = rw under refl
 clash_here schema place index uniques row other true false same full get others some =
-    under-append schema (point_lock schema place (key_of index.places row)) (points_from schema (place + 1) uniques row) other ∙ rw (others some) (or_true _)
+    under-append schema (point_lock schema place (key_of index.places row)) (points_from schema (place + 1) uniques row) other ∙ rw (others some) (or-true _)
 clash_here schema place index uniques row other false c same full get others some =
-    under-append schema (point_lock schema place (key_of index.places row)) (points_from schema (place + 1) uniques row) other ∙ rw (others some) (or_true _)
+    under-append schema (point_lock schema place (key_of index.places row)) (points_from schema (place + 1) uniques row) other ∙ rw (others some) (or-true _)
 
 points_hold : (schema : Schema) (place : ℕ) (uniques : List Index) (row other : Row) → From schema place uniques → clash uniques row other ≡ true → is_under schema (points_from schema place uniques row) other ≡ true
 unfolding points_from
@@ -115,7 +116,7 @@ under_one : (schema : Schema) (row : Row) (lock : Lock) (all : List Lock) → co
 unfolding is_under
 under_one schema row lock [] now l = absurd l
 under_one schema row lock (x ∷ all) is (inl same) = let now : covers schema row x ≡ true = ap (covers schema row) (sym same) ∙ is in rw now refl
-under_one schema row lock (x ∷ all) is (inr l) = rw (under_one schema row lock all is l) (or_true (covers schema row x))
+under_one schema row lock (x ∷ all) is (inr l) = rw (under_one schema row lock all is l) (or-true (covers schema row x))
 
 under_first : (schema : Schema) (row : Row) (lock : Lock) (all : List Lock) (b rest : Bool) → covers schema row lock ≡ b → Among lock all → (rest ≡ true → is_under schema all row ≡ true) → (b || rest) ≡ true → is_under schema all row ≡ true
 under_first schema row lock all true rest is one more some = under_one schema row lock all is one

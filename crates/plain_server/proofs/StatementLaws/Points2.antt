@@ -1,5 +1,6 @@
 -- The rows met at a point of the clustered key are the row of that key, where there is one.
 use Rattle.std.proofs.Common.{◌≡◌, ℕ, Bool, true, false, ◌&&◌, List, [], ◌∷◌, find, filter, cond, Some, Ordering, Less, Equal, Greater, refl, ap, ◌∙◌, subst}
+use Rattle.std.specs.Cmp.{both_ways}
 use Rattle.std.specs.Prelude.{option_to_list}
 use Rattle.std.specs.Ordering.{is_eq, is_gt}
 use Rattle.std.specs.List.{AllByRecursion}
@@ -17,7 +18,6 @@ use Rattle.row_store.proofs.Orders.{Row, is_Equal}
 use Rattle.row_store.proofs.FoundRows.{others_not_at}
 use Rattle.row_store.proofs.RowsBetween.{none_pass}
 use Rattle.plain_server.specs.Rows.{lies_under}
-use Rattle.plain_server.proofs.StatementLaws.Standing.{both_ways}
 
 -- a point is met where the key is just that
 pub under_point : (index : Index) (key row : Row) → no_null key ≡ true → lies_under (Some index) (point key) row ≡ is_at index.places key row

@@ -1,6 +1,8 @@
 -- Which rows stand among rows, after changes; and lists of rows that agree where a test passes.
 use Rattle.std.proofs.Common.{◌≡◌, ℕ, Bool, true, false, not, ◌&&◌, ◌||◌, List, [], ◌∷◌, filter, cond, Ordering, Less, Equal, Greater, refl, sym, ap, ◌∙◌, subst}
+use Rattle.std.proofs.Math.Bool.{and-false, or-true}
 use Rattle.std.proofs.lemmas.Bool.{false≢true, true≢false}
+use Rattle.std.specs.Cmp.{both_ways}
 use Rattle.std.specs.Ordering.{is_eq, match_ordering}
 use Rattle.std.specs.List.{AllByRecursion, list_any}
 use Rattle.std.proofs.lemmas.Cmp.{tied_itself}
@@ -14,7 +16,7 @@ use Rattle.row_store.proofs.Orders.{Row, not_greater, turned, is_Equal}
 use Rattle.row_store.proofs.Ascending.{ascends-filter, before_all}
 use Rattle.plain_server.specs.Rows.{same_row, stands, without_row, change_rows}
 use Rattle.plain_server.specs.StatementLaws.Agreeing.{SameWhere}
-use Rattle.plain_server.proofs.StatementLaws.Tests.{or_swapped, or_true}
+use Rattle.plain_server.proofs.StatementLaws.Tests.{or_swapped}
 
 -- rows that compare equal are one row
 pub one_row : (row other : Row) → same_row row other ≡ true → row ≡ other
@@ -94,10 +96,7 @@ filter_here test row first rows true true true is same here others = rw same ref
 filter_here test row first rows true true false is same here others = absurd (false≢true (sym here ∙ ap test (one_row row first same) ∙ is))
 filter_here test row first rows true false d is same here others = rw same others
 filter_here test row first rows false true true is same here others = absurd (false≢true (sym is ∙ ap test (sym (one_row row first same)) ∙ here))
-filter_here test row first rows false true false is same here others = others ∙ both_false (stands row rows) where
-  both_false : (a : Bool) → (a && false) ≡ false
-  both_false true = refl
-  both_false false = refl
+filter_here test row first rows false true false is same here others = others ∙ and-false (stands row rows)
 filter_here test row first rows false false d is same here others = others
 
 pub stands-filter : (test : Row → Bool) (row : Row) (rows : List Row) → stands row (filter test rows) ≡ (stands row rows && test row)
@@ -133,7 +132,7 @@ pub record Passing (test : Row → Bool) (rows : List Row) : Type 0 where
 some_here : (test : Row → Bool) (row : Row) (rows : List Row) (t : Bool) → test row ≡ t → (list_any test rows ≡ true → Passing test rows) → (t || list_any test rows) ≡ true → Passing test (row ∷ rows)
 unfolding stands
 some_here test row rows true is rest some = record { row = row; stands = rw (same_itself row) refl; passes = is }
-some_here test row rows false is rest some = let more = rest some in record { row = more.row; stands = rw more.stands (or_true (same_row more.row row)); passes = more.passes }
+some_here test row rows false is rest some = let more = rest some in record { row = more.row; stands = rw more.stands (or-true (same_row more.row row)); passes = more.passes }
 
 pub some_row : (test : Row → Bool) (rows : List Row) → list_any test rows ≡ true → Passing test rows
 some_row test [] some = absurd (false≢true some)
@@ -141,7 +140,7 @@ some_row test (row ∷ rows) some = some_here test row rows (test row) refl (som
 
 found_at : (test : Row → Bool) (row first : Row) (rows : List Row) (b : Bool) → same_row row first ≡ b → (b || stands row rows) ≡ true → test row ≡ true → (stands row rows ≡ true → list_any test rows ≡ true) → (test first || list_any test rows) ≡ true
 found_at test row first rows true same some is rest = let yes : test first ≡ true = ap test (sym (one_row row first same)) ∙ is in rw yes refl
-found_at test row first rows false same some is rest = rw (rest some) (or_true (test first))
+found_at test row first rows false same some is rest = rw (rest some) (or-true (test first))
 
 pub found_by : (test : Row → Bool) (rows : List Row) (row : Row) → stands row rows ≡ true → test row ≡ true → list_any test rows ≡ true
 unfolding stands
@@ -149,12 +148,6 @@ found_by test [] row stood is = absurd (false≢true stood)
 found_by test (first ∷ rows) row stood is = found_at test row first rows (same_row row first) refl stood is (λ s. found_by test rows row s is)
 
 -- lists that agree where a test passes answer alike whether some row passes it
-pub both_ways : (a b : Bool) → (a ≡ true → b ≡ true) → (b ≡ true → a ≡ true) → a ≡ b
-both_ways true true one two = refl
-both_ways true false one two = sym (one refl)
-both_ways false true one two = two refl
-both_ways false false one two = refl
-
 any_from : (test : Row → Bool) (a b : List Row) → ((row : Row) → test row ≡ true → stands row a ≡ true → stands row b ≡ true) → list_any test a ≡ true → list_any test b ≡ true
 any_from test a b same some = let one = some_row test a some in found_by test b one.row (same one.row one.passes one.stands) one.passes
 

@@ -27,10 +27,6 @@ turned_bytes a b is = at (bytes_eq b a) refl where
   at true back = let same : b ≡ a = are_same b a back in absurd (true≢false (sym (same_bytes a) ∙ ap (bytes_eq a) (sym same) ∙ is))
   at false back = refl
 
-pub or_true : (b : Bool) → (b || true) ≡ true
-or_true true = refl
-or_true false = refl
-
 pub or_swapped : (a b c : Bool) → (a || (b || c)) ≡ (b || (a || c))
 or_swapped true true c = refl
 or_swapped true false c = refl

@@ -2,8 +2,9 @@
 use Rattle.std.proofs.Common.{◌≡◌, ℕ, ◌+◌, ◌<◌, ◌≤◌, Bool, true, false, ◌||◌, List, [], ◌∷◌, ◌++◌, length, cond, Option, Some, None, refl, sym, ap, ◌∙◌, subst, append_assoc, append-nil, arith}
 use Rattle.std.specs.Prelude.{fold, is_some}
 use Rattle.std.proofs.lemmas.Bool.{true≢false, le-leb}
-use Rattle.std.proofs.lemmas.List.{length-append}
+use Rattle.std.proofs.lemmas.List.{drop_all, length-append}
 use Rattle.std.proofs.lemmas.List.Sums.{fold-append}
+use Rattle.std.proofs.Math.Bool.{or-true}
 use Rattle.script_text.specs.declared.actor.Actor.{Actor}
 use Rattle.plain_server.specs.Along.{Along-more}
 use Rattle.plain_server.specs.declared.entry.Asked.{Asked}
@@ -31,7 +32,6 @@ use Rattle.plan_replays.specs.declared.whole_replay.place.Place.{Place}
 use Rattle.plan_replays.specs.declared.whole_replay.place.NextTurn.{NextTurn}
 use Rattle.plan_replays.specs.WholeReplay.Places.{queue_of, choice_of}
 use Rattle.plan_replays.specs.WholeReplay.Replays.{IsFresh, IsReplaying, IsStalled, GoesOn}
-use Rattle.plan_replays.proofs.WholeReplay.Lists.{left_none}
 use Rattle.plan_replays.proofs.WholeReplay.WordChoices.{words_whole}
 
 -- THE ORDER
@@ -169,7 +169,7 @@ stalls run place is uncut chooses = record {
 
 queue_begin : (plan : PlanData) (count : ℕ) → count ≡ length (actors plan) → queue_of plan (record { run = 0; used = 0; actor = count }) ≡ queue_at plan []
 unfolding queue_at words_in
-queue_begin plan count is = both (words_whole plan.turns) (left_none (actors plan) count (omega (arith, is)))
+queue_begin plan count is = both (words_whole plan.turns) (drop_all count (actors plan) (omega (arith, is)))
   where
     both : {words others round none : List Actor} → words ≡ others → round ≡ none → (let one : Queue = record { words = words; round = round } in one) ≡ record { words = others; round = none }
     both first second = λ i. record { words = first i; round = second i }
@@ -199,11 +199,7 @@ it_stops run place is = is.stops
 pub still_stops : (before after : RunView) (place : Place) → IsReplaying before place → IsUnmoved before after → Stops after.plan after.journal
 still_stops before after place is still = subst (λ (p : PlanData). Stops p after.journal) (sym still.plan) (subst (Stops before.plan) (sym still.journal) is.stops)
 
-or_true : (a : Bool) → (a || true) ≡ true
-or_true true = refl
-or_true false = refl
-
 -- a run that has as many turns as the plan allows is over
 pub full_over : (plan : PlanData) (journal : List Entry) → plan.options.turn_limit ≤ length journal → is_over plan journal ≡ true
 unfolding is_over
-full_over plan journal full = ap (λ b. has_ended plan journal || b) (le-leb plan.options.turn_limit (length journal) full) ∙ or_true (has_ended plan journal)
+full_over plan journal full = ap (λ b. has_ended plan journal || b) (le-leb plan.options.turn_limit (length journal) full) ∙ or-true (has_ended plan journal)

@@ -1,5 +1,6 @@
 -- The first actor of a pass that is ready.
 use Rattle.std.proofs.Common.{◌≡◌, ◌≤◌, ◌<◌, ℕ, zero, suc, ◌+◌, ◌-◌, Bool, true, false, List, [], ◌∷◌, drop, length, Option, Some, None, refl, sym, ap, ◌∙◌, arith}
+use Rattle.std.proofs.lemmas.List.{drop_all}
 use Rattle.std.specs.List.{slice_get}
 use Rattle.script_text.specs.declared.actor.Actor.{Actor}
 use Rattle.script_text.specs.declared.actor.Actor.TheVariants.{Op, Insp, Copy, Apply, Lock, Ren, Client}
@@ -9,7 +10,6 @@ use Rattle.plan_words.specs.declared.runs.ActorRun.{ActorRun}
 use Rattle.migration_program.specs.Orders.{actors, clients_from, Found, first_ready, from_pass}
 use Rattle.turn_book.proofs.Clients.{left_here}
 use Rattle.plan_replays.specs.WholeReplay.Places.{words_from}
-use Rattle.plan_replays.proofs.WholeReplay.Lists.{left_none}
 
 client_count : (first : ℕ) (scripts : List (List ScriptLine)) → length (clients_from first scripts) ≡ length scripts
 unfolding clients_from
@@ -64,7 +64,7 @@ actor_passed ready all place actor is none = sym (ap (first_ready ready) (left_h
 
 pass_spent : (ready : Actor → Bool) (all : List Actor) (place : ℕ) → length all ≤ place → first_ready ready (drop place all) ≡ None
 unfolding first_ready
-pass_spent ready all place past = rw (left_none all place past) refl
+pass_spent ready all place past = rw (drop_all place all past) refl
 
 -- THE CHOICE
 
@@ -80,4 +80,4 @@ by_spent ready all place found past same = ap from_pass (sym (pass_spent ready a
 -- behind all runs no word is left
 pub no_words : (runs : List ActorRun) → words_from 0 (drop (length runs) runs) ≡ []
 unfolding words_from
-no_words runs = rw (left_none runs (length runs) (omega arith)) refl
+no_words runs = rw (drop_all (length runs) runs (omega arith)) refl

@@ -3,12 +3,12 @@ use Rattle.std.proofs.Common.{◌≡◌, ◌≤◌, ◌<◌, ℕ, zero, suc, ◌
 use Rattle.std.specs.Prelude.{nat_lt}
 use Rattle.std.specs.List.{slice_get, repeat}
 use Rattle.std.proofs.lemmas.Bool.{and_parts, ltb-true, ltb-false}
+use Rattle.std.proofs.lemmas.List.{drop_all}
 use Rattle.script_text.specs.declared.actor.Actor.{Actor}
 use Rattle.plan_words.specs.declared.runs.ActorRun.{ActorRun}
 use Rattle.migration_program.specs.Orders.{Found, first_ready}
 use Rattle.turn_book.proofs.Clients.{left_here}
 use Rattle.plan_replays.specs.WholeReplay.Places.{words_of_runs, words_from, by_word}
-use Rattle.plan_replays.proofs.WholeReplay.Lists.{left_none}
 
 pub words_whole : (runs : List ActorRun) → words_from 0 runs ≡ words_of_runs runs
 unfolding words_from
@@ -54,7 +54,7 @@ run_passed ready used index runs run is none =
 -- no word is left
 words_spent : (ready : Actor → Bool) (used index : ℕ) (runs : List ActorRun) → length runs ≤ index → first_ready ready (words_from used (drop index runs)) ≡ None
 unfolding words_from first_ready
-words_spent ready used index runs past = rw (left_none runs index past) refl
+words_spent ready used index runs past = rw (drop_all index runs past) refl
 
 -- THE CHOICE
 

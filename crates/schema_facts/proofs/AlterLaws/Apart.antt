@@ -7,8 +7,8 @@ use Rattle.gho_values.specs.GhoSchema.Names.{same_name}
 use Rattle.gho_values.specs.SchemaRules.Names.{is_among, differ_from, names_differ}
 use Rattle.gho_values.proofs.SchemaRules.Lists.{position-some}
 use Rattle.alter_schema.specs.Columns.{column_place, has_column}
-use Rattle.std.proofs.lemmas.Bool.{not-true, or_parts, and_parts}
-use Rattle.std.proofs.Math.Bool.{or_assoc}
+use Rattle.std.proofs.lemmas.Bool.{not-true, or_from, or_parts, and_parts}
+use Rattle.std.proofs.Math.Bool.{or_assoc, or-false}
 use Rattle.gho_values.proofs.SchemaRules.SameNames.{other_name-turned}
 
 -- ---- names
@@ -89,22 +89,14 @@ no_column columns name e = no_column-by columns name (list_any (is_called name) 
 abbrev IsNoneOf : List (List ℕ) → Column → Type 0
 IsNoneOf before column = is_among before column.name ≡ false
 
-or_none : (b : Bool) → (b || false) ≡ b
-or_none true = refl
-or_none false = refl
-
 among-end : (before : List (List ℕ)) (own name : List ℕ) → is_among (before ++ own ∷ []) name ≡ (is_among before name || same_name own name)
 unfolding is_among
-among-end [] own name = or_none (same_name own name)
+among-end [] own name = or-false (same_name own name)
 among-end (b ∷ before) own name = ap (λ (t : Bool). same_name b name || t) (among-end before own name) ∙ sym (or_assoc (same_name b name) (list_any (λ known. same_name known name) before) (same_name own name))
-
-both_not : (a b : Bool) → a ≡ false → b ≡ false → (a || b) ≡ false
-both_not true b e f = absurd cc
-both_not false b e f = f
 
 none-further : (before : List (List ℕ)) (own : List ℕ) (columns : List Column) → AllByRecursion (IsNoneOf before) columns → AllByRecursion (IsNot own) columns → AllByRecursion (IsNoneOf (before ++ own ∷ [])) columns
 none-further before own [] all others = tt
-none-further before own (c ∷ columns) all others = (among-end before own c.name ∙ both_not (is_among before c.name) (same_name own c.name) all.0 (other_name-turned c.name own others.0), none-further before own columns all.1 others.1)
+none-further before own (c ∷ columns) all others = (among-end before own c.name ∙ or_from (is_among before c.name) (same_name own c.name) all.0 (other_name-turned c.name own others.0), none-further before own columns all.1 others.1)
 
 none-nearer : (before : List (List ℕ)) (own : List ℕ) (columns : List Column) → AllByRecursion (IsNoneOf (before ++ own ∷ [])) columns → AllByRecursion (IsNoneOf before) columns × AllByRecursion (IsNot own) columns
 none-nearer before own [] all = (tt, tt)

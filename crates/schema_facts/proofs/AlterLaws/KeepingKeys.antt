@@ -2,7 +2,8 @@
 use Rattle.std.proofs.Common.{◌≡◌, ℕ, zero, suc, Bool, true, false, not, ◌&&◌, ◌||◌, eqb, List, [], ◌∷◌, length, Option, Some, None, Ok, refl, sym, ap, subst, ◌∙◌}
 use Rattle.std.specs.List.{list_all, list_any, slice_get, AllByRecursion}
 use Rattle.std.specs.Ordering.{is_eq}
-use Rattle.std.proofs.lemmas.Bool.{eqb-true, and_parts, not-false, or_right}
+use Rattle.std.proofs.lemmas.Bool.{eqb-true, and_parts, not-false}
+use Rattle.std.proofs.lemmas.Map.Keys.{any_passes_from_place}
 use Rattle.gho_values.specs.declared.value.Value.{Value}
 use Rattle.gho_values.specs.Comparing.{compare_keys}
 use Rattle.gho_values.specs.declared.gho_schema.schema.Index.{Index}
@@ -72,11 +73,6 @@ pub any-item : (test : Index → Bool) (xs : List Index) → list_any test xs �
 any-item test [] e = absurd cc
 any-item test (x ∷ xs) e = any-cons test x xs (test x) refl (any-item test xs) e
 
-pub any-at : (test : Index → Bool) (xs : List Index) (place : ℕ) (x : Index) → slice_get xs place ≡ Some x → test x ≡ true → list_any test xs ≡ true
-any-at test [] place x e h = absurd cc
-any-at test (y ∷ xs) zero x e h = let same : y ≡ x = cc in rw (same, h) refl
-any-at test (y ∷ xs) (suc place) x e h = or_right (test y) (list_any test xs) (any-at test xs place x e h)
-
 abbrev pub clashes : List Value → List Value → Index → Bool
 clashes a b index = is_eq (compare_keys (key_of index.places a) (key_of index.places b)) && no_null (key_of index.places a)
 
@@ -87,7 +83,7 @@ stay_apart approve schema clauses new a b made other lawful e is also image_a im
     let first : key_of found.item.places made ≡ key_of s.old.places a = s.keeps a made is image_a in
     let second : key_of found.item.places other ≡ key_of s.old.places b = s.keeps b other also image_b in
     let clash_old : clashes a b s.old ≡ true = subst (λ (k : List Value). (is_eq (compare_keys k (key_of s.old.places b)) && no_null k) ≡ true) first (subst (λ (k : List Value). (is_eq (compare_keys (key_of found.item.places made) k) && no_null (key_of found.item.places made)) ≡ true) second found.passes) in
-    any-at (clashes a b) schema.uniques s.place s.old s.stands clash_old
+    any_passes_from_place (clashes a b) schema.uniques s.place s.old s.stands clash_old
 
 -- ---- the clustered key
 

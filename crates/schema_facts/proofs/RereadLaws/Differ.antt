@@ -1,14 +1,15 @@
 -- Names that differ: each is found at its own place.
-use Rattle.std.proofs.Common.{◌≡◌, ℕ, zero, suc, ◌+◌, ◌<◌, Bool, true, false, not, ◌&&◌, ◌||◌, cond, List, [], ◌∷◌, ◌++◌, length, Option, Some, None, refl, sym, ap, subst, ◌∙◌, map, arith}
+use Rattle.std.proofs.Common.{◌≡◌, ℕ, zero, suc, ◌+◌, ◌<◌, true, false, not, ◌&&◌, ◌||◌, cond, List, [], ◌∷◌, ◌++◌, length, Option, Some, None, refl, sym, ap, subst, ◌∙◌, map, arith}
 use Rattle.std.specs.Prelude.{position}
 use Rattle.std.specs.Char.{to_ascii_lowercase}
 use Rattle.std.specs.List.{list_any, slice_get, prefix_len, position_or_len, AllByRecursion}
-use Rattle.std.proofs.lemmas.Bool.{not-true, lt-ltb, and_parts, or_parts, or_right}
+use Rattle.std.proofs.lemmas.Bool.{not-true, lt-ltb, and_parts, or_left, or_parts, or_right}
+use Rattle.std.proofs.lemmas.List.Folds.{list_any-append}
+use Rattle.std.proofs.lemmas.Option.{slice_get_within}
 use Rattle.std.proofs.lemmas.Slice.Eq.{bytes_eq-Decides}
 use Rattle.gho_values.specs.GhoSchema.Names.{same_name}
 use Rattle.gho_values.specs.SchemaRules.Names.{is_among, differ_from, names_differ, place_of}
 use Rattle.gho_values.proofs.SchemaRules.Lists.{All-at, All-weaker}
-use Rattle.gho_values.proofs.SchemaRules.Steps.{first_or}
 use Rattle.gho_values.proofs.SchemaRules.SameNames.{same_name-own, same_name-turned, other_name-turned}
 
 -- ---- pairs of names
@@ -18,26 +19,18 @@ abbrev pub Differ : List (List ℕ) → Type 0
 Differ [] = Unit {0}
 Differ (name ∷ names) = AllByRecursion (λ other. same_name name other ≡ false) names × Differ names
 
-any-joined : (a b c d : Bool) → b ≡ (c || d) → (a || b) ≡ ((a || c) || d)
-any-joined true b c d e = refl
-any-joined false b c d e = e
-
-pub any-append : {X : Type 0} (test : X → Bool) (xs ys : List X) → list_any test (xs ++ ys) ≡ (list_any test xs || list_any test ys)
-any-append test [] ys = refl
-any-append test (x ∷ xs) ys = any-joined (test x) (list_any test (xs ++ ys)) (list_any test xs) (list_any test ys) (any-append test xs ys)
-
 -- a name that is none of these and one more is none of these, and not that one
 none-more : (before : List (List ℕ)) (name other : List ℕ) → is_among (before ++ name ∷ []) other ≡ false → (is_among before other ≡ false) × (same_name name other ≡ false)
 unfolding is_among
 none-more before name other e =
-    let apart = sym (any-append (λ (known : List ℕ). same_name known other) before (name ∷ [])) ∙ e in
+    let apart = sym (list_any-append (λ (known : List ℕ). same_name known other) before (name ∷ [])) ∙ e in
     let two = or_parts (list_any (λ (known : List ℕ). same_name known other) before) (same_name name other || false) apart in
     (two.0, (or_parts (same_name name other) false two.1).0)
 
 more-none : (before : List (List ℕ)) (name other : List ℕ) → is_among before other ≡ false → same_name name other ≡ false → is_among (before ++ name ∷ []) other ≡ false
 unfolding is_among
 more-none before name other none differs =
-    any-append (λ (known : List ℕ). same_name known other) before (name ∷ []) ∙ rw (none, differs) refl
+    list_any-append (λ (known : List ℕ). same_name known other) before (name ∷ []) ∙ rw (none, differs) refl
 
 record Parted (before names : List (List ℕ)) : Type 0 where
   pub others : AllByRecursion (λ name. is_among before name ≡ false) names
@@ -82,16 +75,11 @@ first-place (known ∷ names) (suc place) name differ at =
     let one : 1 + place ≡ suc place = omega arith in
     rw (other, rest) one
 
-within : {X : Type 0} (xs : List X) (place : ℕ) (x : X) → slice_get xs place ≡ Some x → place < length xs
-within [] place x e = absurd cc
-within (y ∷ xs) zero x e = omega arith
-within (y ∷ xs) (suc place) x e = let less = within xs place x e in omega (arith, less)
-
 pub place-own : (names : List (List ℕ)) (place : ℕ) (name : List ℕ) → Differ names → slice_get names place ≡ Some name → place_of names name ≡ Some place
 unfolding place_of
 place-own names place name differ at =
     let first = first-place names place name differ at in
-    let less : position_or_len (λ known. same_name known name) names < length names = let here = within names place name at in omega (arith, here, first) in
+    let less : position_or_len (λ known. same_name known name) names < length names = let here = slice_get_within names place name at in omega (arith, here, first) in
     rw (lt-ltb _ _ less) (ap (λ (n : ℕ). Some n) first)
 
 -- a name that stands is among the names
@@ -100,7 +88,7 @@ unfolding is_among
 among-own [] place name at = absurd cc
 among-own (known ∷ names) zero name at =
     let same : known ≡ name = cc in
-    first_or (same_name known name) (list_any (λ known. same_name known name) names) (subst (λ (n : List ℕ). same_name known n ≡ true) same (same_name-own known))
+    or_left (same_name known name) (list_any (λ known. same_name known name) names) (subst (λ (n : List ℕ). same_name known n ≡ true) same (same_name-own known))
 among-own (known ∷ names) (suc place) name at = or_right (same_name known name) (list_any (λ known. same_name known name) names) (among-own names place name at)
 
 -- ---- taken together again

@@ -2,6 +2,7 @@
 use Rattle.std.proofs.Common.{◌≡◌, ℕ, ◌+◌, ◌<◌, ◌≤◌, Bool, true, false, not, ◌&&◌, ◌||◌, cond, ltb, List, [], ◌∷◌, ◌++◌, length, Option, Some, None, Result, Ok, Err, refl, sym, ap, subst, ◌∙◌, map, arith, append_assoc, length-append}
 use Rattle.std.specs.Prelude.{is_some, is_none, filter, fold, count_by}
 use Rattle.std.specs.List.{filter_map, cons_option, list_all, AllByRecursion}
+use Rattle.std.proofs.Math.Bool.{or-true}
 use Rattle.std.proofs.lemmas.Bool.{ltb-false, not-false, and_parts, or_parts}
 use Rattle.std.proofs.lemmas.List.{length-map}
 use Rattle.std.proofs.lemmas.List.Elements.{filter-append, filter_map-append}
@@ -28,7 +29,8 @@ use Rattle.schema_text.specs.Declaring.{column_names, size_reasons, are_known, n
 use Rattle.gho_values.specs.SchemaRules.Defaults.{stored, stored_default, defaults_fit, default_or}
 use Rattle.gho_values.specs.SchemaRules.Names.{names_differ}
 use Rattle.schema_text.specs.Keys.{key_name, no_keys, with_key, named_keys}
-use Rattle.gho_values.specs.SchemaRules.Limits.{is_column_name, is_tool_name, is_table_name, is_reserved}
+use Rattle.gho_values.specs.SchemaRules.Limits.{is_column_name, is_table_name, is_reserved}
+use Rattle.gho_values.specs.ToolNames.{is_tool_name}
 use Rattle.schema_text.specs.Parts.{parts_of}
 use Rattle.schema_text.specs.Reading.{schema_at}
 use Rattle.schema_text.specs.Written.{written}
@@ -82,12 +84,8 @@ null-has : (nullable : Bool) → (not nullable || is_some (cond nullable (Some N
 null-has true = refl
 null-has false = refl
 
-or_true : (b : Bool) → (b || true) ≡ true
-or_true true = refl
-or_true false = refl
-
 stored-has : (nullable : Bool) (r : Result Value Unfit) (default : Option Value) → stored r ≡ Ok default → (not nullable || is_some default) ≡ true
-stored-has nullable (Ok value) default e = subst (λ (d : Option Value). (not nullable || is_some d) ≡ true) (ok_is {C = Unfit} (Some value) default e) (or_true (not nullable))
+stored-has nullable (Ok value) default e = subst (λ (d : Option Value). (not nullable || is_some d) ≡ true) (ok_is {C = Unfit} (Some value) default e) (or-true (not nullable))
 stored-has nullable (Err reason) default e = absurd cc
 
 pub default-has : (kind : Kind) (nullable : Bool) (written default : Option Value) → stored_default kind nullable written ≡ Ok default → (not nullable || is_some default) ≡ true

@@ -28,7 +28,8 @@ use Rattle.gho_values.specs.SchemaRules.Defaults.{stored_default, defaults_fit, 
 use Rattle.gho_values.specs.SchemaRules.Names.{is_among, names_differ, place_of, places_of}
 use Rattle.schema_text.specs.Keys.{named_keys}
 use Rattle.gho_values.specs.SchemaRules.Lawful.{StoresDefault, IsColumn, IsKey, IsNotNull, IsLawful}
-use Rattle.gho_values.specs.SchemaRules.Limits.{is_column_name, is_tool_name, is_table_name, is_reserved}
+use Rattle.gho_values.specs.SchemaRules.Limits.{is_column_name, is_table_name, is_reserved}
+use Rattle.gho_values.specs.ToolNames.{is_tool_name}
 use Rattle.schema_print.specs.Printing.{column_name}
 use Rattle.schema_text.specs.Reading.{schema_at}
 use Rattle.schema_facts.proofs.Columns.{made}

@@ -2,6 +2,7 @@
 use Rattle.std.proofs.Common.{◌≡◌, ℕ, zero, suc, Bool, true, false, ◌||◌, cond, List, [], ◌∷◌, length, Option, Some, None, Result, Ok, Err, refl, ap, subst, ◌∙◌, codes}
 use Rattle.std.specs.Prelude.{ℤ}
 use Rattle.std.specs.List.{AllByRecursion}
+use Rattle.std.proofs.lemmas.Option.{cond_some}
 use Rattle.gho_values.specs.declared.kind.Kind.{Kind}
 use Rattle.gho_values.specs.declared.kind.Kind.TheVariants.{Int, VarChar, VarBinary}
 use Rattle.gho_values.specs.declared.value.Value.{Value}
@@ -24,7 +25,7 @@ use Rattle.table_words.specs.Reads.{Read}
 use Rattle.table_words.specs.Scope.{mismatch}
 use Rattle.table_words.specs.Tokens.{is_keyword, same_sign, is_sign}
 use Rattle.gho_values.proofs.SchemaRules.Lists.{All-append}
-use Rattle.gho_values.proofs.SchemaRules.Steps.{bind_ok, ok_is, there, some_is, some_if}
+use Rattle.gho_values.proofs.SchemaRules.Steps.{bind_ok, ok_is, there, some_is}
 use Rattle.schema_facts.specs.PrintLaws.Laws.{CanQuote}
 use Rattle.schema_facts.proofs.RereadLaws.Sound.{Sound, AreSound}
 use Rattle.schema_facts.proofs.RereadLaws.SoundValues.{name-sound, SoundValue, literal-sound}
@@ -102,7 +103,7 @@ abbrev pub SomeSound : Option (List Token) → Type 0
 SomeSound o = (rest : List Token) → o ≡ Some rest → AreSound rest
 
 if-sound : (b : Bool) (rest : List Token) → AreSound rest → SomeSound (cond b (Some rest) None)
-if-sound b rest sound other e = let p = some_if b rest other e in subst AreSound p.1 sound
+if-sound b rest sound other e = let p = cond_some b rest other e in subst AreSound p.1 sound
 
 pub behind_keyword-sound : (keyword : List ℕ) (words : List Token) → AreSound words → SomeSound (behind_keyword keyword words)
 unfolding behind_keyword

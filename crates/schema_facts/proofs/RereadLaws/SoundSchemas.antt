@@ -1,5 +1,5 @@
 -- Every schema that is read of a text can be printed.
-use Rattle.std.proofs.Common.{◌≡◌, ℕ, zero, suc, ◌+◌, ◌-◌, ◌*◌, ◌/◌, ◌%◌, ◌^◌, ◌<◌, ◌≤◌, Bool, true, false, not, ◌&&◌, cond, eqb, ltb, leb, List, [], ◌∷◌, ◌++◌, length, Option, Some, None, unwrap_or, Result, Ok, Err, refl, sym, ap, subst, ◌∙◌, map, arith, lit<, codes}
+use Rattle.std.proofs.Common.{◌≡◌, ℕ, zero, suc, ◌+◌, ◌-◌, ◌*◌, ◌/◌, ◌%◌, ◌^◌, ◌<◌, ◌≤◌, Bool, true, false, not, ◌&&◌, cond, eqb, ltb, List, [], ◌∷◌, ◌++◌, length, Option, Some, None, unwrap_or, Result, Ok, Err, refl, sym, ap, subst, ◌∙◌, map, arith, lit<, codes}
 use Rattle.std.specs.Prelude.{ℤ, pos, negsuc, neg_ℤ, int_le, unsigned_abs, nat_le, filter, find, fold, is_none}
 use Rattle.std.specs.Fmt.{digit_glyph, digits_onto, digits, decimal, signed_decimal}
 use Rattle.std.specs.List.{AllByRecursion}
@@ -47,7 +47,7 @@ use Rattle.schema_facts.proofs.RereadLaws.Sound.{AreBytes, text-sound}
 use Rattle.schema_facts.proofs.RereadLaws.SoundValues.{SoundValue}
 use Rattle.schema_facts.proofs.RereadLaws.SoundReaders.{AreNames, SoundName, SoundKey}
 use Rattle.schema_facts.proofs.RereadLaws.SoundTables.{SoundDefault, SoundColumn, SoundItem, SoundTable, written-sound}
-use Rattle.std.proofs.lemmas.Bool.{and_parts}
+use Rattle.std.proofs.lemmas.Bool.{and_parts, leb-true}
 
 -- ---- decimal digits
 
@@ -163,16 +163,13 @@ next-half n h a b le lt big = omega arith
 big : 2 * 2 ^ 64 < 10 ^ 38
 big = lit< tt
 
-at-most : (n h : ℕ) → leb n h ≡ true → n ≤ h
-at-most n h e = grind (arith, nat_tests, e)
-
 above-lowest : (h n : ℕ) → int_le (neg_ℤ (pos h)) (negsuc n) ≡ true → n < h
 above-lowest zero n e = absurd cc
-above-lowest (suc k) n e = let le = at-most n k e in omega (arith, le)
+above-lowest (suc k) n e = let le = leb-true n k e in omega (arith, le)
 
 in-range-small : (number : ℤ) (bytes : ℕ) (unsigned : Bool) → (int_le (lowest bytes unsigned) number && int_le number (highest bytes unsigned)) ≡ true → unsigned_abs number < 10 ^ 38
-in-range-small (pos n) bytes true e = below-twice n (half bytes) (2 ^ 64) (10 ^ 38) (at-most n (2 * half bytes - 1) ((and_parts _ _ e).1)) (half-small bytes) big
-in-range-small (pos n) bytes false e = below-half n (half bytes) (2 ^ 64) (10 ^ 38) (at-most n (half bytes - 1) ((and_parts _ _ e).1)) (half-small bytes) big
+in-range-small (pos n) bytes true e = below-twice n (half bytes) (2 ^ 64) (10 ^ 38) (leb-true n (2 * half bytes - 1) ((and_parts _ _ e).1)) (half-small bytes) big
+in-range-small (pos n) bytes false e = below-half n (half bytes) (2 ^ 64) (10 ^ 38) (leb-true n (half bytes - 1) ((and_parts _ _ e).1)) (half-small bytes) big
 in-range-small (negsuc n) bytes true e = absurd cc
 in-range-small (negsuc n) bytes false e = next-half n (half bytes) (2 ^ 64) (10 ^ 38) (above-lowest (half bytes) n ((and_parts _ _ e).0)) (half-small bytes) big
 
@@ -201,8 +198,8 @@ short n le = let more : 1000 < 10 ^ 38 = lit< tt in omega arith
 
 pub kind-prints : (kind : Kind) → is_kind kind ≡ true → CanPrintKind kind
 kind-prints (Int bytes unsigned) is = tt
-kind-prints (VarChar limit) is = short limit (at-most limit 1000 ((and_parts _ _ is).1))
-kind-prints (VarBinary limit) is = short limit (at-most limit 1000 ((and_parts _ _ is).1))
+kind-prints (VarChar limit) is = short limit (leb-true limit 1000 ((and_parts _ _ is).1))
+kind-prints (VarBinary limit) is = short limit (leb-true limit 1000 ((and_parts _ _ is).1))
 
 pub default-prints : (column : Column) (default : Option Value) → SoundDefault default → StoresDefault column default → CanPrintDefault default
 default-prints column None sound stores = tt

@@ -16,7 +16,7 @@ use Rattle.table_words.specs.declared.token.Token.{Token}
 use Rattle.table_words.specs.Pieces.{literal_of}
 use Rattle.table_words.specs.Tokens.{is_keyword}
 use Rattle.gho_values.proofs.SchemaRules.Lists.{All-append}
-use Rattle.gho_values.proofs.SchemaRules.Steps.{there, some_is, some_if}
+use Rattle.gho_values.proofs.SchemaRules.Steps.{there, some_is}
 use Rattle.schema_facts.specs.PrintLaws.Laws.{CanQuote}
 use Rattle.schema_facts.proofs.RereadLaws.Sound.{AreBytes, SoundText, Sound, All-take, prefix-passes}
 use Rattle.std.proofs.lemmas.Bool.{not-true, and_parts}

@@ -2,7 +2,7 @@
 use Rattle.std.proofs.Common.{◌≡◌, ℕ, Bool, true, false, not, ◌&&◌, ◌||◌, cond, List, [], ◌∷◌, map, refl, sym, ap, ◌∙◌}
 use Rattle.std.specs.List.{list_any}
 use Rattle.std.specs.Str.{bytes_eq}
-use Rattle.std.proofs.Math.Bool.{or_assoc}
+use Rattle.std.proofs.Math.Bool.{or_assoc, or-false}
 use Rattle.std.proofs.lemmas.Cmp.{nat_list_eq_equiv}
 use Rattle.metadata_locks.specs.Granting.{has_name}
 use Rattle.row_store.specs.declared.renaming.Pair.{Pair}
@@ -10,10 +10,6 @@ use Rattle.plain_server.specs.declared.session.HeldName.{HeldName}
 use Rattle.plain_server.specs.States.{kept_names, locked_names, pair_names}
 use Rattle.plain_server.specs.Deeds.{is_beyond}
 use Rattle.session_desk.specs.SessionLocks.Names.{has_locked}
-
-pub or_false : (b : Bool) → (b || false) ≡ b
-or_false true = refl
-or_false false = refl
 
 -- a name of pairs passes a test where one of a pair does
 any_in_pairs : (test : List ℕ → Bool) (pairs : List Pair) → list_any test (pair_names pairs) ≡ list_any (λ pair. test pair.old || test pair.new) pairs
@@ -83,4 +79,4 @@ beyond_locked held names =
     ∙ ap (λ b. b && list_any (λ name. not (list_any (bytes_eq name) (locked_names held))) names) (sym (some_locked held))
     ∙ ap (λ b. list_any (λ (one : HeldName). one.exclusive) held && b) (any_alike (λ name. not (list_any (bytes_eq name) (locked_names held))) (is_free held) (λ name. ap not (locked_one held name)) names)
 
-pub ruleset mentions = (or_false, pairs_have, pairs_any)
+pub ruleset mentions = (or-false, pairs_have, pairs_any)

@@ -1,5 +1,6 @@
 -- Who holds a name, session by session.
-use Rattle.std.proofs.Common.{◌≡◌, ℕ, Bool, true, false, not, ◌&&◌, ◌||◌, nat_eq, Some, List, [], ◌∷◌, map, refl, ap, ◌∙◌, arith}
+use Rattle.std.proofs.Common.{◌≡◌, ℕ, Bool, false, not, ◌&&◌, ◌||◌, nat_eq, Some, List, [], ◌∷◌, map, refl, ap, sym, ◌∙◌, arith}
+use Rattle.std.proofs.Math.Bool.{and-false, and-or_distrib_left}
 use Rattle.std.proofs.lemmas.List.{drop_more, drop_all}
 use Rattle.std.specs.List.{list_any}
 use Rattle.std.specs.Str.{bytes_eq}
@@ -13,20 +14,12 @@ use Rattle.session_desk.proofs.SessionLocks.Leasts.{counted, not_counted, counte
 use Rattle.least_session.specs.Least.{least}
 use Rattle.least_session.proofs.Sessions.{least-least, least-none}
 
-nowhere : (own : Bool) → false ≡ (own && false)
-nowhere true = refl
-nowhere false = refl
-
-somewhere : (own here there : Bool) → ((own && here) || (own && there)) ≡ (own && (here || there))
-somewhere true here there = refl
-somewhere false here there = refl
-
 holds_one : (session : ℕ) (held : List HeldName) (number : ℕ) (name : List ℕ) (exclusive : Bool) → holds (map (name_held session) held) number name exclusive ≡ (nat_eq session number && has_held held name exclusive)
 unfolding holds
-holds_one session [] number name exclusive = nowhere (nat_eq session number)
+holds_one session [] number name exclusive = sym (and-false (nat_eq session number))
 holds_one session (one ∷ held) number name exclusive =
     ap (λ rest. (nat_eq session number && (bytes_eq one.name name && (one.exclusive || not exclusive))) || rest) (holds_one session held number name exclusive)
-    ∙ somewhere (nat_eq session number) (bytes_eq one.name name && (one.exclusive || not exclusive)) (has_held held name exclusive)
+    ∙ sym (and-or_distrib_left (nat_eq session number) (bytes_eq one.name name && (one.exclusive || not exclusive)) (has_held held name exclusive))
 
 holds_none : (number : ℕ) (name : List ℕ) (exclusive : Bool) → holds [] number name exclusive ≡ false
 unfolding holds

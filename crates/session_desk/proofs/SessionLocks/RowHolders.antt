@@ -1,6 +1,6 @@
 -- Who holds a row lock that conflicts with one, session by session.
 use Rattle.std.proofs.Common.{◌≡◌, ◌≢◌, ℕ, Bool, true, false, not, nat_eq, Some, None, List, [], ◌∷◌, ◌++◌, map, refl, ap, sym, ◌∙◌, arith}
-use Rattle.std.proofs.lemmas.Bool.Decides.{nat_tests}
+use Rattle.std.proofs.lemmas.Bool.{eq-eqb, ne_eqb}
 use Rattle.std.proofs.lemmas.List.{drop_more, drop_all}
 use Rattle.std.specs.List.{list_any}
 use Rattle.row_locks.specs.declared.lock.Lock.{Lock}
@@ -20,17 +20,11 @@ refuser_one session (other ∷ locks) number lock =
     ∙ counted_once least (λ b. refl) (λ n. refl) min_same (not (nat_eq session number)) (conflict other lock) (list_any (λ o. conflict o lock) locks) session
 
 -- the session's own locks, another's that conflict, and locks that don't
-other : (m n : ℕ) → m ≢ n → nat_eq m n ≡ false
-other m n differ = grind (arith, nat_tests)
-
-same : (m n : ℕ) → m ≡ n → nat_eq m n ≡ true
-same m n is = grind (arith, nat_tests)
-
 pub refuser_own : (session : ℕ) (locks : List Lock) (number : ℕ) (lock : Lock) → session ≡ number → None ≡ refuser_of_lock (map (held_by session) locks) number lock
-refuser_own session locks number lock is = sym (refuser_one session locks number lock ∙ rw (same session number is) refl)
+refuser_own session locks number lock is = sym (refuser_one session locks number lock ∙ rw (eq-eqb session number is) refl)
 
 pub refuser_other : (session : ℕ) (locks : List Lock) (number : ℕ) (lock : Lock) → session ≢ number → list_any (λ held. conflict held lock) locks ≡ true → Some session ≡ refuser_of_lock (map (held_by session) locks) number lock
-refuser_other session locks number lock differ some = sym (refuser_one session locks number lock ∙ rw (other session number differ, some) refl)
+refuser_other session locks number lock differ some = sym (refuser_one session locks number lock ∙ rw (ne_eqb session number differ, some) refl)
 
 no_conflict : (b : Bool) (session : ℕ) → counted b false session ≡ None
 no_conflict true session = refl

@@ -1,5 +1,6 @@
 -- Who waits for a name, and who came before.
 use Rattle.std.proofs.Common.{◌≡◌, ℕ, Bool, true, false, not, ◌&&◌, nat_eq, cond, Option, Some, None, List, [], ◌∷◌, ◌++◌, take, refl, ap, sym, ◌∙◌, position}
+use Rattle.std.proofs.Math.Bool.{and-true}
 use Rattle.std.proofs.lemmas.List.{drop_more, drop_all}
 use Rattle.std.specs.Option.{option_map}
 use Rattle.metadata_locks.specs.declared.request.Waiter.{Waiter}
@@ -50,16 +51,12 @@ ahead_first : (number : ℕ) (first : Waiter) (waiting : List Waiter) → ahead_
 unfolding place_of
 ahead_first number first waiting = ahead_if (nat_eq first.session number) first (place_of number waiting) waiting
 
-and_true : (b : Bool) → b ≡ (b && true)
-and_true true = refl
-and_true false = refl
-
 and_false : {X : Type 0} (b : Bool) (x y : X) → y ≡ cond (b && false) x y
 and_false true x y = refl
 and_false false x y = refl
 
 ahead_waits : (number : ℕ) (exclusive : Bool) (first : Waiter) (waiting : List Waiter) → ahead_of number (waits_if exclusive first ++ waiting) ≡ cond (nat_eq first.session number && exclusive) [] (waits_if exclusive first ++ ahead_of number waiting)
-ahead_waits number true first waiting = ahead_first number first waiting ∙ ap (λ b. cond b [] (first ∷ ahead_of number waiting)) (and_true (nat_eq first.session number))
+ahead_waits number true first waiting = ahead_first number first waiting ∙ ap (λ b. cond b [] (first ∷ ahead_of number waiting)) (sym (and-true (nat_eq first.session number)))
 ahead_waits number false first waiting = and_false (nat_eq first.session number) [] (ahead_of number waiting)
 
 ahead_step : (number : ℕ) (one : Waiting) (waiting : List Waiting) → ahead_of number (waiters (one ∷ waiting)) ≡ cond (is_waiter_of number one) [] (waits_for one ++ ahead_of number (waiters waiting))

@@ -4,6 +4,7 @@ use Rattle.std.specs.Prelude.{IsSome, IsSomeAnd, IfSome}
 use Rattle.std.specs.Option.{option_map}
 use Rattle.std.specs.List.{AllByRecursion, list_any}
 use Rattle.std.specs.Str.{bytes_eq}
+use Rattle.std.proofs.Math.Bool.{or-true}
 use Rattle.std.proofs.lemmas.Bool.{false≢true, true≢false}
 use Rattle.std.proofs.lemmas.List.Folds.{list_any-append}
 use Rattle.gho_values.specs.declared.gho_schema.schema.Schema.{Schema}
@@ -13,7 +14,7 @@ use Rattle.row_store.specs.Databases.{TableRows, StoredTable, Database, database
 use Rattle.plain_server.specs.Jobs.{after_events, events_of}
 use Rattle.gho_values.proofs.SchemaRules.Lists.{All-append, All-weaker}
 use Rattle.plain_server.specs.StatementLaws.Databases.{IsOrderly}
-use Rattle.plain_server.proofs.StatementLaws.Tests.{same_bytes, are_same, are_one, or_true}
+use Rattle.plain_server.proofs.StatementLaws.Tests.{same_bytes, are_same, are_one}
 use Rattle.server_data.specs.Fitting.{EventsFit}
 use Rattle.written_rows.specs.Stored.{StoredWrites}
 use Rattle.txn_session.specs.Premises.{HasSchema, IsOf}
@@ -188,7 +189,7 @@ have_new : (events : List RowEvent) (writes : TableChanges) → (length writes.c
 have_new events writes some =
     list_any-append (λ (e : RowEvent). bytes_eq e.table writes.schema.name) events (events_in writes)
     ∙ ap (λ (b : Bool). list_any (λ (e : RowEvent). bytes_eq e.table writes.schema.name) events || b) (have_first writes some)
-    ∙ or_true (list_any (λ (e : RowEvent). bytes_eq e.table writes.schema.name) events)
+    ∙ or-true (list_any (λ (e : RowEvent). bytes_eq e.table writes.schema.name) events)
 
 have_with : (events : List RowEvent) (some : List Schema) (schema : Schema) (b : Bool) → Have events some → list_any (λ (e : RowEvent). bytes_eq e.table schema.name) events ≡ true → Have events (cond b some (some ++ schema ∷ []))
 have_with events some schema true has new = has

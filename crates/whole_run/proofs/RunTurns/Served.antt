@@ -1,5 +1,6 @@
 -- What a turn on the server gives, in the words of the run.
 use Rattle.std.proofs.Common.{◌≡◌, ◌≤◌, ◌<◌, ℕ, ◌+◌, Bool, true, false, not, List, [], ◌∷◌, ◌++◌, length, Option, Some, None, refl, sym, ap, ◌∙◌, subst, append_assoc, append-nil, arith}
+use Rattle.std.proofs.Math.Path.{subst₃}
 use Rattle.std.proofs.lemmas.Bool.{true≢false, false≢true}
 use Rattle.std.proofs.lemmas.List.{length-append}
 use Rattle.row_store.specs.Databases.{Database}
@@ -211,8 +212,7 @@ module _ (plan : PlanData) (journal : List Entry) (book : Book) (sessions : ℕ)
 
 -- what holds of a plan, a journal and an entry, of those that are the same
 pub carried : (F : PlanData → List Entry → Entry → Type 0) (plan other : PlanData) (journal turns : List Entry) (entry one : Entry) → other ≡ plan → turns ≡ journal → one ≡ entry → F plan journal entry → F other turns one
-carried F plan other journal turns entry one plans journals entries is =
-    subst (λ (p : PlanData). F p turns one) (sym plans) (subst (λ (j : List Entry). F plan j one) (sym journals) (subst (F plan journal) (sym entries) is))
+carried F plan other journal turns entry one plans journals entries is = subst₃ F (sym plans) (sym journals) (sym entries) is
 
 -- THE BEGINNING
 

@@ -4,6 +4,7 @@ use Rattle.std.specs.List.{zip, All}
 use Rattle.std.proofs.lemmas.Bool.{true≢false}
 use Rattle.std.proofs.lemmas.List.{length-map, map-append}
 use Rattle.std.proofs.lemmas.List.Elements.{All-head, All-tail}
+use Rattle.std.proofs.lemmas.Simd.{map-map}
 use Rattle.plain_server.specs.Along.{Along}
 use Rattle.plain_server.specs.declared.entry.Entry.{Entry}
 use Rattle.plan_words.specs.PlanData.{PlanData}
@@ -17,10 +18,6 @@ use Rattle.worker_host.specs.WorkerRun.WorkedRuns.{turn_of, turns_of, journal_of
 zip_maps : {X A B : Type 0} (f : X → A) (g : X → B) (xs : List X) → zip (map f xs) (map g xs) ≡ map (λ x. (f x, g x)) xs
 zip_maps f g [] = refl
 zip_maps f g (x ∷ xs) = ap (λ rest. (f x, g x) ∷ rest) (zip_maps f g xs)
-
-maps_maps : {X A B : Type 0} (f : X → A) (g : A → B) (xs : List X) → map g (map f xs) ≡ map (λ x. g (f x)) xs
-maps_maps f g [] = refl
-maps_maps f g (x ∷ xs) = ap (λ rest. g (f x) ∷ rest) (maps_maps f g xs)
 
 zip_more : {A B : Type 0} (xs : List A) (ys : List B) (x : A) (y : B) → length xs ≡ length ys → zip (xs ++ x ∷ []) (ys ++ y ∷ []) ≡ zip xs ys ++ (x, y) ∷ []
 zip_more [] [] x y same = refl
@@ -40,7 +37,7 @@ paired_more list taken = map-append (λ (one : Taken Entry). (turn_of one, one.e
 
 -- the entries of the pairs are the journal
 pub paired_entries : (list : List (Taken Entry)) → map (λ (pair : Paired). pair.1) (paired_of list) ≡ journal_of list
-paired_entries list = maps_maps (λ (one : Taken Entry). (turn_of one, one.event)) (λ (pair : Paired). pair.1) list
+paired_entries list = map-map (λ (pair : Paired). pair.1) (λ (one : Taken Entry). (turn_of one, one.event)) list
 
 -- turns beside a journal are as many as its entries
 pub listed_length : (turns : List WorkerTurn) (journal : List Entry) → journal_of (listed turns journal) ≡ journal → turns_of (listed turns journal) ≡ turns → length turns ≡ length journal
@@ -100,6 +97,6 @@ along_pairs plan count before (taken ∷ list) kept below = (
 -- a list by the rule, whose workers' numbers are below their count, is in run order
 pub run_ordered : (plan : PlanData) (count : ℕ) (list : List (Taken Entry)) → Along (IsByRule plan count) [] list → All (λ taken. taken.worker < count) list → RunOrder plan (journal_of list) (turns_of list) count
 run_ordered plan count list kept below = record {
-  actors = maps_maps turn_of (λ (turn : WorkerTurn). turn.actor) list ∙ sym (maps_maps (λ (one : Taken Entry). one.event) (λ (entry : Entry). entry.actor) list);
+  actors = map-map (λ (turn : WorkerTurn). turn.actor) turn_of list ∙ sym (map-map (λ (entry : Entry). entry.actor) (λ (one : Taken Entry). one.event) list);
   each = subst (Along (IsWorkersTurn plan count) []) (sym (zip_maps turn_of (λ (one : Taken Entry). one.event) list)) (along_pairs plan count [] list kept below);
 }

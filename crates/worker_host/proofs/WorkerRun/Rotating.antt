@@ -1,9 +1,9 @@
 -- From which place a worker's rotation goes on behind a turn.
-use Rattle.std.proofs.Common.{◌≡◌, ◌≢◌, ◌<◌, ◌≤◌, ℕ, ◌+◌, ◌==◌, ◌%◌, Bool, true, false, ◌&&◌, not, List, [], ◌∷◌, ◌++◌, take, drop, length, set, replicate, cond, Option, Some, None, refl, sym, ap, ◌∙◌, subst, arith}
+use Rattle.std.proofs.Common.{◌≡◌, ◌≢◌, ◌<◌, ◌≤◌, ℕ, ◌+◌, ◌==◌, ◌%◌, Bool, true, false, ◌&&◌, not, List, [], ◌∷◌, ◌++◌, drop, length, set, replicate, cond, Option, Some, None, refl, sym, ap, ◌∙◌, subst, arith}
 use Rattle.std.specs.Prelude.{slice_index, nat_lt}
 use Rattle.std.specs.List.{slice_get}
 use Rattle.std.proofs.lemmas.Bool.{true≢false}
-use Rattle.std.proofs.Math.Seq.{drop-length, take-append_seam}
+use Rattle.std.proofs.Math.Seq.{drop-length}
 use Rattle.std.proofs.lemmas.Bool.Decides.{nat_tests}
 use Rattle.std.proofs.lemmas.Nat.{mod_below}
 use Rattle.std.proofs.lemmas.List.{get_or-set_same, get_or-set_other, get_or-replicate, get_or_past, length-replicate, length-set}
@@ -82,10 +82,6 @@ length-places_after places member place false = own (place % member.workers == m
     own : (b : Bool) → length (cond b (set places member.worker (place + 1)) places) ≡ length places
     own true = length-set places member.worker (place + 1)
     own false = refl
-
--- what is written back of them
-pub written_back : (count : ℕ) (all old : List ℕ) → count ≡ length all → take count (all ++ old) ≡ all
-written_back count all old same = ap (λ (n : ℕ). take n (all ++ old)) same ∙ take-append_seam all old
 
 module _ (plan : PlanData) (count taker place : ℕ) (actor : Actor) (places : List ℕ) (is : slice_get (actors plan) place ≡ Some actor) (there : (place % count == taker) ≡ true → taker < length places) where
   abbrev member : Member

@@ -3,6 +3,8 @@ use Rattle.std.proofs.Common.{◌≡◌, ℕ, ◌+◌, ◌==◌, ◌%◌, Bool, 
 use Rattle.std.specs.Prelude.{is_some}
 use Rattle.std.specs.List.{slice_get}
 use Rattle.std.proofs.lemmas.Bool.{true≢false, false≢true}
+use Rattle.std.proofs.lemmas.Option.{none-some}
+use Rattle.std.proofs.Math.Bool.{and-false, and-true}
 use Rattle.script_text.specs.declared.actor.Actor.{Actor}
 use Rattle.script_text.specs.declared.operator.OperatorWord.{OperatorWord}
 use Rattle.plain_server.specs.declared.entry.Asked.{Asked}
@@ -34,14 +36,11 @@ module _ (plan : PlanData) (journal : List Entry) (actor : Actor) (going : IsGoi
   all : AllTogether plan journal
   all = (all_formed plan journal going.runs.fitting kept.faithful kept.follows).all
 
-  none_some : (request : Request) → None ≡ Some request → ⊥
-  none_some request same = cc
-
   called : (request : Request) → given plan journal actor ≡ Some (Call request) → waiting ≡ false
   called request gives = by waiting refl
     where
       by : (b : Bool) → waiting ≡ b → b ≡ false
-      by true is = let with = busy_waits (state_at plan journal) (live_session journal actor) is in absurd (none_some with.request (sym (given_idle plan journal actor request all gives) ∙ with.is))
+      by true is = let with = busy_waits (state_at plan journal) (live_session journal actor) is in absurd (none-some with.request (sym (given_idle plan journal actor request all gives) ∙ with.is))
       by false is = refl
 
   polled : given plan journal actor ≡ Some Poll → waiting ≡ true
@@ -49,7 +48,7 @@ module _ (plan : PlanData) (journal : List Entry) (actor : Actor) (going : IsGoi
     where
       by : (b : Bool) → waiting ≡ b → b ≡ true
       by true is = refl
-      by false is = let with = given_waits plan journal actor all gives in absurd (none_some with.request (sym (idle_waits (state_at plan journal) (live_session journal actor) is) ∙ with.is))
+      by false is = let with = given_waits plan journal actor all gives in absurd (none-some with.request (sym (idle_waits (state_at plan journal) (live_session journal actor) is) ∙ with.is))
 
   commanded : (word : OperatorWord) → given plan journal actor ≡ Some (Command word) → waiting ≡ false
   commanded word gives = by (given_asks plan journal actor (Command word) gives)
@@ -71,23 +70,15 @@ module _ (plan : PlanData) (journal : List Entry) (actor : Actor) (going : IsGoi
 
 -- WHO IS SOUGHT
 
-and_false : (b : Bool) → (b && false) ≡ false
-and_false true = refl
-and_false false = refl
-
-and_true : (b : Bool) → (b && true) ≡ b
-and_true true = refl
-and_true false = refl
-
 unready_poll : (asked : Option Asked) → is_some asked ≡ false → is_poll asked ≡ false
 unready_poll None none = refl
 unready_poll (Some asked) none = absurd (true≢false none)
 
 -- who isn't ready isn't sought
 pub unready_sought : (plan : PlanData) (journal : List Entry) (own : List Actor) (actor : Actor) (sought : Sought) → is_ready plan journal actor ≡ false → false ≡ is_sought sought plan journal own actor
-unready_sought plan journal own actor Own none = sym (ap (λ b. is_among actor own && b) none ∙ and_false (is_among actor own))
-unready_sought plan journal own actor Idle none = sym (ap (λ b. not (is_among actor own) && (b && not (is_poll (given plan journal actor)))) none ∙ and_false (not (is_among actor own)))
-unready_sought plan journal own actor Waiting none = sym (ap (λ b. not (is_among actor own) && b) (unready_poll (given plan journal actor) none) ∙ and_false (not (is_among actor own)))
+unready_sought plan journal own actor Own none = sym (ap (λ b. is_among actor own && b) none ∙ and-false (is_among actor own))
+unready_sought plan journal own actor Idle none = sym (ap (λ b. not (is_among actor own) && (b && not (is_poll (given plan journal actor)))) none ∙ and-false (not (is_among actor own)))
+unready_sought plan journal own actor Waiting none = sym (ap (λ b. not (is_among actor own) && b) (unready_poll (given plan journal actor) none) ∙ and-false (not (is_among actor own)))
 
 -- the actor at a place is the worker's own exactly where the place is
 pub owned_place : (plan : PlanData) (count worker place : ℕ) (actor : Actor) → slice_get (actors plan) place ≡ Some actor → is_among actor (owned plan count worker) ≡ (place % count == worker)
@@ -103,7 +94,7 @@ module _ (plan : PlanData) (journal : List Entry) (count worker place : ℕ) (ac
 
   -- an own one is, where it is ready
   pub own_sought : is_ready plan journal actor ≡ true → b ≡ is_sought Own plan journal (owned plan count worker) actor
-  own_sought ready = sym (ap (λ r. own && r) ready ∙ and_true own ∙ own_is)
+  own_sought ready = sym (ap (λ r. own && r) ready ∙ and-true own ∙ own_is)
 
   -- an own one isn't sought among others
   pub own_unidle : b ≡ true → false ≡ is_sought Idle plan journal (owned plan count worker) actor

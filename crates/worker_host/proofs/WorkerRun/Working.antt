@@ -1,9 +1,9 @@
 -- A run by workers stays one with a turn more.
-use Rattle.std.proofs.Common.{◌≡◌, ◌⊎◌, ◌≤◌, ◌<◌, ℕ, zero, suc, ◌+◌, ◌-◌, ◌==◌, ◌%◌, Bool, true, false, ◌||◌, List, [], ◌∷◌, ◌++◌, length, replicate, Option, Some, None, refl, sym, ap, ◌∙◌, subst, inl, inr, arith}
+use Rattle.std.proofs.Common.{◌≡◌, ◌⊎◌, ◌≤◌, ◌<◌, ℕ, zero, suc, ◌+◌, ◌-◌, ◌==◌, ◌%◌, Bool, true, false, List, [], ◌∷◌, ◌++◌, length, replicate, Option, Some, None, refl, sym, ap, ◌∙◌, subst, inl, inr, arith}
 use Rattle.std.specs.Prelude.{◌↔◌, slice_index, nat_le}
 use Rattle.std.specs.Option.{option_map}
 use Rattle.std.specs.List.{slice_get}
-use Rattle.std.proofs.lemmas.Bool.{true≢false, leb-false}
+use Rattle.std.proofs.lemmas.Bool.{true≢false, leb-false, or_parts}
 use Rattle.std.proofs.lemmas.Nat.{mod_below}
 use Rattle.std.proofs.lemmas.List.{length-append, length-replicate}
 use Rattle.script_text.specs.declared.actor.Actor.{Actor}
@@ -248,11 +248,7 @@ worked_begins run workers used spare places going none server some many room are
 
 none_by : (run : RunView) → is_over run.plan run.journal ≡ false → (has_ended run.plan run.journal ≡ false) × (nat_le run.plan.options.turn_limit (length run.journal) ≡ false)
 unfolding is_over
-none_by run going = by (has_ended run.plan run.journal) (nat_le run.plan.options.turn_limit (length run.journal)) going
-  where
-    by : (ended full : Bool) → (ended || full) ≡ false → (ended ≡ false) × (full ≡ false)
-    by true full none = absurd (true≢false none)
-    by false full none = (refl, none)
+none_by run going = or_parts (has_ended run.plan run.journal) (nat_le run.plan.options.turn_limit (length run.journal)) going
 
 module _ (run : RunView) (workers : ℕ) (noted : List WorkerTurn) (used spare : ℕ) (places : List ℕ) (short : Bool) (is : IsWorked run workers noted used spare places short) where
   abbrev seen : WorkedView

@@ -1,7 +1,7 @@
--- The digits of numbers: tests that each passes, and that they tell the number.
-use Rattle.std.proofs.Common.{◌≡◌, ◌∙◌, ℕ, ◌<◌, ◌≤◌, ◌^◌, Bool, true, List, [], ◌∷◌, ◌++◌, length, refl, sym, ap, arith, rules, lit<}
+-- The digits of numbers: how many there are, and tests that each passes.
+use Rattle.std.proofs.Common.{◌≡◌, ◌∙◌, ℕ, ◌<◌, ◌≤◌, ◌^◌, Bool, true, List, [], ◌∷◌, ◌++◌, length, refl, arith, rules, lit<}
 use Rattle.std.proofs.lemmas.Bool.{and_from, and_parts}
-use Rattle.std.proofs.lemmas.Fmt.{digits_decimal, digits_value-decimal, length-decimal-le}
+use Rattle.std.proofs.lemmas.Fmt.{digits_decimal, length-decimal-le}
 use Rattle.std.proofs.lemmas.List.Folds.{list_all-append}
 use Rattle.std.proofs.lemmas.Str.Parse.{IsNumeralModel, numerals_by_value}
 use Rattle.std.specs.Char.{is_ascii_digit}
@@ -17,10 +17,6 @@ are_digits n wide = digits_decimal numerals n wide
 
 pub few_digits : (n : ℕ) → n < 2 ^ 64 → length (decimal n) ≤ 20
 few_digits n wide = let more : 2 ^ 64 < 10 ^ 20 = lit< tt in length-decimal-le 20 n (omega arith) (omega arith) wide
-
--- numbers with the same digits are one
-pub same_number : (m n : ℕ) → m < 2 ^ 64 → n < 2 ^ 64 → decimal m ≡ decimal n → m ≡ n
-same_number m n wide also same = sym (digits_value-decimal numerals m wide) ∙ ap (digits_value 10) same ∙ digits_value-decimal numerals n also
 
 -- a test that each digit passes
 abbrev pub IsPassedByDigits : (ℕ → Bool) → Type 0

@@ -1,7 +1,6 @@
 -- An accepted plan, part by part.
-use Rattle.std.proofs.Common.{◌≡◌, ◌≤◌, ℕ, Bool, true, false, ◌||◌, cond, nat_lt, List, [], length, Result, Ok, Err, sym, ap, subst, arith}
-use Rattle.std.proofs.lemmas.Bool.{or_parts}
-use Rattle.std.proofs.lemmas.Bool.Decides.{nat_tests}
+use Rattle.std.proofs.Common.{◌≡◌, ◌≤◌, ℕ, Bool, true, false, ◌||◌, cond, nat_lt, List, [], length, Result, Ok, Err, sym, ap, subst}
+use Rattle.std.proofs.lemmas.Bool.{or_parts, ltb-false}
 use Rattle.std.specs.Result.{result_ok}
 use Rattle.toml.specs.Data.{Members}
 use Rattle.gho_values.specs.Laws.{StoresAgain}
@@ -54,9 +53,6 @@ keeps_rows laws approve schema clauses new lawful is = record {
 
 -- ---- the clients
 
-at_most : (limit count : ℕ) → nat_lt limit count ≡ false → count ≤ limit
-at_most limit count is = grind (arith, nat_tests)
-
 -- the keys of a plan have at most 64 clients
 few_keys : (keys kept : KeyData) → few keys ≡ Ok kept → length kept.texts.clients ≤ CLIENT_LIMIT
 few_keys keys kept is =
@@ -65,7 +61,7 @@ few_keys keys kept is =
     let before : Bool = nat_lt TABLE_LIMIT (length keys.texts.tables) || nat_lt ROW_LIMIT (row_count keys.texts.tables) in
     let others = or_parts (before || clients) (nat_lt FAULT_LIMIT (length keys.texts.faults)) parts.0 in
     let few = or_parts before clients others.0 in
-    subst (λ (k : KeyData). length k.texts.clients ≤ CLIENT_LIMIT) parts.1 (at_most CLIENT_LIMIT (length keys.texts.clients) few.1)
+    subst (λ (k : KeyData). length k.texts.clients ≤ CLIENT_LIMIT) parts.1 (ltb-false CLIENT_LIMIT (length keys.texts.clients) few.1)
 
 pub past : {A C : Type 0} (b : Bool) (code : C) (other : Result A C) (y : A) → cond b (Err code) other ≡ Ok y → other ≡ Ok y
 past true code other y is = absurd (cc)

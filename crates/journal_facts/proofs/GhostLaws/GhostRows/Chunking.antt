@@ -1,7 +1,7 @@
 -- The chunk's and the batch's ends, and the start, keep the ghost relation.
 use Rattle.std.proofs.Common.{◌≡◌, ℕ, Bool, true, false, not, ◌&&◌, ◌||◌, List, [], ◌∷◌, map, find, filter, cond, Option, Some, None, Ordering, Less, Equal, Greater, refl, sym, ap, ◌∙◌, subst, ◌⊎◌, inl, inr}
 use Rattle.std.specs.Ordering.{is_lt, is_le, ordering_reverse}
-use Rattle.std.proofs.lemmas.Bool.{and_parts, or_left}
+use Rattle.std.proofs.lemmas.Bool.{and_parts, not-true, or_left}
 use Rattle.std.specs.Cmp.Derive.{both_true}
 use Rattle.gho_values.specs.declared.span.Bound.{Bound}
 use Rattle.gho_values.specs.declared.span.Bound.TheVariants.{Open, Closed}
@@ -74,10 +74,6 @@ in_second : (a b c : Bool) → b ≡ true → c ≡ false → (a || (b && not c)
 in_second true b c is free = refl
 in_second false b c is free = rw (is, free) refl
 
-not_done : (b : Bool) → not b ≡ true → b ≡ false
-not_done true is = absurd (let no : false ≡ true = is in cc)
-not_done false is = refl
-
 -- *The chunk begins*: its keys are those of the rows in its span.
 pub chunk_begins : (m : Migration) (rows : List Row) (log : List RowEvent) (half : Row → Bool) (progress : Progress Row) (ghost : GhostRows) (keys : List Row) (low : Bound) (high top : Row)
     → keys ≡ map (key_of (key_places m.schema)) (filter (λ row. has (record { low = low; high = Closed high }) (key_of (key_places m.schema) row)) (rows_at m.name (key_places m.schema) rows log progress.end))
@@ -94,7 +90,7 @@ chunk_begins m rows log half progress ghost keys low high top are_keys are =
         done_or_left (Some (record { low = low; high = Closed top })) key (has (record { low = low; high = Closed top }) key) refl
         (λ was. true_false (is_among keys key)
         (subst (λ ks. is_among ks key ≡ true) (sym are_keys)
-        (among_rows (record { low = low; high = Closed high }) (key_places m.schema) key row (rows_at m.name (key_places m.schema) rows log progress.end) (in_chunk low high top key was (not_done (has (record { low = Open high; high = Closed top }) key) new.0)) there)) new.1)
+        (among_rows (record { low = low; high = Closed high }) (key_places m.schema) key row (rows_at m.name (key_places m.schema) rows log progress.end) (in_chunk low high top key was (not-true (has (record { low = Open high; high = Closed top }) key) new.0)) there)) new.1)
 
 -- *The chunk is committed*: the copier took each of its keys.
 pub chunk_is_done : (m : Migration) (rows : List Row) (log : List RowEvent) (half : Row → Bool) (progress : Progress Row) (ghost : GhostRows) (left behind : Option Span) (keys : List Row) → progress.copier_holds ≡ is_among keys

@@ -1,6 +1,7 @@
 -- A client's commit, the start and the end.
-use Rattle.std.proofs.Common.{◌≡◌, ℕ, ◌≤◌, Bool, true, false, not, List, [], ◌∷◌, ◌++◌, find, length, Option, Some, None, Ok, refl, sym, ap, ◌∙◌, subst, arith, length-append}
+use Rattle.std.proofs.Common.{◌≡◌, ℕ, ◌≤◌, Bool, true, false, List, [], ◌∷◌, ◌++◌, find, length, Option, Some, None, Ok, refl, sym, ap, ◌∙◌, subst, arith, length-append}
 use Rattle.std.specs.List.{AllByRecursion}
+use Rattle.std.proofs.lemmas.Bool.{not-true}
 use Rattle.gho_values.specs.declared.span.Span.{Span}
 use Rattle.gho_values.specs.declared.gho_schema.schema.Schema.{Schema}
 use Rattle.gho_values.specs.GhoSchema.Rows.{key_of, key_places}
@@ -48,10 +49,6 @@ outside left places key (row ∷ rows) all out = (not_here (is_at places key row
     not_here true at = true_false (is_left left key) (subst (λ k. is_left left k ≡ true) (sym (key_is places key row at)) all.0) out
     not_here false at = refl
 
-not_left : (b : Bool) → not b ≡ true → b ≡ false
-not_left true is = absurd (let no : false ≡ true = is in cc)
-not_left false is = refl
-
 none_yet : (places : List ℕ) (key : Row) → find (is_at places key) (rows_after_all places [] []) ≡ None
 unfolding rows_after_all
 none_yet places key = refl
@@ -64,7 +61,7 @@ start_follows m rows log left progress same before free all =
     starts_all (timeline_of m rows log) (is_done left) progress (views_of (key_places m.new) (record { committed = []; batch = []; chunk = [] })) same before free (λ key. refl) (none_yet (key_places m.new)) (none_yet (key_places m.new))
     (λ key done.
     found_none (is_at (key_places m.schema) key) (rows_at m.name (key_places m.schema) rows log progress.end)
-    (outside left (key_places m.schema) key (rows_at m.name (key_places m.schema) rows log progress.end) all (not_left (is_left left key) done)))
+    (outside left (key_places m.schema) key (rows_at m.name (key_places m.schema) rows log progress.end) all (not-true (is_left left key) done)))
 
 -- ---- the end
 

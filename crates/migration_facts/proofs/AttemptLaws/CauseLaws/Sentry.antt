@@ -1,5 +1,5 @@
 -- The sentry's CREATE isn't refused: no table of its name stands where no attempt does.
-use Rattle.std.proofs.Common.{◌≡◌, ◌⊎◌, ℕ, List, [], ◌∷◌, ◌++◌, Option, Some, None, refl, sym, ap, ◌∙◌, subst, inl, inr}
+use Rattle.std.proofs.Common.{◌≡◌, ℕ, List, [], ◌∷◌, ◌++◌, Option, Some, None, refl, sym, ap, ◌∙◌, subst}
 use Rattle.script_text.specs.declared.actor.Actor.{Actor}
 use Rattle.script_text.specs.declared.actor.Actor.TheVariants.{Insp, Lock}
 use Rattle.script_text.specs.declared.actor.Side.{Side}
@@ -15,13 +15,13 @@ use Rattle.plain_server.specs.Serving.{serves}
 use Rattle.plan_words.specs.PlanData.{PlanData}
 use Rattle.gho_values.specs.ToolNames.{old_name}
 use Rattle.changelog_table.specs.ToolTables.{sentry_schema}
-use Rattle.migration_program.specs.JournalWords.Journals.{state_at, may_lose, opens}
+use Rattle.migration_program.specs.JournalWords.Journals.{state_at, opens}
 use Rattle.migration_program.specs.declared.cutover_core.cutover.Hold.{Hold}
 use Rattle.migration_program.specs.declared.cutover_core.cutover.Hold.TheVariants.{Nothing}
 use Rattle.migration_program.specs.declared.cutover_core.cutover.Phase.{Phase}
 use Rattle.migration_program.specs.declared.cutover_core.cutover.Phase.TheVariants.{Resting}
 use Rattle.migration_program.specs.Programs.{given, IsGiven}
-use Rattle.migration_program.specs.Tools.{Work, Course, Migrating, is_reverting, moment}
+use Rattle.migration_program.specs.Tools.{Work, Migrating, is_reverting, moment}
 use Rattle.migration_program.proofs.ProgramLaws.Machines.{CourseIsNamed, named}
 use Rattle.journal_facts.specs.MachineLaws.Machines.{CourseStands, WorkStands, PhaseHolds, held}
 use Rattle.journal_facts.specs.MachineLaws.Standings.{Standing, standing_of, IsAbout}

@@ -3,6 +3,7 @@ use Rattle.std.proofs.Common.{◌≡◌, ◌⊎◌, ℕ, ◌+◌, Bool, true, fa
 use Rattle.std.specs.Prelude.{is_some}
 use Rattle.std.specs.List.{list_any}
 use Rattle.std.proofs.lemmas.Bool.{true≢false, false≢true}
+use Rattle.std.proofs.lemmas.Option.{none-some}
 use Rattle.script_text.specs.declared.actor.Actor.{Actor}
 use Rattle.script_text.specs.declared.actor.Actor.TheVariants.{Op, Insp, Copy, Apply, Lock, Ren, Client}
 use Rattle.script_text.specs.declared.actor.Side.{Side}
@@ -391,9 +392,7 @@ module _ (plan : PlanData) (serial : IsSerialPlan plan) (runs : IsRunnable plan)
   heard_at was Lock same gives called commanded (Migrating work) eq = locker_turn work eq same (asking plan journal Lock entry.asked standing.tabled.all.tool.server gives) (old_at was Lock same refl (Migrating work) eq)
   heard_at was Ren same gives called commanded (SettingUp setup tries) eq =
       absurd (no_asking plan journal entry standing run Ren (subst (CourseStands journal has (is_reverting now.tool.reason)) eq standing.tabled.all.tool.stands).renamer
-      (λ request call. no_request request (ap (λ (c : Course). tool_call plan now.server journal now.tool c Ren) (sym eq) ∙ call)) (asking plan journal Ren entry.asked standing.tabled.all.tool.server gives)) where
-        no_request : (request : Request) → None ≡ Some request → ⊥
-        no_request request both = cc
+      (λ request call. none-some request (ap (λ (c : Course). tool_call plan now.server journal now.tool c Ren) (sym eq) ∙ call)) (asking plan journal Ren entry.asked standing.tabled.all.tool.server gives))
   heard_at was Ren same gives called commanded (Migrating work) eq = renamer_turn was work eq same (asking plan journal Ren entry.asked standing.tabled.all.tool.server gives)
   heard_at was Op same gives called commanded course eq = by course eq where
     by : (course : Course) → now.tool.course ≡ course → AnswerKeeps plan New entry.answer tool Op course

@@ -1,8 +1,7 @@
 -- Why an attempt fails: by a loss, a time-out, a refused sentry, or the drain's last turn.
-use Rattle.std.proofs.Common.{◌≡◌, ◌⊎◌, ℕ, ◌+◌, ◌<◌, ◌≤◌, ◌==◌, Bool, true, false, cond, not, ◌||◌, Option, refl, inl, inr, arith}
+use Rattle.std.proofs.Common.{◌≡◌, ◌⊎◌, ℕ, ◌+◌, ◌<◌, ◌≤◌, ◌==◌, Bool, true, false, cond, not, ◌||◌, Option, refl, inl, inr}
 use Rattle.std.specs.Prelude.{nat_le}
-use Rattle.std.proofs.lemmas.Bool.{false≢true}
-use Rattle.std.proofs.lemmas.Bool.Decides.{nat_tests}
+use Rattle.std.proofs.lemmas.Bool.{false≢true, leb-true, leb-false}
 use Rattle.gho_values.specs.declared.gho_schema.schema.Schema.{Schema}
 use Rattle.plain_server.specs.declared.answer.Answer.{Answer}
 use Rattle.plain_server.specs.declared.answer.Answer.TheVariants as answers
@@ -118,13 +117,10 @@ pub record IsLastDrain (cutover : CutOver) (hint : ℕ) : Type 0 where
 
 pub drain_fails : (cutover : CutOver) (hint : ℕ) → is_failure cutover.phase (drained cutover hint cutover.phase) ≡ true → IsLastDrain cutover hint
 drain_fails cutover hint fails = by cutover.phase refl fails where
-  spent : (limit turns : ℕ) → nat_le limit turns ≡ true → limit ≤ turns
-  spent limit turns is = grind (arith, nat_tests)
-
   draining : (turns : ℕ) → cutover.phase ≡ Attempting (Draining turns) → (a : Bool) → (hint == cutover.attempts) ≡ a → (b : Bool) → nat_le cutover.drain_limit (turns + 1) ≡ b
       → is_failure (Attempting (Draining turns)) (cond a (Attempting Drained) (cond b (Ending Looking) (Attempting (Draining (turns + 1))))) ≡ true → IsLastDrain cutover hint
   draining turns at true passed b last fails = absurd (false≢true fails)
-  draining turns at false behind true last fails = record { turns = turns; phase = at; last = spent cutover.drain_limit (turns + 1) last; behind = behind }
+  draining turns at false behind true last fails = record { turns = turns; phase = at; last = leb-true cutover.drain_limit (turns + 1) last; behind = behind }
   draining turns at false behind false more fails = absurd (false≢true fails)
 
   by : (phase : Phase) → cutover.phase ≡ phase → is_failure phase (drained cutover hint phase) ≡ true → IsLastDrain cutover hint
@@ -242,13 +238,10 @@ module _ (limit : ℕ) where
 
 pub drained_left : (cutover : CutOver) (hint : ℕ) → TurnsLeft cutover.drain_limit cutover.phase → TurnsLeft cutover.drain_limit (drained cutover hint cutover.phase)
 drained_left cutover hint is = by cutover.phase is where
-  less : (limit turns : ℕ) → nat_le limit turns ≡ false → turns < limit
-  less limit turns is = grind (arith, nat_tests)
-
   draining : (turns : ℕ) (a b : Bool) → nat_le cutover.drain_limit (turns + 1) ≡ b → TurnsLeft cutover.drain_limit (cond a (Attempting Drained) (cond b (Ending Looking) (Attempting (Draining (turns + 1)))))
   draining turns true b last = tt
   draining turns false true last = tt
-  draining turns false false more = λ some. less cutover.drain_limit (turns + 1) more
+  draining turns false false more = λ some. leb-false cutover.drain_limit (turns + 1) more
 
   by : (phase : Phase) → TurnsLeft cutover.drain_limit phase → TurnsLeft cutover.drain_limit (drained cutover hint phase)
   by (Attempting (Draining turns)) is = draining turns (hint == cutover.attempts) (nat_le cutover.drain_limit (turns + 1)) refl

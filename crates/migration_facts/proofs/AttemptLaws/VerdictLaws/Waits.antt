@@ -3,6 +3,7 @@ use Rattle.std.proofs.Common.{◌≡◌, ℕ, suc, ◌+◌, ◌-◌, ◌==◌, B
 use Rattle.std.specs.Prelude.{filter, reverse}
 use Rattle.std.specs.List.{slice_get}
 use Rattle.std.specs.Option.{option_map}
+use Rattle.std.proofs.Math.Numerals.{add-one}
 use Rattle.std.proofs.lemmas.Bool.{true≢false}
 use Rattle.std.proofs.lemmas.Bool.Decides.{nat_tests}
 use Rattle.std.proofs.lemmas.List.{reverse-append, append-nil}
@@ -224,13 +225,10 @@ module _ (plan : PlanData) (journal : List Entry) (entry : Entry) (together : Is
           lives : live_session journal entry.actor ≡ Some own
           lives = was_live asks old (ap (waiting_of own) (sym open_waits) ∙ was)
 
-          next : (k : ℕ) → k + 1 ≡ suc k
-          next k = omega arith
-
           once_more : polls_of (session_of own (state_at plan more).sessions) ≡ suc before
           once_more =
               ap (λ (s : State). polls_of (session_of own s.sessions)) (after (Some old) was) ∙ ap (λ (b : Option ℕ). polls_of (session_of own (polled_unless b open_now own old.request).after.sessions)) blocked
-              ∙ ap (λ (b : Bool). polls_of (session_of own (polled_over b one open_now own).after.sessions)) over ∙ counted_polls open_now (before + 1) found there ∙ next before
+              ∙ ap (λ (b : Bool). polls_of (session_of own (polled_over b one open_now own).after.sessions)) over ∙ counted_polls open_now (before + 1) found there ∙ add-one before
 
           waits_so : entry.answer ≡ answers.Waits one
           waits_so = answer (Some old) was ∙ ap (λ (b : Option ℕ). (polled_unless b open_now own old.request).answer) blocked ∙ ap (λ (b : Bool). (polled_over b one open_now own).answer) over

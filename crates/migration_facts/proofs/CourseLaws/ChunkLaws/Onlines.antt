@@ -3,6 +3,7 @@ use Rattle.std.proofs.Common.{◌≡◌, ℕ, ◌+◌, ◌≤◌, ◌<◌, Bool,
 use Rattle.std.specs.Prelude.{nat_le}
 use Rattle.std.proofs.lemmas.Bool.{true≢false, false≢true, not-true}
 use Rattle.std.proofs.lemmas.Bool.Decides.{nat_tests}
+use Rattle.std.proofs.lemmas.Option.{none-some}
 use Rattle.gho_values.specs.Laws.{StoresAgain}
 use Rattle.gho_values.specs.declared.value.Value.{Value}
 use Rattle.script_text.specs.declared.actor.Actor.{Actor}
@@ -68,7 +69,7 @@ use Rattle.migration_facts.proofs.CourseLaws.Owners.{commands_operator}
 use Rattle.migration_facts.specs.CourseLaws.ChunkLaws.Laws.{ChunkEndsComeAtOnce, JournalsAreOnline}
 use Rattle.migration_facts.proofs.CourseLaws.ChunkLaws.Sparing.{opened_spared, ends_at_once}
 use Rattle.migration_facts.proofs.CourseLaws.ChunkLaws.Sizes.{weight, SpanWaits, SmallStep, IsSmall, FewKeys, keys_few, took_size, small_choosing, small_spanning, small_copying, small_committing, step_after, copied_more, is_counted, uncounted, unsized}
-use Rattle.migration_facts.proofs.CourseLaws.ChunkLaws.Uncopied.{is_uncopied, off_copied, copy_before, IsUntouched, untouched_more, untouched_begins}
+use Rattle.migration_facts.proofs.CourseLaws.ChunkLaws.Uncopied.{is_uncopied, copy_before, IsUntouched, untouched_more, untouched_begins}
 
 -- WHERE A CHUNK ENDS IS ANSWERED AT ONCE
 
@@ -100,9 +101,6 @@ module _ (plan : PlanData) (journal : List Entry) (entry : Entry) (is : IsUntouc
   no_poll : (request : Request) → Call request ≡ Poll → ⊥
   no_poll request same = cc
 
-  no_some : (request : Request) → None ≡ Some request → ⊥
-  no_some request same = cc
-
   -- its table is the plan's
   ends_called : (table : List ℕ) (low : _) (top : List Value) (size : ℕ) → entry.asked ≡ Call (requests.ChunkEnd table low top size) → Asking plan journal Copy entry.asked → is_wait entry.answer ≡ false
   unfolding copiers.next
@@ -117,7 +115,7 @@ module _ (plan : PlanData) (journal : List Entry) (entry : Entry) (is : IsUntouc
       same_call a b same = cc
 
     by : (course : Course) → then.tool.course ≡ course → is_wait entry.answer ≡ false
-    by (SettingUp setup tries) course = absurd (no_some other (ap (λ (c : Course). tool_call plan then.server journal then.tool c Copy) (sym course) ∙ call))
+    by (SettingUp setup tries) course = absurd (none-some other (ap (λ (c : Course). tool_call plan then.server journal then.tool c Copy) (sym course) ∙ call))
     by (Migrating work) course =
         let call_here : tool_call plan then.server journal then.tool (Migrating work) Copy ≡ Some ends = ap (λ (c : Course). tool_call plan then.server journal then.tool c Copy) (sym course) ∙ call ∙ ap Some one in
         let off : work.copier.is_copied ≡ false = copy_uncopied plan journal ends work refl call_here in
@@ -349,7 +347,7 @@ module _ (again : StoresAgain) (plan : PlanData) (runs : IsRunnable plan) (journ
 
   module _ (same : entry.actor ≡ Copy) (work : Work) (eq : now.tool.course ≡ Migrating work) (asks_so : Asking plan journal Copy entry.asked) (going : is_reverting now.tool.reason ≡ false) where
     off : work.copier.is_copied ≡ false
-    off = off_copied work.copier.is_copied (ap is_uncopied (sym eq) ∙ copy_before plan journal entry tabled run work eq asks_so going)
+    off = not-true work.copier.is_copied (ap is_uncopied (sym eq) ∙ copy_before plan journal entry tabled run work eq asks_so going)
 
     small : IsSmall copied (has Copy).waits work.copier
     small = subst (SmallCourse copied (has Copy).waits (is_reverting now.tool.reason)) eq is.course going off

@@ -2,7 +2,8 @@
 -- once.
 use Rattle.std.proofs.Common.{◌≡◌, ◌⊎◌, ℕ, ◌+◌, Bool, true, false, not, List, [], ◌∷◌, ◌++◌, cond, Some, None, refl, sym, ap, ◌∙◌, subst, inl, inr, ◌&&◌}
 use Rattle.std.specs.List.{slice_get}
-use Rattle.std.proofs.lemmas.Bool.{true≢false, false≢true}
+use Rattle.std.proofs.lemmas.Bool.{true≢false, false≢true, not-true}
+use Rattle.std.proofs.lemmas.Option.{none-some}
 use Rattle.script_text.specs.declared.actor.Actor.{Actor}
 use Rattle.script_text.specs.declared.actor.Actor.TheVariants.{Op, Insp, Copy, Apply, Lock, Ren, Client}
 use Rattle.script_text.specs.declared.script.ScriptWord.{ScriptWord}
@@ -48,10 +49,6 @@ use Rattle.migration_facts.proofs.CourseLaws.ChunkLaws.Sparing.{is_lock, Spares,
 abbrev pub is_uncopied : Course → Bool
 is_uncopied (SettingUp setup tries) = true
 is_uncopied (Migrating work) = not work.copier.is_copied
-
-pub off_copied : (b : Bool) → not b ≡ true → b ≡ false
-off_copied true is = absurd (false≢true is)
-off_copied false is = refl
 
 -- WHO LOCKS TABLES
 
@@ -132,26 +129,23 @@ module _ (plan : PlanData) (journal : List Entry) (entry : Entry) (is : IsTabled
 
   insp_called : (request : Request) → entry.asked ≡ Call request → Asking plan journal Insp entry.asked → (course : Course) → now.tool.course ≡ course → is_uncopied course ≡ true → Spares plan.table request
   insp_called request asks asking_so (Migrating work) course off =
-      absurd (insp_none plan journal entry is.all is.quiet run work course ((none_left work course off).going (off_copied work.copier.is_copied off)) asking_so)
+      absurd (insp_none plan journal entry is.all is.quiet run work course ((none_left work course off).going (not-true work.copier.is_copied off)) asking_so)
   insp_called request asks (polls_so other polled some) (SettingUp setup tries) course off = absurd (no_poll request (sym asks ∙ polled))
   insp_called request asks (calls_so other called idle call) (SettingUp setup tries) course off =
       let one : other ≡ request = same_call other request (sym called ∙ asks) in
       insp_spares plan journal is request setup (ap (λ (c : Course). tool_call plan now.server journal now.tool c Insp) (sym course) ∙ call ∙ ap Some one)
 
-  no_some : (request : Request) → None ≡ Some request → ⊥
-  no_some request same = cc
-
   lock_called : (request : Request) → entry.asked ≡ Call request → Asking plan journal Lock entry.asked → (course : Course) → now.tool.course ≡ course → is_uncopied course ≡ true → Spares plan.table request
   lock_called request asks asking_so (Migrating work) course off =
-      absurd (lock_none plan journal entry is.all is.quiet run work course (off_copied work.copier.is_copied off) ((none_left work course off).going (off_copied work.copier.is_copied off)) asking_so)
+      absurd (lock_none plan journal entry is.all is.quiet run work course (not-true work.copier.is_copied off) ((none_left work course off).going (not-true work.copier.is_copied off)) asking_so)
   lock_called request asks (polls_so other polled some) (SettingUp setup tries) course off = absurd (no_poll request (sym asks ∙ polled))
-  lock_called request asks (calls_so other called idle call) (SettingUp setup tries) course off = absurd (no_some other (ap (λ (c : Course). tool_call plan now.server journal now.tool c Lock) (sym course) ∙ call))
+  lock_called request asks (calls_so other called idle call) (SettingUp setup tries) course off = absurd (none-some other (ap (λ (c : Course). tool_call plan now.server journal now.tool c Lock) (sym course) ∙ call))
 
   ren_called : (request : Request) → entry.asked ≡ Call request → Asking plan journal Ren entry.asked → (course : Course) → now.tool.course ≡ course → is_uncopied course ≡ true → Spares plan.table request
   ren_called request asks asking_so (Migrating work) course off =
-      absurd (ren_none plan journal entry is.all is.quiet run work course ((none_left work course off).going (off_copied work.copier.is_copied off)) asking_so)
+      absurd (ren_none plan journal entry is.all is.quiet run work course ((none_left work course off).going (not-true work.copier.is_copied off)) asking_so)
   ren_called request asks (polls_so other polled some) (SettingUp setup tries) course off = absurd (no_poll request (sym asks ∙ polled))
-  ren_called request asks (calls_so other called idle call) (SettingUp setup tries) course off = absurd (no_some other (ap (λ (c : Course). tool_call plan now.server journal now.tool c Ren) (sym course) ∙ call))
+  ren_called request asks (calls_so other called idle call) (SettingUp setup tries) course off = absurd (none-some other (ap (λ (c : Course). tool_call plan now.server journal now.tool c Ren) (sym course) ∙ call))
 
   tool_unlocks : (actor : Actor) (request : Request) → ((course : Course) → now.tool.course ≡ course → tool_call plan now.server journal now.tool course actor ≡ Some request → is_lock request ≡ false) → Asking plan journal actor (Call request) → is_lock request ≡ false
   tool_unlocks actor request each (polls_so other polled some) = absurd (no_poll request polled)

@@ -2,6 +2,7 @@
 use Rattle.std.proofs.Common.{◌≡◌, ℕ, zero, suc, ◌+◌, ◌-◌, ◌==◌, Bool, true, false, cond, ◌||◌, List, [], ◌∷◌, ◌++◌, Option, Some, None, unwrap_or, refl, sym, ap, ◌∙◌, subst, arith}
 use Rattle.std.specs.Prelude.{fold}
 use Rattle.std.specs.List.{AllByRecursion, slice_get}
+use Rattle.std.proofs.Math.Bool.{or-true}
 use Rattle.std.proofs.lemmas.Bool.{false≢true}
 use Rattle.std.proofs.lemmas.Bool.Decides.{nat_tests}
 use Rattle.script_text.specs.declared.actor.Actor.TheVariants.{Client}
@@ -176,10 +177,7 @@ all_closed plan journal ends over c = by (c == 0) refl where
   closed over_c = over_closed (client_at plan journal c) (client_ends plan journal c ends) over_c
 
   nothing_left : script_of c plan ≡ None → client_over (client_at plan journal c) ≡ true
-  nothing_left none = ap (λ (left : List ScriptLine). (client_at plan journal c).is_lost || is_empty left) (none_left plan journal c none) ∙ either (client_at plan journal c).is_lost where
-    either : (b : Bool) → (b || true) ≡ true
-    either true = refl
-    either false = refl
+  nothing_left none = ap (λ (left : List ScriptLine). (client_at plan journal c).is_lost || is_empty left) (none_left plan journal c none) ∙ or-true (client_at plan journal c).is_lost
 
   from_one : (n : ℕ) → (n == 0) ≡ false → 1 + (n - 1) ≡ n
   from_one n off = grind (arith, nat_tests)

@@ -3,7 +3,7 @@ use Rattle.std.proofs.Common.{◌≡◌, ◌⊎◌, ℕ, ◌==◌, ◌+◌, Bool
 use Rattle.std.specs.Prelude.{is_some, count_by}
 use Rattle.std.specs.List.{list_any}
 use Rattle.std.specs.Option.{option_map}
-use Rattle.std.proofs.lemmas.Bool.{true≢false, false≢true, and_parts, not-true}
+use Rattle.std.proofs.lemmas.Bool.{true≢false, false≢true, and_parts, not-true, or_cases}
 use Rattle.std.proofs.lemmas.List.Sums.{sum_by-cons}
 use Rattle.script_text.specs.declared.actor.Actor.{Actor}
 use Rattle.script_text.specs.declared.actor.Actor.TheVariants.{Op, Insp, Copy, Apply, Lock, Ren, Client}
@@ -53,10 +53,6 @@ passing test (first ∷ sessions) apart some = by (test first) refl some (passin
   by true is some rest = record { session = first; there = here; passes = is }
   by false is some rest = let one = rest some in record { session = one.session; there = there one; passes = one.passes }
 
-either : (a b : Bool) → (a || b) ≡ true → (a ≡ true) ⊎ (b ≡ true)
-either true b is = inl refl
-either false b is = inr is
-
 -- an actor of the tool's whose session is in a transaction, or waits
 pub record IsBusy (plan : PlanData) (journal : List Entry) : Type 0 where
   pub actor : Actor
@@ -85,7 +81,7 @@ module _ (plan : PlanData) (journal : List Entry) (living : Living journal (stat
       record {
         actor = owned.actor;
         tool = not-true (is_client owned.actor) (sym (owner_kind one.session one.there owned) ∙ parts.0);
-        busy = by one.session one.there owned (either one.session.in_transaction (is_waiting (state_at plan journal) one.session.number) parts.1);
+        busy = by one.session one.there owned (or_cases one.session.in_transaction (is_waiting (state_at plan journal) one.session.number) parts.1);
       } where
         by : (session : Session) → session_of session.number (state_at plan journal).sessions ≡ Some session → (owned : IsOwned journal session.number) → (session.in_transaction ≡ true) ⊎ (is_waiting (state_at plan journal) session.number ≡ true)
             → ((standing_of plan journal owned.actor).busy ≡ true) ⊎ WaitsWith (standing_of plan journal owned.actor).waits

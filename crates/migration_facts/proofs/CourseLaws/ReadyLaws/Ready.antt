@@ -2,7 +2,7 @@
 use Rattle.std.proofs.Common.{◌≡◌, ◌⊎◌, ℕ, ◌+◌, ◌<◌, Bool, true, false, cond, not, ◌&&◌, ◌||◌, List, [], ◌∷◌, ◌++◌, length, Option, Some, None, refl, sym, ap, ◌∙◌, subst, inl, inr, arith}
 use Rattle.std.specs.Prelude.{is_some, nat_le, nat_lt}
 use Rattle.std.specs.List.{list_any, slice_get}
-use Rattle.std.proofs.lemmas.Bool.{true≢false, false≢true, or_left, or_right}
+use Rattle.std.proofs.lemmas.Bool.{true≢false, false≢true, ltb-true, and_right, or_left, or_right}
 use Rattle.std.proofs.lemmas.Bool.Decides.{nat_tests}
 use Rattle.std.proofs.lemmas.Option.{slice_get-get_or}
 use Rattle.gho_values.specs.declared.value.Value.{Value}
@@ -186,9 +186,7 @@ module _ (plan : PlanData) (journal : List Entry) (going : IsGoing plan journal)
   -- a command is left
   left_goes : is_left plan now.tool.operator ≡ true → AnyReady
   unfolding given
-  left_goes left = op_goes (ap (λ (w : Option OperatorWord). is_some (commands w)) (slice_get-get_or (words_of plan) now.tool.operator.taken Wait (below now.tool.operator.taken (length (words_of plan)) left))) where
-    below : (n m : ℕ) → nat_lt n m ≡ true → n < m
-    below n m is = grind (arith, nat_tests)
+  left_goes left = op_goes (ap (λ (w : Option OperatorWord). is_some (commands w)) (slice_get-get_or (words_of plan) now.tool.operator.taken Wait (ltb-true now.tool.operator.taken (length (words_of plan)) left)))
 
   -- WHILE NO COMMAND IS LEFT AND ALL CLIENTS ARE OVER
 
@@ -205,10 +203,7 @@ module _ (plan : PlanData) (journal : List Entry) (going : IsGoing plan journal)
       by a false true none less = absurd (true≢false less)
 
     unpostponed : is_postponed plan now.tool.operator ≡ false
-    unpostponed = by now.tool.operator.postpones (is_left plan now.tool.operator) none_left where
-      by : (a b : Bool) → b ≡ false → (a && b) ≡ false
-      by true b none = none
-      by false b none = refl
+    unpostponed = and_right now.tool.operator.postpones (is_left plan now.tool.operator) none_left
 
     free_idle : (actor : Actor) → has actor ≡ free → ((has actor).busy ≡ true) ⊎ WaitsWith (has actor).waits → ⊥
     free_idle actor is (inl busy) = true≢false (sym busy ∙ ap (λ (s : Standing). s.busy) is)
@@ -338,10 +333,6 @@ module _ (plan : PlanData) (journal : List Entry) (going : IsGoing plan journal)
       rest_goes : is_reverting now.tool.reason ≡ false → work.cutover.phase ≡ Resting → AnyReady
       unfolding attempts.next
       rest_goes off at = by work.copier.is_copied refl where
-        sized : (a b : Bool) → b ≡ false → (a && b) ≡ false
-        sized true b is = is
-        sized false b is = refl
-
         unread_some : (n most : ℕ) → nat_le n most ≡ false → nat_lt 0 n ≡ true
         unread_some n most over = grind (arith, nat_tests)
 
@@ -368,14 +359,14 @@ module _ (plan : PlanData) (journal : List Entry) (going : IsGoing plan journal)
 
         copied_goes : work.copier.is_copied ≡ true → (b : Bool) → nat_le (unread_in now.server work) plan.options.max_backlog ≡ b → AnyReady
         copied_goes copied true few = attempts_it (begins copied few)
-        copied_goes copied false over = applier_calls off Resting at refl (sized (appliers.starts work.applier) (not (may_read plan now.server now.tool work)) (ap not (reads over)))
+        copied_goes copied false over = applier_calls off Resting at refl (and_right (appliers.starts work.applier) (not (may_read plan now.server now.tool work)) (ap not (reads over)))
 
         by : (b : Bool) → work.copier.is_copied ≡ b → AnyReady
         by true copied = copied_goes copied (nat_le (unread_in now.server work) plan.options.max_backlog) refl
         by false uncopied =
             copy_goes (called (Migrating work) eq Copy
             (ap (λ (b : Bool). is_some (cond b (rolls_back now.server (live_session journal Copy)) (copy_call plan now.server journal now.tool work))) off
-            ∙ ap (λ (b : Bool). is_some (cond b None (copiers.next journal work.copier))) (sized (copiers.starts work.copier) (is_throttled plan now.server now.tool.operator) unthrottled)
+            ∙ ap (λ (b : Bool). is_some (cond b None (copiers.next journal work.copier))) (and_right (copiers.starts work.copier) (is_throttled plan now.server now.tool.operator) unthrottled)
             ∙ copier_calls journal work.copier goes.copier uncopied))
 
       resting : work.cutover.phase ≡ Resting → AnyReady

@@ -1,8 +1,8 @@
 -- Until the RENAME is done all other actors' turns keep away from the new table.
-use Rattle.std.proofs.Common.{◌≡◌, ◌⊎◌, ℕ, Bool, true, false, not, List, [], ◌∷◌, ◌++◌, Option, Some, refl, sym, ap, ◌∙◌, subst, inl, inr}
+use Rattle.std.proofs.Common.{◌≡◌, ◌⊎◌, ℕ, true, false, List, [], ◌∷◌, ◌++◌, Option, Some, refl, sym, ap, ◌∙◌, subst, inl, inr}
 use Rattle.std.specs.List.{list_any}
 use Rattle.std.specs.Str.{bytes_eq}
-use Rattle.std.proofs.lemmas.Bool.{true≢false, false≢true, or_left}
+use Rattle.std.proofs.lemmas.Bool.{true≢false, false≢true, false_from_ne_true, not-true, or_left}
 use Rattle.gho_values.specs.declared.gho_schema.schema.Schema.{Schema}
 use Rattle.row_store.specs.declared.renaming.Pair.{Pair}
 use Rattle.script_text.specs.declared.actor.Actor.{Actor}
@@ -52,32 +52,24 @@ pairs_of table = record { old = table; new = old_name table } ∷ record { old =
 abbrev pub IsThird : Actor → Type 0
 IsThird actor = (same_actor actor Copy ≡ false) × (same_actor actor Apply ≡ false)
 
-off_if : (b : Bool) → (b ≡ true → ⊥) → b ≡ false
-off_if true never = absurd (never refl)
-off_if false never = refl
-
 -- NAMES
 
 module _ (plan : PlanData) (serial : IsSerialPlan plan) (m : Migration) (of : IsOf plan m) where
   -- a table of the tool's that isn't the new one is neither
   other_name : (name : List ℕ) → is_tool_name plan.table name ≡ true → bytes_eq (ghost_name plan.table) name ≡ false → IsOther m name
   other_name name tool not_ghost = (
-    ap (λ (n : List ℕ). bytes_eq n name) of.name ∙ off_if (bytes_eq plan.table name) (λ same. true≢false (sym tool ∙ ap (is_tool_name plan.table) (sym (are_same plan.table name same)) ∙ migrated_no_tool plan.table)),
+    ap (λ (n : List ℕ). bytes_eq n name) of.name ∙ false_from_ne_true (bytes_eq plan.table name) (λ same. true≢false (sym tool ∙ ap (is_tool_name plan.table) (sym (are_same plan.table name same)) ∙ migrated_no_tool plan.table)),
     ap (λ (n : List ℕ). bytes_eq n name) (ghost_named plan m of) ∙ not_ghost,
   )
 
   -- a client's table isn't the new one
   pub client_name : (name : List ℕ) → list_any (bytes_eq name) (client_names plan) ≡ true → bytes_eq name m.new.name ≡ false
   client_name name mine =
-      off_if (bytes_eq name m.new.name)
+      false_from_ne_true (bytes_eq name m.new.name)
       (λ same. true≢false (sym mine ∙ tool_not_mine plan name serial (ap (is_tool_name plan.table) (are_same name m.new.name same ∙ ghost_named plan m of) ∙ ghost_is_tool plan.table)))
 
   log_name_other : bytes_eq (log_name plan.table) m.new.name ≡ false
   log_name_other = ap (bytes_eq (log_name plan.table)) (ghost_named plan m of) ∙ turned_bytes (ghost_name plan.table) (log_name plan.table) (ghost_not_log plan.table)
-
-  not_back : (b : Bool) → not b ≡ true → b ≡ false
-  not_back true is = absurd (false≢true is)
-  not_back false is = refl
 
   -- WHAT IS ASKED
 
@@ -104,8 +96,8 @@ module _ (plan : PlanData) (serial : IsSerialPlan plan) (m : Migration) (of : Is
   tool_away told (requests.CopyRow from into map key) Lock asks third keeps = absurd asks
   tool_away told (requests.CopyRow from into map key) Ren asks third keeps = absurd asks
   tool_away told (requests.CopyRow from into map key) (Client c) asks third keeps = absurd asks
-  tool_away told (requests.Create schema) actor asks third keeps = other_name schema.name asks (turned_bytes schema.name (ghost_name plan.table) (not_back (bytes_eq schema.name (ghost_name plan.table)) keeps))
-  tool_away told (requests.Drop name) actor asks third keeps = other_name name asks (not_back (bytes_eq (ghost_name plan.table) name) keeps)
+  tool_away told (requests.Create schema) actor asks third keeps = other_name schema.name asks (turned_bytes schema.name (ghost_name plan.table) (not-true (bytes_eq schema.name (ghost_name plan.table)) keeps))
+  tool_away told (requests.Drop name) actor asks third keeps = other_name name asks (not-true (bytes_eq (ghost_name plan.table) name) keeps)
   tool_away told (requests.Rename pairs) actor asks third keeps = absurd (false≢true keeps)
   tool_away told request actor asks third keeps = tt
 

@@ -1,7 +1,8 @@
 -- What a turn asks and logs, of the changelog.
 use Rattle.std.proofs.Common.{◌≡◌, ◌⊎◌, ℕ, Bool, true, false, cond, List, [], ◌∷◌, ◌++◌, Option, Some, None, refl, sym, ap, ◌∙◌, subst, inl, inr}
 use Rattle.std.specs.Str.{bytes_eq}
-use Rattle.std.proofs.lemmas.Bool.{true≢false}
+use Rattle.std.proofs.lemmas.Bool.{true≢false, false_from_ne_true}
+use Rattle.std.proofs.lemmas.Option.{none-some}
 use Rattle.script_text.specs.declared.actor.Actor.{Actor}
 use Rattle.script_text.specs.declared.actor.Actor.TheVariants.{Op, Insp, Copy, Apply, Lock, Ren, Client}
 use Rattle.script_text.specs.declared.statement.Statement.{Statement}
@@ -53,10 +54,6 @@ use Rattle.migration_facts.proofs.FollowLaws.FollowTurns.Follows.{kept_front, ke
 use Rattle.migration_facts.proofs.FollowLaws.HintLaws.Logging.{LeavesAway, LeavesHint, LogsAway, LogsHint, NoneWrote, away_left, cut_left, hint_left, watched}
 use Rattle.migration_facts.proofs.FollowLaws.HintLaws.Phases.{AsksHint, WaitsHint, may_hint}
 use Rattle.migration_facts.proofs.FollowLaws.HintLaws.Writes.{hint_insert}
-
-off_if : (b : Bool) → (b ≡ true → ⊥) → b ≡ false
-off_if true never = absurd (never refl)
-off_if false never = refl
 
 -- WHAT THE INSPECTOR CALLS
 
@@ -177,7 +174,7 @@ module _ (plan : PlanData) (runs : IsRunnable plan) (serial : IsSerialPlan plan)
   -- WHO WRITES NO ROW OF THE CHANGELOG
 
   client_away : (request : Request) → ClientAsks (scene_of plan []) request → WritesAway (watched t) request
-  client_away (requests.Do statement) asks = off_if (bytes_eq (table_of statement) (log_name t)) (λ same. true≢false (sym asks ∙ tool_not_mine plan (table_of statement) serial (ap (is_tool_name t) (are_same (table_of statement) (log_name t) same) ∙ log_is_tool t)))
+  client_away (requests.Do statement) asks = false_from_ne_true (bytes_eq (table_of statement) (log_name t)) (λ same. true≢false (sym asks ∙ tool_not_mine plan (table_of statement) serial (ap (is_tool_name t) (are_same (table_of statement) (log_name t) same) ∙ log_is_tool t)))
   client_away (requests.CopyRow from into map key) asks = absurd asks
   client_away request asks = tt
 
@@ -268,7 +265,5 @@ module _ (plan : PlanData) (runs : IsRunnable plan) (serial : IsSerialPlan plan)
       asked_so request is asks call = only request is tt
 
       by : (asks : Option Request) → about (opens entry now) entry.session entry.asked ≡ asks → InspLeft work
-      by None is = away_so work (leaves_away (λ request some. absurd (no request (sym is ∙ some)))) where
-        no : (request : Request) → None ≡ Some request → ⊥
-        no request both = cc
+      by None is = away_so work (leaves_away (λ request some. absurd (none-some request (sym is ∙ some))))
       by (Some request) is = asked_so request is (insp_work work request course waits same is) (subst (λ (a : Actor). AskedAs plan a request) same (asked_as plan serial runs.fitting journal entry known run off request is))

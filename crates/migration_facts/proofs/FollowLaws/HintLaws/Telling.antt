@@ -2,6 +2,7 @@
 use Rattle.std.proofs.Common.{◌≡◌, ◌≤◌, ◌<◌, ◌+◌, ◌-◌, ℕ, zero, suc, Bool, true, false, cond, ◌||◌, List, [], ◌∷◌, ◌++◌, length, map, filter, take, drop, Some, refl, sym, ap, ◌∙◌, subst, arith}
 use Rattle.std.specs.Prelude.{◌==◌}
 use Rattle.std.specs.Str.{bytes_eq}
+use Rattle.std.proofs.Math.Seq.{take-add, take-length}
 use Rattle.std.proofs.lemmas.Bool.Decides.{nat_tests}
 use Rattle.std.proofs.lemmas.List.{length-drop, take-append-drop, take-append-le}
 use Rattle.event_codec.specs.declared.event.RowEvent.{RowEvent}
@@ -87,22 +88,6 @@ short tables (event ∷ part) place (suc n) less = short_by tables n place event
 
 -- BOTH
 
-abbrev nothing : List RowEvent
-nothing = []
-
-none_taken : (n : ℕ) → nothing ≡ take n nothing
-none_taken zero = refl
-none_taken (suc n) = refl
-
-take_more : (log : List RowEvent) (place steps : ℕ) → take (place + steps) log ≡ take place log ++ take steps (drop place log)
-take_more log zero steps = let e : 0 + steps ≡ steps = omega arith in ap (λ (n : ℕ). take n log) e
-take_more [] (suc place) steps = let e : suc place + steps ≡ suc (place + steps) = omega arith in ap (λ (n : ℕ). take n nothing) e ∙ none_taken steps
-take_more (event ∷ log) (suc place) steps = let e : suc place + steps ≡ suc (place + steps) = omega arith in ap (λ (n : ℕ). take n (event ∷ log)) e ∙ ap (λ (l : List RowEvent). event ∷ l) (take_more log place steps)
-
-take_all : (log : List RowEvent) → take (length log) log ≡ log
-take_all [] = refl
-take_all (event ∷ log) = ap (λ (l : List RowEvent). event ∷ l) (take_all log)
-
 reads : (t : List ℕ) (log : List RowEvent) (limit position : ℕ) → position ≤ length log
     → IsRead t log position (events_in (take (suc limit) (read_from (both_tables t) position (drop position log))))
     (cond (length (take (suc limit) (read_from (both_tables t) position (drop position log))) == suc limit) (behind_last 0 (take (suc limit) (read_from (both_tables t) position (drop position log)))) (length log))
@@ -121,11 +106,11 @@ reads t log limit position within = at (length given == suc limit) refl where
       let takes : Takes (both_tables t) part position 0 given = full (both_tables t) part position limit 0 (are_one (length given) (suc limit) is) in
       let steps = takes.within in
       let behind = takes.behind in
-      record { forward = omega (arith, behind); within = omega (arith, behind, steps, size, within); part = take takes.steps part; joins = ap (λ (n : ℕ). take n log) behind ∙ take_more log position takes.steps; read = takes.are ∙ of_either t (take takes.steps part) }
+      record { forward = omega (arith, behind); within = omega (arith, behind, steps, size, within); part = take takes.steps part; joins = ap (λ (n : ℕ). take n log) behind ∙ take-add position takes.steps log; read = takes.are ∙ of_either t (take takes.steps part) }
   at false is =
       let most : length given ≤ suc limit = taken_length (suc limit) (read_from (both_tables t) position part) in
       let fewer : length given < suc limit = grind (arith, nat_tests, most, is) in
-      record { forward = within; within = omega arith; part = part; joins = take_all log ∙ sym (take-append-drop position log); read = short (both_tables t) part position (suc limit) fewer ∙ of_either t part }
+      record { forward = within; within = omega arith; part = part; joins = take-length log ∙ sym (take-append-drop position log); read = short (both_tables t) part position (suc limit) fewer ∙ of_either t part }
 
 -- one event at least is asked for
 told_reads : (t : List ℕ) (log : List RowEvent) (limit position : ℕ) (events : List RowEvent) (next : ℕ) → 1 ≤ limit → position ≤ length log → answers.Events events next ≡ events_read position limit (both_tables t) log → IsRead t log position events next

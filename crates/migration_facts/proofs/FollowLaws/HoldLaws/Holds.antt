@@ -1,6 +1,7 @@
 -- What the cut-over keeps of the locker and the renamer is in their live sessions.
 use Rattle.std.proofs.Common.{◌≡◌, ◌⊎◌, ℕ, Bool, true, false, List, [], ◌∷◌, ◌++◌, Option, Some, None, refl, sym, ap, ◌∙◌, subst, inl, inr}
 use Rattle.std.proofs.lemmas.Bool.{true≢false}
+use Rattle.std.proofs.lemmas.Option.{none-some}
 use Rattle.script_text.specs.declared.actor.Actor.{Actor}
 use Rattle.script_text.specs.declared.actor.Actor.TheVariants.{Lock, Ren}
 use Rattle.plain_server.specs.Entries.{is_command}
@@ -37,21 +38,15 @@ free_without plan journal actor none = ap (standing_in (state_at plan journal)) 
 
 nothing_held : (table : List ℕ) (hold : Hold) → held table hold ≡ free → hold ≡ Nothing
 nothing_held table Nothing is = refl
-nothing_held table WaitsToGuard is = absurd (no (ap (λ (s : Standing). s.waits) is)) where
-  no : {request : Request} → Some request ≡ None → ⊥
-  no same = cc
-nothing_held table WaitsToLock is = absurd (no (ap (λ (s : Standing). s.waits) is)) where
-  no : {request : Request} → Some request ≡ None → ⊥
-  no same = cc
+nothing_held table WaitsToGuard is = absurd (none-some _ (sym (ap (λ (s : Standing). s.waits) is)))
+nothing_held table WaitsToLock is = absurd (none-some _ (sym (ap (λ (s : Standing). s.waits) is)))
 nothing_held table Locks is = absurd (no (ap (λ (s : Standing). s.locked) is)) where
   no : {A : Type 0} {first : A} {rest : List A} → first ∷ rest ≡ [] → ⊥
   no same = cc
 
 nothing_waits : (table : List ℕ) (waits : Bool) → renaming table waits ≡ free → waits ≡ false
 nothing_waits table false is = refl
-nothing_waits table true is = absurd (no (ap (λ (s : Standing). s.waits) is)) where
-  no : {request : Request} → Some request ≡ None → ⊥
-  no same = cc
+nothing_waits table true is = absurd (none-some _ (sym (ap (λ (s : Standing). s.waits) is)))
 
 pub work_stands : (plan : PlanData) (journal : List Entry) (work : Work) → IsTogether plan journal → (moment plan journal).tool.course ≡ Migrating work → WorkStands journal (is_reverting (moment plan journal).tool.reason) (standing_of plan journal) work
 work_stands plan journal work together course = subst (CourseStands journal (standing_of plan journal) (is_reverting (moment plan journal).tool.reason)) course together.stands

@@ -18,7 +18,7 @@ use Rattle.row_store.specs.Databases.{Database, TableRows, find_table}
 use Rattle.script_text.specs.declared.statement.Statement.{Statement}
 use Rattle.script_text.specs.declared.statement.Statement.TheVariants as statements
 use Rattle.plain_server.specs.Answers.{refuses, refuses_value}
-use Rattle.plain_server.specs.Checking.{◌>>=◌, beside, new_row, or_refused, row_from, unless, value_at, work_of}
+use Rattle.plain_server.specs.Checking.{◌>>=◌, beside, new_row, or_refused, row_from, value_at, work_of}
 use Rattle.plain_server.specs.Deeds.{deed_unless, is_outside}
 use Rattle.plain_server.specs.Jobs.{events_of, job_of, job_says, result_in, says}
 use Rattle.plain_server.specs.Locking.{blocker, need}

@@ -1,6 +1,8 @@
 -- A turn of the inspector's is such a turn as the sentry relation asks.
-use Rattle.std.proofs.Common.{◌≡◌, ◌≢◌, ◌<◌, ◌+◌, ℕ, Bool, true, false, not, cond, List, [], ◌∷◌, ◌++◌, take, Option, Some, None, refl, sym, ap, ◌∙◌, subst, arith}
+use Rattle.std.proofs.Common.{◌≡◌, ◌≢◌, ◌<◌, ◌+◌, ℕ, Bool, true, false, not, cond, List, [], ◌∷◌, ◌++◌, take, Option, Some, None, refl, sym, ap, ◌∙◌, subst}
+use Rattle.std.proofs.Math.Nat.{ne_of_lt}
 use Rattle.std.proofs.lemmas.Bool.{true≢false}
+use Rattle.std.proofs.lemmas.Option.{same_Some}
 use Rattle.row_store.specs.Databases.{has_table}
 use Rattle.event_codec.specs.declared.event.RowEvent.{RowEvent}
 use Rattle.script_text.specs.declared.actor.Actor.{Actor}
@@ -136,10 +138,9 @@ IsUnhinted plan journal =
 
 none_hinted : HintsAreKnown → (plan : PlanData) (journal : List Entry) → IsRunnable plan → IsSerialPlan plan → IsKept plan journal → IsUnaltered plan journal → IsUnhinted plan journal
 none_hinted hints_are_known plan journal runs serial kept off work course hints count =
-    apart (last_hint plan.table 0 (take count (state_at plan journal).log)) work.cutover.attempts
-    (subst (λ (phase : Phase). IsBegun (is_unhinted phase) work.cutover.attempts (last_hint plan.table 0 (take count (state_at plan journal).log))) hints ((hints_are_known plan journal work runs serial kept off course).begun count)) where
-      apart : (hint attempts : ℕ) → hint < attempts → hint ≢ attempts
-      apart hint attempts less same = omega arith
+    let less : last_hint plan.table 0 (take count (state_at plan journal).log) < work.cutover.attempts =
+    subst (λ (phase : Phase). IsBegun (is_unhinted phase) work.cutover.attempts (last_hint plan.table 0 (take count (state_at plan journal).log))) hints ((hints_are_known plan journal work runs serial kept off course).begun count) in
+    ne_of_lt less
 
 module _ (entries_are_turns : EntriesAreTurns) (plan : PlanData) (journal : List Entry) (entry : Entry) (inspects : entry.actor ≡ Insp) (runs : IsRunnable plan) (serial : IsSerialPlan plan) (kept : IsKept plan (journal ++ entry ∷ [])) (off : IsUnaltered plan (journal ++ entry ∷ [])) (unhinted : IsUnhinted plan journal) where
   abbrev before : State
@@ -235,9 +236,7 @@ module _ (entries_are_turns : EntriesAreTurns) (plan : PlanData) (journal : List
       about_here = about_called plan serial runs.fitting journal entry (entries.known entries_are_turns plan journal entry runs serial kept off) run off Insp request inspects is_about
 
       about_one : (other : Request) → about now entry.session entry.asked ≡ Some other → IsShared other work.cutover.phase
-      about_one other is = let same : request ≡ other = one request other (sym about_here ∙ is) in subst (λ (r : Request). IsShared r work.cutover.phase) same (asks_shared request work.cutover.table work.cutover.attempts work.cutover.phase asks) where
-        one : (a b : Request) → Some a ≡ Some b → a ≡ b
-        one a b same = cc
+      about_one other is = let same : request ≡ other = same_Some request other (sym about_here ∙ is) in subst (λ (r : Request). IsShared r work.cutover.phase) same (asks_shared request work.cutover.table work.cutover.attempts work.cutover.phase asks)
 
       uncut : entry.asked ≡ Cut → ⊥
       uncut cut = by is_about where

@@ -3,6 +3,7 @@
 use Rattle.std.proofs.Common.{◌≡◌, ◌⊎◌, ◌+◌, ℕ, Bool, true, false, cond, not, List, [], ◌∷◌, ◌++◌, Option, Some, None, refl, sym, ap, ◌∙◌, subst, inl, inr, append_assoc}
 use Rattle.std.specs.List.{list_any}
 use Rattle.std.proofs.lemmas.Bool.{true≢false, false≢true}
+use Rattle.std.proofs.lemmas.Option.{none-some}
 use Rattle.row_store.specs.Databases.{Database}
 use Rattle.row_store.specs.declared.renaming.Pair.{Pair}
 use Rattle.script_text.specs.declared.actor.Actor.{Actor}
@@ -214,18 +215,15 @@ module _ (plan : PlanData) (journal : List Entry) (entry : Entry) (serial : IsSe
     no : None ≡ Some request → ⊥
     no same = cc
 
-  no_some : (request : Request) → None ≡ Some request → ⊥
-  no_some request same = cc
-
   lock_or : (course : Course) → now.tool.course ≡ course → entry.actor ≡ Lock → Asking plan journal Lock entry.asked → Stays
   lock_or (Migrating work) course same asks = lock_stays work course same asks
   lock_or (SettingUp setup tries) course same asks =
-      absurd (setup_none Lock (setup_stands setup tries course).locker (λ request call. no_some request (ap (λ (c : Course). tool_call plan now.server journal now.tool c Lock) (sym course) ∙ call)) asks)
+      absurd (setup_none Lock (setup_stands setup tries course).locker (λ request call. none-some request (ap (λ (c : Course). tool_call plan now.server journal now.tool c Lock) (sym course) ∙ call)) asks)
 
   ren_or : (course : Course) → now.tool.course ≡ course → entry.actor ≡ Ren → Asking plan journal Ren entry.asked → Stays
   ren_or (Migrating work) course same asks = ren_stays work course same asks
   ren_or (SettingUp setup tries) course same asks =
-      absurd (setup_none Ren (setup_stands setup tries course).renamer (λ request call. no_some request (ap (λ (c : Course). tool_call plan now.server journal now.tool c Ren) (sym course) ∙ call)) asks)
+      absurd (setup_none Ren (setup_stands setup tries course).renamer (λ request call. none-some request (ap (λ (c : Course). tool_call plan now.server journal now.tool c Ren) (sym course) ∙ call)) asks)
 
   others_stay : (actor : Actor) → entry.actor ≡ actor → same_actor actor Insp ≡ false → given plan journal actor ≡ Some entry.asked → (entry.asked ≡ Cut → ⊥) → ((word : OperatorWord) → entry.asked ≡ Command word → ⊥) → Stays
   unfolding given
@@ -392,7 +390,7 @@ module _ (plan : PlanData) (journal : List Entry) (entry : Entry) (serial : IsSe
 
       by : Behind request entry.answer (has Insp) → (now_has Insp).waits ≡ None
       by (rests none) = waits_now ∙ none
-      by (waits_on one is) = absurd (no_some request (ap (setup_call plan) (sym ready ∙ ap (setup_step plan.table setup) is ∙ step_waits plan.table setup one) ∙ call))
+      by (waits_on one is) = absurd (none-some request (ap (setup_call plan) (sym ready ∙ ap (setup_step plan.table setup) is ∙ step_waits plan.table setup one) ∙ call))
 
     setup_keeps : SetupKeeps plan New entry.answer tool setup tries
     setup_keeps = record {

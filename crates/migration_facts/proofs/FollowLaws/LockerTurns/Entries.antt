@@ -1,7 +1,8 @@
 -- What a turn of the tool's leaves, of a kept journal in which the RENAME isn't done yet.
-use Rattle.std.proofs.Common.{◌≡◌, ◌≢◌, ℕ, Bool, true, false, not, ◌||◌, List, [], ◌∷◌, ◌++◌, cond, Option, Some, None, Ok, refl, sym, ap, ◌∙◌, subst}
-use Rattle.std.proofs.lemmas.Bool.{true≢false, or_left, or_right}
+use Rattle.std.proofs.Common.{◌≡◌, ℕ, Bool, true, false, not, ◌||◌, List, [], ◌∷◌, ◌++◌, cond, Option, Some, None, Ok, refl, sym, ap, ◌∙◌, subst}
+use Rattle.std.proofs.lemmas.Bool.{true≢false, ne_eqb, or_left, or_right}
 use Rattle.std.proofs.lemmas.List.Folds.{list_any-append}
+use Rattle.std.proofs.lemmas.Option.{same_Some}
 use Rattle.gho_values.specs.declared.gho_schema.schema.Schema.{Schema}
 use Rattle.metadata_locks.specs.Granting as grants
 use Rattle.metadata_locks.specs.Granting.{holds}
@@ -45,7 +46,6 @@ use Rattle.journal_facts.proofs.MachineLaws.Journals.{IsRun, IsTogether}
 use Rattle.journal_facts.proofs.MachineLaws.Seated.{IsOpen, IsServed, is_open, own_given, own_missed, state_more}
 use Rattle.journal_facts.specs.SentryLaws.Sentries.{OthersHold}
 use Rattle.journal_facts.specs.SentryLaws.Turns.{CallLeaves, CreateLeaves, DropLeaves, HoldsNothing, LockLeaves, UnlockLeaves}
-use Rattle.journal_facts.proofs.SentryLaws.Holding.{are_two}
 use Rattle.migration_facts.specs.CourseLaws.UnalteredLaws.Laws.{IsUnaltered}
 use Rattle.migration_facts.proofs.CourseLaws.UnalteredLaws.Away.{IsKnownAsked, all_asked, unaltered_front}
 use Rattle.migration_facts.proofs.CourseLaws.UnalteredLaws.Runs.{unaltered_runs}
@@ -120,7 +120,7 @@ module _ (entries_are_turns : EntriesAreTurns) (plan : PlanData) (journal : List
   turn = entries_are_turns (limits_of plan) (scene_of plan journal) journal entry scene_run
 
   pub others_hold : (table : List ℕ) → OthersHold table entry.session (held_at before) (held_at after)
-  others_hold table other name exclusive apart = turn.others other name exclusive (are_two other entry.session apart)
+  others_hold table other name exclusive apart = turn.others other name exclusive (ne_eqb other entry.session apart)
 
   -- THE STATE ONCE THE SESSION IS OPEN
 
@@ -159,9 +159,6 @@ module _ (entries_are_turns : EntriesAreTurns) (plan : PlanData) (journal : List
       let there : IsOpen plan journal entry together.known seated = is_open plan journal entry together.known seated called in
       record { found = there.found; is = there.is; busy = ap (λ (s : Standing). s.busy) there.stands; locked = ap (λ (s : Standing). s.locked) there.stands }
 
-  one_session : (a b : Session) → Some a ≡ Some b → a ≡ b
-  one_session a b same = cc
-
   pub idle_now : is_command entry.asked ≡ false → (standing_of plan journal entry.actor).busy ≡ false → is_in_transaction (session_of entry.session now.sessions) ≡ false
   idle_now called busy = let there : Opened = opened_now called in ap is_in_transaction there.is ∙ sym there.busy ∙ busy
 
@@ -181,7 +178,7 @@ module _ (entries_are_turns : EntriesAreTurns) (plan : PlanData) (journal : List
   pub nameless : is_command entry.asked ≡ false → (standing_of plan journal entry.actor).busy ≡ false → (standing_of plan journal entry.actor).locked ≡ [] → (found : Session) → session_of entry.session now.sessions ≡ Some found → found.names ≡ []
   nameless called busy locked found is =
       let there : Opened = opened_now called in
-      let same : there.found ≡ found = one_session there.found found (sym there.is ∙ is) in
+      let same : there.found ≡ found = same_Some there.found found (sym there.is ∙ is) in
       no_names found.names (ap (λ (o : Option Session). (face_in o).hold.names) (sym is) ∙ ap (λ (h : SessionHold). h.names) (unheld called busy)) (ap (λ (s : Session). locked_names s.names) (sym same) ∙ sym there.locked ∙ locked)
 
   pub nothing_before : is_command entry.asked ≡ false → (standing_of plan journal entry.actor).busy ≡ false → (standing_of plan journal entry.actor).locked ≡ [] → (name : List ℕ) (exclusive : Bool) → holds (held_at before) entry.session name exclusive ≡ false

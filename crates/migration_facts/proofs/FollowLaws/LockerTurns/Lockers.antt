@@ -2,6 +2,7 @@
 use Rattle.std.proofs.Common.{◌≡◌, ◌≢◌, ◌⊎◌, ◌+◌, ℕ, Bool, true, false, List, [], ◌∷◌, ◌++◌, Option, Some, None, refl, sym, ap, ◌∙◌, subst, inl, inr}
 use Rattle.std.specs.List.{list_any}
 use Rattle.std.specs.Str.{bytes_eq}
+use Rattle.std.proofs.Math.Bool.{or-true}
 use Rattle.std.proofs.lemmas.Bool.{true≢false}
 use Rattle.row_store.specs.Databases.{has_table}
 use Rattle.script_text.specs.declared.actor.Actor.{Actor}
@@ -30,7 +31,7 @@ use Rattle.migration_program.specs.JournalWords.Sessions.{live_session}
 use Rattle.migration_program.specs.Programs.{IsGiven, given}
 use Rattle.migration_program.specs.Tools.{Course, Migrating, SettingUp, Work, is_reverting, moment}
 use Rattle.migration_program.proofs.ProgramLaws.Machines.{CourseIsNamed, named}
-use Rattle.plain_server.proofs.StatementLaws.Tests.{or_true, same_bytes}
+use Rattle.plain_server.proofs.StatementLaws.Tests.{same_bytes}
 use Rattle.journal_facts.specs.Plans.{IsSerialPlan}
 use Rattle.journal_facts.specs.ServerLaws.Others.{DefinitionsAreDone, EntriesAreTurns, ExclusiveIsAlone, LocksAreTaken}
 use Rattle.journal_facts.specs.RunLaws.Kept.{IsKept}
@@ -238,7 +239,7 @@ module _ (entries_are_turns : EntriesAreTurns) (definitions_are_done : Definitio
       has_lock = stands.locker ∙ ap (held work.cutover.table) is.locks
 
       among : list_any (bytes_eq name) (both_names work.cutover.table) ≡ true
-      among = ap (λ (n : List ℕ). list_any (bytes_eq n) (both_names work.cutover.table)) is.old ∙ rw (same_bytes (old_name work.cutover.table)) (or_true (bytes_eq (old_name work.cutover.table) work.cutover.table))
+      among = ap (λ (n : List ℕ). list_any (bytes_eq n) (both_names work.cutover.table)) is.old ∙ rw (same_bytes (old_name work.cutover.table)) (or-true (bytes_eq (old_name work.cutover.table) work.cutover.table))
 
       by : IsAbout request (has Lock) entry.asked → IsPrompt entry.answer
       by (is_called asks idle) =

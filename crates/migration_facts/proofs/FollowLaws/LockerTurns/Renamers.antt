@@ -12,7 +12,6 @@ use Rattle.script_text.specs.declared.actor.Actor.TheVariants.{Lock, Ren}
 use Rattle.script_text.specs.declared.actor.Side.{Side}
 use Rattle.script_text.specs.declared.operator.OperatorWord.{OperatorWord}
 use Rattle.plain_server.specs.Entries.{is_command, is_cut, same_actor}
-use Rattle.plain_server.specs.Serving.{serves}
 use Rattle.plain_server.specs.States.{State, has_work, is_exclusive, names_in, waiters, waiting_of}
 use Rattle.plain_server.specs.States as states
 use Rattle.plain_server.specs.declared.answer.Answer.{Answer}

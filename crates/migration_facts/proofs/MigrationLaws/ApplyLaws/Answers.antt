@@ -1,5 +1,5 @@
 -- What the applier's statements answer.
-use Rattle.std.proofs.Common.{◌≡◌, ℕ, ◌+◌, true, List, [], ◌∷◌, find, Option, Some, None, Err, refl, ap, ◌∙◌, subst}
+use Rattle.std.proofs.Common.{◌≡◌, ℕ, true, List, find, Option, Some, None, Err, refl, ap, ◌∙◌, subst}
 use Rattle.std.specs.Prelude.{option_to_list}
 use Rattle.gho_values.specs.declared.gho_schema.schema.Schema.{Schema}
 use Rattle.gho_values.specs.GhoSchema.Rows.{key_places}
@@ -8,7 +8,6 @@ use Rattle.gho_values.specs.declared.alter_image.image_fault.UnfitAt.{UnfitAt}
 use Rattle.row_store.specs.Databases.{Database, find_table}
 use Rattle.row_store.specs.RowLists.{is_at}
 use Rattle.plain_server.specs.declared.answer.Answer.{Answer}
-use Rattle.plain_server.specs.declared.answer.Answer.TheVariants as answers
 use Rattle.plain_server.specs.declared.work.Reach.{Reach}
 use Rattle.plain_server.specs.declared.work.Work.{Work}
 use Rattle.plain_server.specs.declared.work.Work.TheVariants as works

@@ -1,10 +1,10 @@
 -- Each turn of the applier keeps the tool standing.
-use Rattle.std.proofs.Common.{◌≡◌, ◌<◌, ◌≤◌, ℕ, zero, suc, ◌+◌, Bool, true, false, cond, ◌||◌, List, [], ◌∷◌, ◌++◌, length, map, take, drop, find, Option, Some, None, Result, Ok, Err, refl, sym, ap, ◌∙◌, subst, arith}
+use Rattle.std.proofs.Common.{◌≡◌, ◌<◌, ◌≤◌, ℕ, zero, suc, ◌+◌, Bool, true, false, cond, List, [], ◌∷◌, ◌++◌, length, map, take, drop, find, Option, Some, None, Result, Ok, Err, refl, sym, ap, ◌∙◌, subst, arith}
 use Rattle.std.specs.Prelude.{◌==◌}
 use Rattle.std.specs.List.{AllByRecursion, list_any, slice_get}
 use Rattle.std.specs.Str.{bytes_eq}
 use Rattle.std.proofs.lemmas.Bool.Decides.{nat_tests}
-use Rattle.std.proofs.lemmas.List.{append-nil}
+use Rattle.std.proofs.lemmas.List.{append-nil, nil_from_length}
 use Rattle.gho_values.specs.Storing.{error_number}
 use Rattle.gho_values.specs.GhoSchema.Clustering.{clustered_place}
 use Rattle.gho_values.specs.GhoSchema.Rows.{key_of, key_places}
@@ -24,7 +24,6 @@ use Rattle.plain_server.specs.declared.need.Need.{Need}
 use Rattle.plain_server.specs.declared.request.Request.{Request}
 use Rattle.plain_server.specs.declared.request.Request.TheVariants as requests
 use Rattle.plain_server.specs.declared.session.Limits.{Limits}
-use Rattle.plain_server.specs.declared.work.Work.{Work}
 use Rattle.plain_server.specs.declared.work.Work.TheVariants as works
 use Rattle.plain_server.specs.Answers.{ok, refuses, refuses_value}
 use Rattle.plain_server.specs.Checking.{are_distinct}
@@ -322,14 +321,10 @@ module _ (m : Migration) (at : Clustered m.schema) (rows : List Row) (place : �
               record {
                 stands =
                     leads Resting given_now.next
-                    (batch_is_passed given_now resting is_told (nothing (planned m (own_changes m.name given_now.events)) (ap (λ (l : List Doing). length l) (sym alike) ∙ are_one batch.statements 0 none)) same same_hold refl refl refl);
+                    (batch_is_passed given_now resting is_told (nil_from_length (planned m (own_changes m.name given_now.events)) (ap (λ (l : List Doing). length l) (sym alike) ∙ are_one batch.statements 0 none)) same same_hold refl refl refl);
                 knows = record { step = tt; sized = was.knows.sized };
                 busy = tt;
               }
-            where
-              nothing : (l : List Doing) → length l ≡ 0 → l ≡ []
-              nothing [] e = refl
-              nothing (doing ∷ l) e = absurd (omega (arith, e))
           read_by false some =
               record {
                 stands =

@@ -1,8 +1,9 @@
 -- A condition on the columns of the clustered key reaches the key that a row of the table before has.
-use Rattle.std.proofs.Common.{◌≡◌, ◌≢◌, ℕ, zero, suc, ◌+◌, ◌<◌, Bool, true, false, not, ◌&&◌, ◌||◌, cond, ltb, List, [], ◌∷◌, ◌++◌, length, map, unwrap_or, Option, Some, Result, Ok, refl, sym, ap, subst, ◌∙◌, arith}
+use Rattle.std.proofs.Common.{◌≡◌, ◌≢◌, ℕ, zero, suc, ◌+◌, Bool, true, false, not, ◌||◌, cond, ltb, List, [], ◌∷◌, length, map, unwrap_or, Option, Some, Result, Ok, refl, sym, ap, subst, ◌∙◌, arith}
 use Rattle.std.specs.Prelude.{◌==◌, position, is_none}
 use Rattle.std.specs.List.{AllByRecursion, list_all, list_any, position_or_len, slice_get}
 use Rattle.std.proofs.lemmas.Bool.{and_parts, or_right, false≢true}
+use Rattle.std.proofs.lemmas.Option.{cond_some}
 use Rattle.gho_values.specs.declared.kind.Kind.{Kind}
 use Rattle.gho_values.specs.declared.kind.Kind.TheVariants.{Int, VarChar, VarBinary}
 use Rattle.gho_values.specs.declared.value.Value.{Value}
@@ -16,14 +17,13 @@ use Rattle.gho_values.specs.GhoSchema.Clustering.{clustered_among, is_not_null, 
 use Rattle.gho_values.specs.GhoSchema.Rows.{key_of, key_places}
 use Rattle.gho_values.specs.GhoSchema.Tables.{IsRow}
 use Rattle.gho_values.proofs.SchemaRules.Lists.{All-at, list_all-All, slice_get-map-some}
-use Rattle.gho_values.proofs.SchemaRules.Steps.{some_if}
 use Rattle.gho_values.specs.declared.alter_image.map.MapColumn.{MapColumn}
 use Rattle.gho_values.specs.AlterImage.Images.{source}
 use Rattle.alter_schema.specs.Columns.{is_key_conversion}
 use Rattle.row_store.specs.ClusteredKeys.{HasClusteredKey}
 use Rattle.script_text.specs.declared.statement.Set.{Set}
 use Rattle.plain_server.specs.declared.answer.Answer.{Answer}
-use Rattle.plain_server.specs.Checking.{◌>>=◌, are_distinct, has_columns, places_named, sought_at, sought_each}
+use Rattle.plain_server.specs.Checking.{are_distinct, has_columns, places_named, sought_at, sought_each}
 use Rattle.plain_server.proofs.StatementLaws.Tests.{are_one, same_number}
 use Rattle.migration_program.specs.EventApplier.Appliers.{given_values}
 use Rattle.migration_program.specs.EventApplier.Appliers as appliers
@@ -128,7 +128,7 @@ first_alike test other each (first ∷ xs) x there passes = by (test first) refl
 
 first_same : {X : Type 0} (test other : X → Bool) (xs : List X) (place : ℕ) (x : X) → ((y : X) → other y ≡ true → test y ≡ true) → position test xs ≡ Some place → slice_get xs place ≡ Some x → other x ≡ true → position other xs ≡ Some place
 first_same test other xs place x each is there passes =
-    let found = some_if (ltb (position_or_len test xs) (length xs)) (position_or_len test xs) place is in
+    let found = cond_some (ltb (position_or_len test xs) (length xs)) (position_or_len test xs) place is in
     let alike : position_or_len other xs ≡ place = first_alike test other each xs x (ap (slice_get xs) found.1 ∙ there) passes ∙ found.1 in
     let within : ltb place (length xs) ≡ true = ap (λ (n : ℕ). ltb n (length xs)) (sym found.1) ∙ found.0 in
     rw alike (rw within refl)
@@ -137,11 +137,7 @@ among_own : (more places : List ℕ) → ((place : ℕ) → list_any (λ other. 
 among_own more [] each = refl
 among_own more (place ∷ places) each =
     let here : list_any (λ other. place == other) more ≡ true = each place (rw (same_number place) refl) in
-    rw (here, among_own more places (λ p is. each p (or_second (p == place) (list_any (λ other. p == other) places) is))) refl
-  where
-    or_second : (a b : Bool) → b ≡ true → (a || b) ≡ true
-    or_second true b is = refl
-    or_second false b is = is
+    rw (here, among_own more places (λ p is. each p (or_right (p == place) (list_any (λ other. p == other) places) is))) refl
 
 -- a key has its own columns
 has_own : (index : Index) → has_columns index.places index ≡ true

@@ -1,14 +1,11 @@
 -- What an answer makes of the applier's record, and what it then knows of the journal.
-use Rattle.std.proofs.Common.{◌≡◌, ◌<◌, ℕ, ◌+◌, List, [], ◌∷◌, ◌++◌, drop, Option, Some, None, refl, sym, ap, ◌∙◌, subst}
-use Rattle.gho_values.specs.declared.value.Value.{Value}
+use Rattle.std.proofs.Common.{◌≡◌, ℕ, List, ◌++◌, drop, Option, Some, None, refl, sym, ap, ◌∙◌, subst}
 use Rattle.plain_server.specs.declared.answer.Answer.{Answer}
 use Rattle.plain_server.specs.declared.answer.Answer.TheVariants as answers
 use Rattle.plain_server.specs.declared.entry.Entry.{Entry}
 use Rattle.plain_server.specs.declared.outcome.Progress.TheVariants.{Unfit}
-use Rattle.plain_server.specs.declared.request.Request.{Request}
 use Rattle.plain_server.specs.Entries.{answer_at}
 use Rattle.plain_server.specs.Reading.{events_in}
-use Rattle.event_codec.specs.declared.event.RowEvent.{RowEvent}
 use Rattle.migration_program.specs.declared.event_applier.applier.Applier.{Applier}
 use Rattle.migration_program.specs.declared.event_applier.applier.ApplyStep.{ApplyStep}
 use Rattle.migration_program.specs.declared.event_applier.applier.ApplyStep.TheVariants.{Reading, Beginning, Applying, Committing}

@@ -1,9 +1,10 @@
 -- Names of columns find their places.
-use Rattle.std.proofs.Common.{◌≡◌, ℕ, zero, suc, ◌+◌, ◌<◌, Bool, true, false, ◌||◌, ltb, List, [], ◌∷◌, length, map, Some, Ok, refl, sym, ap, ◌∙◌, arith}
+use Rattle.std.proofs.Common.{◌≡◌, ℕ, zero, suc, ◌+◌, ◌<◌, true, false, ltb, List, [], ◌∷◌, length, map, Some, Ok, refl, sym, ap, ◌∙◌, arith}
 use Rattle.std.specs.Prelude.{◌==◌}
 use Rattle.std.specs.List.{AllByRecursion, list_any, position_or_len, slice_get}
 use Rattle.std.proofs.lemmas.Bool.{lt-ltb}
 use Rattle.std.proofs.lemmas.Bool.Decides.{nat_tests}
+use Rattle.std.proofs.lemmas.Option.{slice_get_within}
 use Rattle.gho_values.specs.declared.value.Value.{Value}
 use Rattle.gho_values.specs.declared.gho_schema.schema.Column.{Column}
 use Rattle.gho_values.specs.declared.gho_schema.schema.Schema.{Schema}
@@ -12,7 +13,7 @@ use Rattle.gho_values.proofs.SchemaRules.SameNames.{other_name-turned, same_name
 use Rattle.gho_values.specs.declared.alter_image.map.MapColumn.{MapColumn}
 use Rattle.schema_facts.proofs.AlterLaws.Apart.{Apart, IsNot}
 use Rattle.script_text.specs.declared.statement.Set.{Set}
-use Rattle.plain_server.specs.Checking.{◌>>=◌, are_distinct, place_of, places_from, places_named}
+use Rattle.plain_server.specs.Checking.{are_distinct, place_of, places_from, places_named}
 use Rattle.migration_program.specs.EventApplier.Appliers.{name_at, sets}
 use Rattle.migration_program.specs.EventApplier.Planning.{key_sets}
 use Rattle.journal_facts.specs.GhostLaws.GhostRows.Moments.{Row}
@@ -34,16 +35,11 @@ name_here (first ∷ columns) (suc place) own apart there =
     let rest : position_or_len (λ column. same_name column.name own.name) columns ≡ place = name_here columns place own apart.1 there in
     rw (other, rest) (let e : 1 + place ≡ suc place = omega arith in e)
 
-place_within : (columns : List Column) (place : ℕ) (own : Column) → slice_get columns place ≡ Some own → place < length columns
-place_within [] place own there = absurd cc
-place_within (first ∷ columns) zero own there = omega arith
-place_within (first ∷ columns) (suc place) own there = let less : place < length columns = place_within columns place own there in omega (arith, less)
-
 -- a column's name is found
 pub name_found : (schema : Schema) (place : ℕ) (own : Column) → Apart schema.columns → slice_get schema.columns place ≡ Some own → place_of schema own.name ≡ Ok place
 name_found schema place own apart there =
     let here : position_or_len (λ column. same_name column.name own.name) schema.columns ≡ place = name_here schema.columns place own apart there in
-    let within : ltb place (length schema.columns) ≡ true = lt-ltb place (length schema.columns) (place_within schema.columns place own there) in
+    let within : ltb place (length schema.columns) ≡ true = lt-ltb place (length schema.columns) (slice_get_within schema.columns place own there) in
     rw here (rw within refl)
 
 -- there is a column at the place

@@ -1,9 +1,10 @@
 -- What the applier plans is what is planned for the log's changes of the table.
-use Rattle.std.proofs.Common.{◌≡◌, ℕ, zero, suc, ◌+◌, ◌<◌, ◌≤◌, Bool, true, false, cond, List, [], ◌∷◌, ◌++◌, length, map, drop, filter, Option, Some, None, refl, sym, ap, ◌∙◌, subst, arith}
+use Rattle.std.proofs.Common.{◌≡◌, ℕ, zero, suc, ◌+◌, ◌<◌, Bool, true, false, cond, List, [], ◌∷◌, ◌++◌, length, drop, filter, Option, Some, None, refl, sym, ap, ◌∙◌, subst, arith}
 use Rattle.std.specs.Prelude.{not}
 use Rattle.std.specs.List.{AllByRecursion, flat_map, list_any, slice_get}
 use Rattle.std.specs.Str.{bytes_eq}
 use Rattle.std.specs.Ordering.{is_eq}
+use Rattle.std.proofs.lemmas.Option.{slice_get_within}
 use Rattle.gho_values.specs.declared.value.Value.{Value}
 use Rattle.gho_values.specs.Comparing.{compare_keys}
 use Rattle.gho_values.specs.declared.gho_schema.schema.Column.{Column}
@@ -99,11 +100,6 @@ planned_alike m applier events finds table schema cs are =
 
 -- THE CHANGES OF A LOG ARE OF ROWS
 
-within_log : (log : List RowEvent) (i : ℕ) (event : RowEvent) → slice_get log i ≡ Some event → i < length log
-within_log [] i event there = absurd cc
-within_log (first ∷ log) zero event there = omega arith
-within_log (first ∷ log) (suc i) event there = let less : i < length log = within_log log i event there in omega (arith, less)
-
 fits_rows : (schema : Schema) (rows : List Row) (change : Change) → AllByRecursion (IsRow schema.columns) rows → Fits schema rows change → ChangesRows schema.columns change
 fits_rows schema rows (Write row) all fits = fits.0
 fits_rows schema rows (Update before after) all fits = (found_in (is_at (key_places schema) (key_of (key_places schema) before)) (IsRow schema.columns) rows before all fits.0, fits.1)
@@ -112,7 +108,7 @@ fits_rows schema rows (Delete row) all fits = found_in (is_at (key_places schema
 module _ (m : Migration) (rows : List Row) (plan : IsPlanned m rows) (log : List RowEvent) (log_fits : LogFits m.name m.schema rows log) where
   event_rows : (i : ℕ) (event : RowEvent) → slice_get log i ≡ Some event → bytes_eq event.table m.name ≡ true → ChangesRows m.schema.columns event.change
   event_rows i event there named =
-      let one : EventAt m.name m.schema rows log i = step m.name m.schema log rows i (within_log log i event there) log_fits in
+      let one : EventAt m.name m.schema rows log i = step m.name m.schema log rows i (slice_get_within log i event there) log_fits in
       let same : one.event ≡ event = (let both : Some one.event ≡ Some event = sym one.there ∙ there in cc) in
       let table : IsTable m.schema (rows_at m.name (key_places m.schema) rows log i) = each_table m.name m.schema plan.old_key log rows i plan.table log_fits in
       subst (λ (e : RowEvent). ChangesRows m.schema.columns e.change) same (fits_rows m.schema (rows_at m.name (key_places m.schema) rows log i) one.event.change table.rows_fit (one.fits (ap (λ (e : RowEvent). bytes_eq e.table m.name) same ∙ named)))

@@ -1,15 +1,13 @@
 -- What the applier's statements rest on holds of each ALTER that is taken.
-use Rattle.std.proofs.Common.{◌≡◌, ℕ, List, [], ◌∷◌, length, map, Option, refl, sym, ap, ◌∙◌, subst, arith}
+use Rattle.std.proofs.Common.{◌≡◌, ℕ, List, [], ◌∷◌, length, Option, refl, sym, ap, ◌∙◌, subst, arith}
 use Rattle.std.specs.List.{AllByRecursion}
 use Rattle.gho_values.specs.declared.gho_schema.schema.Column.{Column}
 use Rattle.gho_values.specs.declared.gho_schema.schema.Index.{Index}
 use Rattle.gho_values.specs.declared.gho_schema.schema.Schema.{Schema}
 use Rattle.gho_values.specs.GhoSchema.Clustering.{clustered_key}
 use Rattle.gho_values.specs.GhoSchema.Rows.{places_of}
-use Rattle.gho_values.specs.declared.alter_image.clause.Clause.{Clause}
-use Rattle.gho_values.specs.declared.alter_image.map.MapColumn.{MapColumn}
 use Rattle.alter_schema.specs.declared.standing.Standing.{Standing}
-use Rattle.alter_schema.specs.Altering.{altered, map_of}
+use Rattle.alter_schema.specs.Altering.{map_of}
 use Rattle.schema_facts.proofs.AlterLaws.ImageTables.{Both, both-clustered}
 use Rattle.schema_facts.proofs.AlterLaws.Images.{map-at}
 use Rattle.schema_facts.proofs.AlterLaws.KeepingKeys.{Ends, ends}

@@ -1,6 +1,5 @@
 -- What the applier's statements are to do.
-use Rattle.std.proofs.Common.{◌≡◌, ℕ, suc, ◌+◌, true, false, List, [], ◌∷◌, length, map, Some, None, Result, Ok, Err, refl, sym, ap, ◌∙◌}
-use Rattle.gho_values.specs.declared.value.Value.{Value}
+use Rattle.std.proofs.Common.{◌≡◌, ℕ, suc, true, false, List, [], ◌∷◌, length, Some, None, Result, Ok, Err, refl, sym, ap, ◌∙◌}
 use Rattle.gho_values.specs.declared.gho_schema.schema.Column.{Column}
 use Rattle.gho_values.specs.declared.gho_schema.schema.Schema.{Schema}
 use Rattle.gho_values.specs.GhoSchema.Clustering.{clustered_place}
@@ -12,11 +11,10 @@ use Rattle.gho_values.specs.AlterImage.Images.{image}
 use Rattle.schema_facts.proofs.AlterLaws.Apart.{names-apart}
 use Rattle.script_text.specs.declared.statement.Statement.{Statement}
 use Rattle.script_text.specs.declared.statement.Statement.TheVariants as statements
-use Rattle.script_text.specs.declared.statement.Set.{Set}
 use Rattle.plain_server.specs.declared.work.Work.{Work}
 use Rattle.plain_server.specs.declared.work.Work.TheVariants as works
 use Rattle.plain_server.specs.Answers.{refuses, refuses_value}
-use Rattle.plain_server.specs.Checking.{◌>>=◌, are_distinct, reach_equal, reach_of, work_of}
+use Rattle.plain_server.specs.Checking.{are_distinct, reach_equal, reach_of, work_of}
 use Rattle.plain_server.specs.Jobs.{table_of}
 use Rattle.migration_program.specs.declared.event_applier.applier.Applier.{Applier}
 use Rattle.migration_program.specs.EventApplier.Appliers.{Doing, by_key, given_values, sets, statement_of}

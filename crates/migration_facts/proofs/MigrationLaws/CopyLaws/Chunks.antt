@@ -1,14 +1,9 @@
 -- Where the copier is behind a turn, and what the ghost relation says of where it is.
-use Rattle.std.proofs.Common.{◌≡◌, ℕ, ◌+◌, Bool, true, false, cond, List, [], ◌∷◌, ◌++◌, length, Option, Some, None, refl, sym, ap, ◌∙◌, subst}
-use Rattle.std.specs.List.{list_any}
-use Rattle.std.specs.Str.{bytes_eq}
+use Rattle.std.proofs.Common.{◌≡◌, ℕ, false, List, ◌++◌, length, Option, Some, refl, sym, ap, ◌∙◌, subst}
 use Rattle.gho_values.specs.declared.span.Bound.{Bound}
 use Rattle.gho_values.specs.declared.span.Bound.TheVariants.{Closed}
 use Rattle.gho_values.specs.declared.span.Span.{Span}
-use Rattle.gho_values.specs.GhoSchema.Rows.{key_places}
-use Rattle.row_store.specs.Databases.{find_table}
 use Rattle.plain_server.specs.declared.answer.Answer.{Answer}
-use Rattle.plain_server.specs.declared.answer.Answer.TheVariants as answers
 use Rattle.plain_server.specs.declared.entry.Entry.{Entry}
 use Rattle.plain_server.specs.Entries.{answer_at}
 use Rattle.plain_server.specs.Reading.{end_in, keys_in}
@@ -18,13 +13,10 @@ use Rattle.migration_program.specs.declared.chunk_copier.copier.CopyRange.{CopyR
 use Rattle.migration_program.specs.declared.chunk_copier.copier.CopyStep.{CopyStep}
 use Rattle.migration_program.specs.declared.chunk_copier.copier.CopyStep.TheVariants.{Choosing, Spanning, Copying, Committing}
 use Rattle.migration_program.specs.ChunkCopier.Copiers.{low_end}
-use Rattle.journal_facts.specs.GhostLaws.GhostRows.Moments.{Row, rows_at}
-use Rattle.journal_facts.specs.GhostLaws.GhostRows.Timelines.{Migration}
-use Rattle.journal_facts.specs.GhostLaws.Tool.{CopyState}
 use Rattle.journal_facts.specs.GhostLaws.Tool.CopyState.{Waiting, Taking}
 use Rattle.migration_program.proofs.JournalWords.Answers.{answer_more}
 use Rattle.migration_facts.specs.MigrationLaws.CopyLaws.Copying.{CopierKnows, IsChunkTold, StepKnows, copy_state, left_of, state_at_step, taking_of}
-use Rattle.migration_facts.proofs.MigrationLaws.CopyLaws.Knowing.{IsWaiting, low_more, waiting_state}
+use Rattle.migration_facts.proofs.MigrationLaws.CopyLaws.Knowing.{low_more}
 
 -- what is left, behind more turns
 pub left_more : (journal more : List Entry) (copier : Copier) (range : CopyRange) → CopierKnows journal copier → left_of (journal ++ more) copier range ≡ left_of journal copier range

@@ -1,9 +1,9 @@
 -- Each turn of the copier keeps the tool standing.
-use Rattle.std.proofs.Common.{◌≡◌, ◌<◌, ℕ, zero, suc, ◌+◌, ◌==◌, nat_lt, Bool, true, false, cond, List, [], ◌∷◌, ◌++◌, length, take, filter, find, Option, Some, None, Result, Ok, Err, refl, sym, ap, ◌∙◌, subst, inl, arith}
+use Rattle.std.proofs.Common.{◌≡◌, ◌<◌, ℕ, zero, suc, ◌+◌, ◌==◌, nat_lt, Bool, true, false, cond, List, [], ◌∷◌, ◌++◌, length, take, filter, Option, Some, None, Result, Ok, Err, refl, sym, ap, ◌∙◌, subst, inl, arith}
 use Rattle.std.specs.List.{AllByRecursion, list_any, slice_get}
 use Rattle.std.specs.Str.{bytes_eq}
 use Rattle.std.specs.Ordering.{is_eq}
-use Rattle.std.proofs.lemmas.Bool.{false≢true, true≢false}
+use Rattle.std.proofs.lemmas.Bool.{false≢true}
 use Rattle.std.proofs.lemmas.List.{append-nil}
 use Rattle.gho_values.specs.declared.span.Bound.{Bound}
 use Rattle.gho_values.specs.declared.span.Bound.TheVariants.{Open, Closed}
@@ -49,8 +49,8 @@ use Rattle.migration_program.specs.declared.chunk_copier.copier.Copier.{Copier}
 use Rattle.migration_program.specs.declared.chunk_copier.copier.CopyRange.{CopyRange}
 use Rattle.migration_program.specs.declared.chunk_copier.copier.CopyStep.{CopyStep}
 use Rattle.migration_program.specs.declared.chunk_copier.copier.CopyStep.TheVariants.{Choosing, Spanning, Copying, Committing}
-use Rattle.migration_program.specs.ChunkCopier.Copiers.{after_answer, call_at, copies, is_top, low_end, progress, took}
-use Rattle.plain_server.specs.StatementLaws.Agreeing.{Among, Within}
+use Rattle.migration_program.specs.ChunkCopier.Copiers.{call_at, copies, is_top, low_end, progress, took}
+use Rattle.plain_server.specs.StatementLaws.Agreeing.{Among}
 use Rattle.plain_server.specs.StatementLaws.Covering.{Apart}
 use Rattle.plain_server.proofs.StatementLaws.Points.{among-right, within-itself, within-left, within-right}
 use Rattle.plain_server.proofs.StatementLaws.Tests.{are_one}
@@ -58,7 +58,7 @@ use Rattle.journal_facts.proofs.Answering.{apart_both}
 use Rattle.journal_facts.proofs.Journals.{journal_holds}
 use Rattle.journal_facts.proofs.Kept.{apart-turn}
 use Rattle.journal_facts.proofs.Words.{names_last, names_left}
-use Rattle.journal_facts.specs.Scenes.{Besides, Scene, SessionHold, Stored, no_hold}
+use Rattle.journal_facts.specs.Scenes.{Besides, Scene, SessionHold, no_hold}
 use Rattle.journal_facts.specs.Holdings.{face_of, stored}
 use Rattle.journal_facts.specs.Turns.{inner, scene_state, told_at}
 use Rattle.journal_facts.specs.GhostLaws.GhostRows.Moments.{Row, rows_at}
@@ -67,7 +67,7 @@ use Rattle.journal_facts.specs.GhostLaws.Holding.{Clustered}
 use Rattle.journal_facts.specs.GhostLaws.Fitting.{EventsFit}
 use Rattle.journal_facts.specs.GhostLaws.Invariant.{IsServed, NotOf}
 use Rattle.journal_facts.specs.GhostLaws.Leaving.{DeedLeaves, deed_answer, is_lost, told_done, undone_hold, unless_lost, was_done, where_done, with_grant}
-use Rattle.journal_facts.specs.GhostLaws.Running.{ApplyPlan, Commits, DoesJob, ToolMoment, ToolStands}
+use Rattle.journal_facts.specs.GhostLaws.Running.{ApplyPlan, ToolMoment, ToolStands}
 use Rattle.journal_facts.specs.GhostLaws.Running.ToolTurn.{chunk_begins, row_copies, chunk_commits, range_ends, chunk_is_lost, chunk_repeats}
 use Rattle.journal_facts.specs.GhostLaws.Given.{IsGiven}
 use Rattle.journal_facts.specs.GhostLaws.Statements.{DoesWork}
@@ -87,7 +87,7 @@ use Rattle.migration_facts.proofs.MigrationLaws.CopyLaws.Chunks.{keys_are, left_
 use Rattle.migration_facts.proofs.MigrationLaws.CopyLaws.Knowing.{Asks, Heard, IsBad, IsNoKeys, IsQuiet, IsWaiting, RestsBehind, Undone, asks_at, bad_took, behind_more, chunk_more, heard_as, low_more, quiet_took, rests_behind, took_at, step_more, undone_as, waiting_state}
 use Rattle.migration_facts.proofs.MigrationLaws.CopyLaws.Knowing.Heard.{heard_so, lost_so}
 use Rattle.migration_facts.proofs.MigrationLaws.CopyLaws.Knowing.Undone.{waits_so, ends_so}
-use Rattle.migration_facts.proofs.MigrationLaws.CopyLaws.Served.{seen_of, Deeded, besides_same, deeded, stands_same}
+use Rattle.migration_facts.proofs.MigrationLaws.CopyLaws.Served.{seen_of, Deeded, deeded, stands_same}
 use Rattle.migration_facts.proofs.MigrationLaws.CopyLaws.Served.Deeded.{outside_so, within_so}
 
 -- the turn of the copier, and where it stands before it

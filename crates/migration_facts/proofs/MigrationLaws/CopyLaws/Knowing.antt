@@ -1,6 +1,5 @@
 -- What an answer makes of the copier's record, and what it then knows of the journal.
-use Rattle.std.proofs.Common.{◌≡◌, ◌<◌, ℕ, ◌+◌, Bool, true, false, cond, List, [], ◌∷◌, ◌++◌, length, Option, Some, None, refl, sym, ap, ◌∙◌, subst}
-use Rattle.gho_values.specs.declared.span.Bound.{Bound}
+use Rattle.std.proofs.Common.{◌≡◌, ◌<◌, ℕ, Bool, true, false, cond, List, ◌++◌, Option, Some, None, refl, sym, ap, ◌∙◌, subst}
 use Rattle.gho_values.specs.declared.span.Bound.TheVariants.{Open}
 use Rattle.script_text.specs.declared.actor.Side.{Side}
 use Rattle.plain_server.specs.declared.answer.Answer.{Answer}
@@ -18,8 +17,7 @@ use Rattle.migration_program.specs.ChunkCopier.Copiers.{after_answer, call_at, c
 use Rattle.journal_facts.specs.Scenes.{SessionHold, no_hold}
 use Rattle.journal_facts.specs.Turns.{told_at}
 use Rattle.journal_facts.specs.Turns as turns
-use Rattle.journal_facts.specs.GhostLaws.Leaving.{is_lost, told_done, undone_hold, was_done}
-use Rattle.journal_facts.specs.GhostLaws.Tool.{CopyState}
+use Rattle.journal_facts.specs.GhostLaws.Leaving.{is_lost, told_done, undone_hold}
 use Rattle.journal_facts.specs.GhostLaws.Tool.CopyState.{Waiting}
 use Rattle.migration_program.proofs.JournalWords.Answers.{answer_more}
 use Rattle.migration_facts.specs.MigrationLaws.CopyLaws.Copying.{BehindTold, IsAnsweredAt, IsChunkTold, StepKnows, copy_state, left_of}

@@ -1,7 +1,7 @@
 -- The copy of a row, as work on the new table.
-use Rattle.std.proofs.Common.{◌≡◌, ℕ, zero, suc, ◌+◌, ◌<◌, Bool, true, false, cond, List, [], ◌∷◌, ◌++◌, length, find, Option, Some, None, Result, Ok, Err, refl, sym, ap, ◌∙◌, subst, arith}
+use Rattle.std.proofs.Common.{◌≡◌, ℕ, zero, suc, ◌+◌, ◌<◌, Bool, true, false, cond, List, [], ◌∷◌, length, find, Some, None, Ok, Err, refl, sym, ap, ◌∙◌, subst, arith}
 use Rattle.std.specs.Prelude.{◌==◌}
-use Rattle.std.specs.List.{AllByRecursion, list_any, slice_get}
+use Rattle.std.specs.List.{AllByRecursion, list_any}
 use Rattle.std.proofs.lemmas.Bool.Decides.{nat_tests}
 use Rattle.std.specs.Str.{bytes_eq}
 use Rattle.gho_values.specs.declared.value.Value.{Value}
@@ -25,7 +25,7 @@ use Rattle.plain_server.specs.Checking.{beside, new_row, places_from, row_from}
 use Rattle.gho_values.specs.declared.span.Span.{Span}
 use Rattle.plain_server.specs.Chunks.{first_keys, span_keys}
 use Rattle.plain_server.specs.Chunks as chunks
-use Rattle.plain_server.specs.Jobs.{Job, after_events, copy_from, copy_job, copy_work, events_of, job_says, result_in}
+use Rattle.plain_server.specs.Jobs.{Job, after_events, copy_job, copy_work, events_of, job_says}
 use Rattle.plain_server.specs.Saying.{tells}
 use Rattle.migration_program.specs.declared.chunk_copier.copier.Chunk.{Chunk}
 use Rattle.migration_program.specs.declared.chunk_copier.copier.Copier.{Copier}

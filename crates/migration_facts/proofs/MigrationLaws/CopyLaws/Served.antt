@@ -1,5 +1,5 @@
 -- The deed of an entry's request, by what its session holds; and moments that are the same.
-use Rattle.std.proofs.Common.{◌≡◌, ℕ, Bool, true, false, not, List, [], ◌∷◌, ◌++◌, refl, sym, ap, ◌∙◌, subst}
+use Rattle.std.proofs.Common.{◌≡◌, ℕ, Bool, true, false, not, List, refl, sym, ap, ◌∙◌, subst}
 use Rattle.std.specs.Prelude.{◌==◌}
 use Rattle.event_codec.specs.declared.event.RowEvent.{RowEvent}
 use Rattle.row_store.specs.Databases.{Database}
@@ -14,7 +14,7 @@ use Rattle.plain_server.specs.Deeds.Deed.{Rests}
 use Rattle.plain_server.specs.Entries.{is_client, is_command}
 use Rattle.plain_server.specs.Jobs.{after_events}
 use Rattle.plain_server.specs.States.{State, is_in_transaction, session_of, view, writes_of}
-use Rattle.migration_program.specs.JournalWords.Journals.{opens, opens_if}
+use Rattle.migration_program.specs.JournalWords.Journals.{opens}
 use Rattle.plain_server.proofs.StatementLaws.Tests.{are_one}
 use Rattle.journal_facts.specs.Scenes.{Besides, SessionHold, Stored}
 use Rattle.journal_facts.specs.Holdings.{Face, face_of, stored}
@@ -24,7 +24,7 @@ use Rattle.journal_facts.specs.GhostLaws.GhostRows.Moments.{Row}
 use Rattle.journal_facts.specs.GhostLaws.GhostRows.Timelines.{Migration}
 use Rattle.journal_facts.specs.GhostLaws.Holding.{Clustered}
 use Rattle.journal_facts.specs.GhostLaws.Leaving.{where_done}
-use Rattle.journal_facts.specs.GhostLaws.Running.{ApplyPlan, ToolMoment, ToolStands}
+use Rattle.journal_facts.specs.GhostLaws.Running.{ApplyPlan, ToolStands}
 use Rattle.journal_facts.specs.GhostLaws.Tool.{CopyState}
 use Rattle.journal_facts.proofs.GhostLaws.Leaving.{holds_of}
 use Rattle.migration_facts.specs.MigrationLaws.CopyLaws.Copying.{moment_of}

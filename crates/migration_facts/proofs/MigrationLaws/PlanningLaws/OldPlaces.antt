@@ -1,8 +1,9 @@
 -- The unique keys of an altered table, as keys of the table before.
-use Rattle.std.proofs.Common.{◌≡◌, ℕ, zero, suc, Bool, true, false, not, ◌&&◌, eqb, List, [], ◌∷◌, ◌++◌, map, length, Option, Some, None, Ok, refl, sym, ap, subst, ◌∙◌}
+use Rattle.std.proofs.Common.{◌≡◌, ℕ, zero, suc, Bool, true, not, ◌&&◌, eqb, List, [], ◌∷◌, length, Some, None, Ok, refl, sym, ap, subst, ◌∙◌}
 use Rattle.std.specs.List.{slice_get}
 use Rattle.std.specs.Ordering.{is_eq}
 use Rattle.std.proofs.lemmas.Bool.{not-false}
+use Rattle.std.proofs.lemmas.Map.Keys.{any_passes_from_place}
 use Rattle.gho_values.specs.declared.value.Value.{Value}
 use Rattle.gho_values.specs.Comparing.{compare_keys}
 use Rattle.gho_values.specs.declared.gho_schema.schema.Index.{Index}
@@ -23,7 +24,7 @@ use Rattle.schema_facts.specs.AlterLaws.Laws.{Altered}
 use Rattle.schema_facts.proofs.AlterLaws.Images.{map-at, key-same}
 use Rattle.schema_facts.proofs.AlterLaws.Steps.{Kept}
 use Rattle.schema_facts.proofs.AlterLaws.Traces.{SamePlaces, Traced}
-use Rattle.schema_facts.proofs.AlterLaws.KeepingKeys.{Ends, ends, at-place, any-item, any-at, clashes, keeps-parts, clustered-stands, same_columns-are}
+use Rattle.schema_facts.proofs.AlterLaws.KeepingKeys.{ends, at-place, any-item, clashes, keeps-parts, clustered-stands, same_columns-are}
 use Rattle.journal_facts.specs.GhostLaws.GhostRows.Timelines.{old_places, kept_key, kept_keys}
 
 -- the places that a traced key's columns come from
@@ -70,7 +71,7 @@ kept_are_old approve schema clauses new row other lawful e clash_kept =
     let s = stay_at approve schema clauses new found.place key.0 lawful e key.1 in
     let places : found.item.places ≡ s.old.places = sym (ap (λ (i : Index). i.places) key.2) ∙ s.places in
     let old : clashes row other s.old ≡ true = subst (λ (ps : List ℕ). (is_eq (compare_keys (key_of ps row) (key_of ps other)) && no_null (key_of ps row)) ≡ true) places found.passes in
-    any-at (clashes row other) schema.uniques s.place s.old s.stands old
+    any_passes_from_place (clashes row other) schema.uniques s.place s.old s.stands old
 
 -- *Images clash only where their rows clash in the kept keys.*
 pub images_clash : (approve : Bool) (schema : Schema) (clauses : List Clause) (new : Altered) (a b made other : List Value) → IsLawful schema → altered approve schema clauses ≡ Ok new → IsRow schema.columns a → IsRow schema.columns b → image new.1 a ≡ Ok made → image new.1 b ≡ Ok other
@@ -83,7 +84,7 @@ images_clash approve schema clauses new a b made other lawful e is also image_a 
     let passes : clashes a b (kept_key new.1 found.item) ≡ true =
     subst (λ (k : List Value). (is_eq (compare_keys k (key_of (old_places new.1 found.item.places) b)) && no_null k) ≡ true) first
     (subst (λ (k : List Value). (is_eq (compare_keys (key_of found.item.places made) k) && no_null (key_of found.item.places made)) ≡ true) second found.passes) in
-    any-at (clashes a b) (kept_keys new.1 new.0.uniques) found.place (kept_key new.1 found.item) (get-kept new.1 new.0.uniques found.place found.item found.here) passes
+    any_passes_from_place (clashes a b) (kept_keys new.1 new.0.uniques) found.place (kept_key new.1 found.item) (get-kept new.1 new.0.uniques found.place found.item found.here) passes
 
 -- *The clustered key is kept.*
 pub clustered_from : (schema : Schema) (standing : Standing) (old index : Index) → Kept schema standing → first_reason (result_reasons schema standing) ≡ None → clustered_key schema ≡ Some old → clustered_key standing.schema ≡ Some index

@@ -1,5 +1,5 @@
 -- What the ghost relation asks of a migration.
-use Rattle.std.proofs.Common.{◌≡◌, ℕ, ◌<◌, Bool, true, false, not, eqb, List, [], ◌∷◌, length, Option, Some, None, Result, Ok, Err, refl, sym, ap, subst, ◌∙◌, arith}
+use Rattle.std.proofs.Common.{◌≡◌, ℕ, ◌<◌, true, not, eqb, List, [], ◌∷◌, length, Option, Some, None, Result, Ok, Err, sym, ap, subst, ◌∙◌, arith}
 use Rattle.std.specs.List.{list_all, slice_get, AllByRecursion}
 use Rattle.std.specs.Result.{result_ok}
 use Rattle.std.proofs.lemmas.Bool.{and_parts, not-false}
@@ -8,7 +8,6 @@ use Rattle.gho_values.specs.declared.gho_schema.schema.Index.{Index}
 use Rattle.gho_values.specs.declared.gho_schema.schema.Schema.{Schema}
 use Rattle.gho_values.specs.GhoSchema.Clustering.{is_not_null, clustered_key}
 use Rattle.gho_values.specs.GhoSchema.Rows.{places_of}
-use Rattle.gho_values.specs.declared.alter_image.clause.Clause.{Clause}
 use Rattle.gho_values.specs.declared.alter_image.map.MapColumn.{MapColumn}
 use Rattle.gho_values.specs.SchemaRules.Lawful.{IsKey, IsLawful, IsNotNull}
 use Rattle.gho_values.specs.SchemaRules.Reasons.{first_reason}

@@ -1,5 +1,5 @@
 -- Where the copier is, read off its record and the journal, and what it knows of the journal.
-use Rattle.std.specs.Prelude.{◌≡◌, ◌<◌, ℕ, Bool, if◌then◌else◌, List, length, Option, Some, None}
+use Rattle.std.specs.Prelude.{◌≡◌, ◌<◌, ℕ, if◌then◌else◌, List, length, Option, Some, None}
 use Rattle.gho_values.specs.declared.span.Bound.TheVariants.{Closed}
 use Rattle.gho_values.specs.declared.span.Span.{Span}
 use Rattle.plain_server.specs.declared.answer.Answer.{Answer}

@@ -1,5 +1,5 @@
 -- What the ghost relation asks of a migration, of each ALTER that is taken.
-use Rattle.std.specs.Prelude.{◌≡◌, ℕ, Bool, List, Ok}
+use Rattle.std.specs.Prelude.{◌≡◌, Bool, List, Ok}
 use Rattle.gho_values.specs.declared.value.Value.{Value}
 use Rattle.gho_values.specs.declared.gho_schema.schema.Schema.{Schema}
 use Rattle.gho_values.specs.GhoSchema.Tables.{IsTable}

@@ -2,6 +2,7 @@
 use Rattle.std.proofs.Common.{◌≡◌, ℕ, zero, suc, ◌+◌, ◌<◌, ◌≤◌, Bool, true, false, not, ◌&&◌, ◌||◌, leb, List, [], ◌∷◌, ◌++◌, length, Option, Some, None, Ok, unwrap_or, refl, sym, ap, subst, ◌∙◌, arith, append_assoc, length-append}
 use Rattle.std.specs.Prelude.{is_some, slice_set, sum_by}
 use Rattle.std.specs.List.{insert, remove, slice_get, AllByRecursion}
+use Rattle.std.proofs.Math.Nat.{le_trans}
 use Rattle.std.proofs.lemmas.Bool.{le-leb, leb-true, leb-false, or_parts, not-false}
 use Rattle.std.proofs.lemmas.List.{length-map}
 use Rattle.std.proofs.lemmas.List.Elements.{filter_map-append}
@@ -174,15 +175,12 @@ sum-by-left (kept {y = y} {xs = xs} {ys = ys} left) =
     let own = sum_by-cons (λ (c : Column). default_size c.default) y xs in
     omega (arith, rest, cons, own)
 
-less-too : (a b c : ℕ) → a ≤ b → b ≤ c → a ≤ c
-less-too a b c first second = omega arith
-
 sum-left : (xs ys : List Column) → Left Column xs ys → sum_by (λ (c : Column). default_size c.default) xs ≤ sum_by (λ (c : Column). default_size c.default) ys
 sum-left xs ys left = sum-by-left left
 
 fit-left : (xs ys : List Column) → Left Column xs ys → defaults_fit ys ≡ true → defaults_fit xs ≡ true
 unfolding defaults_fit
-fit-left xs ys left fit = le-leb _ _ (less-too _ _ 4096 (sum-left xs ys left) (leb-true _ _ fit))
+fit-left xs ys left fit = le-leb _ _ (le_trans {k = 4096} (sum-left xs ys left) (leb-true _ _ fit))
 
 sum-set : (columns : List Column) (place : ℕ) (old new : Column) → slice_get columns place ≡ Some old → new.default ≡ old.default → sum_by (λ (c : Column). default_size c.default) (slice_set columns place new) ≡ sum_by (λ (c : Column). default_size c.default) columns
 sum-set [] place old new at same = absurd cc

@@ -1,7 +1,7 @@
 use Rattle.std.proofs.Common.{◌≤◌, ◌+◌, length, sym, subst, arith}
+use Rattle.std.proofs.lemmas.Result.{on_ok_weaker}
 use Rattle.row_store.specs.Databases.{Database, spare_in}
 use Rattle.txn_session.specs.Premises.{HasSchema}
-use Rattle.txn_session.proofs.WrittenTxns.{ok_then}
 use Rattle.store_steps.specs.KeptTxns.Kept.{IsKept}
 use Rattle.store_steps.proofs.KeptTxns.Grown.{making_room_keeps, room_makes_ready}
 use Rattle.store_steps.proofs.making_room.reserve_table.Goals as goal
@@ -10,7 +10,7 @@ pub returns-clause-ready : goal.returns-clause-ready
 returns-clause-ready c =
     let kept : IsKept c.reserve_in.new.self c.args.txns.now = making_room_keeps c.table.result.now c.args.tables.now c.reserve_in.new.self c.args.txns.now c.requires.kept c.reserve_in.ensures.tables c.reserve_in.ensures.spare c.reserve_in.ensures.others in
     let has = subst (λ (db : Database). HasSchema db c.args.writes.now.schema) (sym c.reserve_in.ensures.tables) c.requires.has in
-    ok_then c.reserve_in.result
+    on_ok_weaker c.reserve_in.result
     (λ room number some own.
     let here = rw c.table.ensures at room in
     let enough : c.in-Some.open + length c.args.writes.now.changes ≤ spare_in c.args.writes.now.schema.name c.reserve_in.new.self = omega (arith, here, c.in-Some-checked_add.ensures, c.len.ensures) in

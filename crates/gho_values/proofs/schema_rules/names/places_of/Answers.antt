@@ -1,5 +1,4 @@
-use Rattle.std.proofs.Common.{sym, ap, ◌∙◌, ◌++◌, List, ℕ}
-use Rattle.std.specs.Prelude.{option_to_list}
+use Rattle.std.proofs.Common.{sym}
 use Rattle.gho_values.specs.SchemaRules.Names.{place_of}
 use Rattle.gho_values.proofs.SchemaRules.Loops.{filter_map-up_to_here}
 use Rattle.gho_values.proofs.schema_rules.names.places_of.Goals as goal

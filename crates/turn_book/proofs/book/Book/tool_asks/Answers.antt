@@ -1,10 +1,10 @@
 use Rattle.std.proofs.Common.{List, sym, ap, ◌∙◌}
+use Rattle.std.proofs.lemmas.Result.{IfOk-weaker}
 use Rattle.plain_server.specs.declared.entry.Entry.{Entry}
 use Rattle.migration_program.specs.JournalWords.Sessions.{live_session}
 use Rattle.migration_program.specs.Programs.{tool_asks}
 use Rattle.tool_calls.specs.ToolState.Meanings.{tool_of}
 use Rattle.turn_book.proofs.Givens.{asks_is}
-use Rattle.turn_book.proofs.Results.{if_ok}
 use Rattle.turn_book.proofs.Seen.{seen}
 use Rattle.turn_book.proofs.book.Book.tool_asks.Goals as goal
 
@@ -18,6 +18,6 @@ pub returns : goal.returns
 returns g c =
     let book = c.args.self.now in
     let state = g.V.Serve.state c.args.server.now in
-    if_ok c.asks.result _ _ c.asks.ensures (λ asked is. is
+    IfOk-weaker c.asks.result _ _ (λ asked is. is
     ∙ ap (λ (journal : List Entry). tool_asks book.plan.now journal (record { server = state; tool = tool_of book.tool }) c.args.actor) c.as_slice.ensures.value
-    ∙ asks_is book.plan.now book.journal.items state (tool_of book.tool) c.args.actor c.requires.state c.requires.book.tool)
+    ∙ asks_is book.plan.now book.journal.items state (tool_of book.tool) c.args.actor c.requires.state c.requires.book.tool) c.asks.ensures

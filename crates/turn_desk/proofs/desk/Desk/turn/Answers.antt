@@ -1,10 +1,10 @@
 -- A turn: a ticket is drawn, its turn comes, and what the book answers is told to the pass.
 use Rattle.std.proofs.Common.{sym, ap, ◌∙◌, subst, subst₂}
+use Rattle.std.proofs.lemmas.Option.{same_Some}
 use Rattle.turn_desk.specs.declared.book.Turned.{Turned}
 use Rattle.turn_desk.specs.Boards.{Ends}
 use Rattle.turn_desk.specs.Turns.{PassView, Takes, Sees}
 use Rattle.turn_desk.specs.Views.{known_opening, seen_of, own_of}
-use Rattle.turn_desk.proofs.Gathering.{one_thing}
 use Rattle.turn_desk.proofs.Turning.{drawn, come, rests, took, sees, over, no_memory}
 use Rattle.turn_desk.proofs.desk.Desk.turn.Goals as goal
 
@@ -44,7 +44,7 @@ returns-clause-took g c = λ is.
     let drew = c.draw-ticket.ensures.ticket in
     let me = drawn g.B.Book.opening g.B.Book.entries _ _ _ _ c.pass.inside.seat.me c.draw-ticket.new.seat.me drew.0 c.pass.invariant.1 drew.2 in
     let has = come g.B.Book.opening g.B.Book.entries _ _ _ _ c.draw-ticket.new.seat.me c.wait.new.seat.me drew.0 me c.wait.ensures.comes in
-    let known = one_thing c.pass.invariant.0 c.args.self.now.opening (sym (ap (λ m. known_opening m.0) c.pass.invariant.1) ∙ ap (λ (p : PassView g.row.B-Opening.Denot g.row.B-Event.Denot). p.opening) c.pass.view_is ∙ c.requires.1) in
+    let known = same_Some c.pass.invariant.0 c.args.self.now.opening (sym (ap (λ m. known_opening m.0) c.pass.invariant.1) ∙ ap (λ (p : PassView g.row.B-Opening.Denot g.row.B-Event.Denot). p.opening) c.pass.view_is ∙ c.requires.1) in
     let ends = subst₂ (λ (o : g.row.B-Opening.Denot) (t : Turned). Ends g.B.Book.is_over o has.entries c.pass.inside.worker (own_of c.pass.inside.seat.me.0) t c.take.new.seat.me) known is (c.take.ensures.turned _ has.entries _ has.held) in
     subst (λ (p : PassView g.row.B-Opening.Denot g.row.B-Event.Denot). Takes (g.B.Book.is_over c.args.self.now.opening) p (record { table = c.take.new.seat.table_id; worker = c.pass.inside.worker; opening = known_opening c.take.new.seat.me.0; own = own_of c.take.new.seat.me.0; seen = seen_of c.take.new.seat.me.0 })) c.pass.view_is
     (took g.B.Book.is_over c.args.self.now.opening has.entries _ c.pass.inside.worker _ has.begins c.take.new.seat.me ends)
@@ -62,7 +62,7 @@ returns-clause-over g c = λ is.
     let drew = c.draw-ticket.ensures.ticket in
     let me = drawn g.B.Book.opening g.B.Book.entries _ _ _ _ c.pass.inside.seat.me c.draw-ticket.new.seat.me drew.0 c.pass.invariant.1 drew.2 in
     let has = come g.B.Book.opening g.B.Book.entries _ _ _ _ c.draw-ticket.new.seat.me c.wait.new.seat.me drew.0 me c.wait.ensures.comes in
-    let known = one_thing c.pass.invariant.0 c.args.self.now.opening (sym (ap (λ m. known_opening m.0) c.pass.invariant.1) ∙ ap (λ (p : PassView g.row.B-Opening.Denot g.row.B-Event.Denot). p.opening) c.pass.view_is ∙ c.requires.1) in
+    let known = same_Some c.pass.invariant.0 c.args.self.now.opening (sym (ap (λ m. known_opening m.0) c.pass.invariant.1) ∙ ap (λ (p : PassView g.row.B-Opening.Denot g.row.B-Event.Denot). p.opening) c.pass.view_is ∙ c.requires.1) in
     let ends = subst₂ (λ (o : g.row.B-Opening.Denot) (t : Turned). Ends g.B.Book.is_over o has.entries c.pass.inside.worker (own_of c.pass.inside.seat.me.0) t c.take.new.seat.me) known is (c.take.ensures.turned _ has.entries _ has.held) in
     over g.B.Book.is_over c.args.self.now.opening has.entries _ c.pass.inside.worker _ has.begins c.take.new.seat.me ends
 
@@ -71,6 +71,6 @@ returns-clause-no_memory g c = λ is.
     let drew = c.draw-ticket.ensures.ticket in
     let me = drawn g.B.Book.opening g.B.Book.entries _ _ _ _ c.pass.inside.seat.me c.draw-ticket.new.seat.me drew.0 c.pass.invariant.1 drew.2 in
     let has = come g.B.Book.opening g.B.Book.entries _ _ _ _ c.draw-ticket.new.seat.me c.wait.new.seat.me drew.0 me c.wait.ensures.comes in
-    let known = one_thing c.pass.invariant.0 c.args.self.now.opening (sym (ap (λ m. known_opening m.0) c.pass.invariant.1) ∙ ap (λ (p : PassView g.row.B-Opening.Denot g.row.B-Event.Denot). p.opening) c.pass.view_is ∙ c.requires.1) in
+    let known = same_Some c.pass.invariant.0 c.args.self.now.opening (sym (ap (λ m. known_opening m.0) c.pass.invariant.1) ∙ ap (λ (p : PassView g.row.B-Opening.Denot g.row.B-Event.Denot). p.opening) c.pass.view_is ∙ c.requires.1) in
     let ends = subst₂ (λ (o : g.row.B-Opening.Denot) (t : Turned). Ends g.B.Book.is_over o has.entries c.pass.inside.worker (own_of c.pass.inside.seat.me.0) t c.take.new.seat.me) known is (c.take.ensures.turned _ has.entries _ has.held) in
     no_memory g.B.Book.is_over c.args.self.now.opening has.entries _ c.pass.inside.worker _ has.begins c.take.new.seat.me ends

@@ -1,8 +1,9 @@
 use Rattle.std.proofs.Common.{◌-◌, ℕ, List, refl, subst, arith}
 use Rattle.std.specs.Prelude.{vec_len, vec_capacity}
+use Rattle.std.proofs.lemmas.Result.{on_ok_weaker}
 use Rattle.txn_session.specs.Shown.{find_writes}
 use Rattle.txn_session.specs.Stored.{written_by, HasRoomFor}
-use Rattle.txn_session.proofs.WrittenTxns.{alike_txn, alike_schemas, enough, ok_then}
+use Rattle.txn_session.proofs.WrittenTxns.{alike_txn, alike_schemas, enough}
 use Rattle.txn_session.proofs.txn.Txn.reserve.Goals as goal
 
 pub invariant_of-self : goal.invariant_of-self
@@ -18,7 +19,7 @@ returns-clause-schemas c = rw (← c.self.view_is) (alike_schemas c.self.inside.
 pub returns-clause-room : goal.returns-clause-room
 returns-clause-room c =
     let room = vec_capacity c.reserve_for.new.tables - vec_len c.reserve_for.new.tables in
-    ok_then c.reserve_for.result
+    on_ok_weaker c.reserve_for.result
     (λ has. record {
       events = omega (arith, c.in_ok-reserve_events.ensures.room, c.len.ensures);
       table = enough c.size.result room (written_by c.args.writes.now) (find_writes c.args.writes.now.schema.name c.reserve_for.new.tables.items) c.size.ensures.rows c.size.ensures.keys

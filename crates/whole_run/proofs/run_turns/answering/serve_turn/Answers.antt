@@ -1,13 +1,12 @@
 use Rattle.std.proofs.Common.{rules, ◌≡◌, ◌<◌, ℕ, Option, true, false, refl, sym, ap, ◌∙◌}
+use Rattle.std.proofs.lemmas.Result.{IfOk-weaker, on_ok_weaker}
 use Rattle.plain_server.specs.Entries.{is_command}
 use Rattle.plain_server.specs.States.{has_work}
 use Rattle.migration_program.specs.JournalWords.Journals.{after_entry}
 use Rattle.migration_program.specs.JournalWords.Sessions.{live_session}
 use Rattle.due_turns.specs.declared.migration_run.turning.Taken.{Taken}
 use Rattle.due_turns.specs.MigrationRun.Turning.{session_for, entry_on}
-use Rattle.turn_book.proofs.Results.{if_ok}
 use Rattle.due_turns.specs.Due.{session_at, next_entry}
-use Rattle.whole_run.proofs.RunTurns.Results.{ok_then}
 use Rattle.whole_run.proofs.RunTurns.Served.{session_is, command_session, command_still, command_side, book_counts, may_turn, entry_of_command, entry_of_session, session_of_entry}
 use Rattle.whole_run.proofs.run_turns.answering.serve_turn.Goals as goal
 
@@ -48,17 +47,18 @@ returns-clause-work g c =
     let called : is_command c.args.turn.asked ≡ false = sym c.is_command.ensures ∙ c.if-is_command.false in
     let state = g.V.Serve.state c.args.server.now in
     let own = live_session c.args.book.now.journal.items c.args.turn.actor in
-    if_ok c.take_turn.result (λ (taken : Taken). taken.had_work ≡ has_work state (session_for c.session-session.result state.made)) (λ (taken : Taken). taken.had_work ≡ has_work state (next_entry c.args.book.now.journal.items state c.args.turn).session) c.take_turn.ensures.work
+    IfOk-weaker c.take_turn.result (λ (taken : Taken). taken.had_work ≡ has_work state (session_for c.session-session.result state.made)) (λ (taken : Taken). taken.had_work ≡ has_work state (next_entry c.args.book.now.journal.items state c.args.turn).session)
     (λ taken is.
     is ∙ ap (λ (session : Option ℕ). has_work state (session_for session state.made)) c.session-session.ensures
     ∙ ap (has_work state) (sym (session_of_entry state (session_at c.args.turn.asked own state.made) c.args.turn ∙ session_is c.args.turn.asked own state.made called)))
+    c.take_turn.ensures.work
 
 pub returns-clause-ok : goal.returns-clause-ok
 returns-clause-ok g c =
     let called : is_command c.args.turn.asked ≡ false = sym c.is_command.ensures ∙ c.if-is_command.false in
     let state = g.V.Serve.state c.args.server.now in
-    ok_then c.take_turn.result (g.V.Serve.state c.take_turn.new.server ≡ after_entry state (entry_on state (session_for c.session-session.result state.made) c.args.turn))
-    (g.V.Serve.state c.take_turn.new.server ≡ after_entry state (next_entry c.args.book.now.journal.items state c.args.turn)) c.take_turn.ensures.ok
+    on_ok_weaker c.take_turn.result
     (λ is.
     is ∙ ap (λ (session : Option ℕ). after_entry state (entry_on state (session_for session state.made) c.args.turn)) c.session-session.ensures
     ∙ ap (after_entry state) (entry_of_session c.args.book.now.journal.items state c.args.turn called))
+    c.take_turn.ensures.ok

@@ -1,7 +1,6 @@
-use Rattle.std.proofs.Common.{◌≡◌, Bool, true, false, cond, List, ℕ, Option, Some, None, refl, sym, ap, ◌∙◌}
-use Rattle.gho_values.specs.declared.value.Value.{Value}
-use Rattle.gho_values.specs.GhoSchema.Rows.{has_key, with_row, key_of, put}
-use Rattle.gho_values.specs.GhoSchema.KeyedRows.{with_keys, rows_of}
+use Rattle.std.proofs.Common.{◌≡◌, true, false, Some, refl, sym, ap}
+use Rattle.gho_values.specs.GhoSchema.Rows.{has_key, key_of}
+use Rattle.gho_values.specs.GhoSchema.KeyedRows.{rows_of}
 use Rattle.gho_values.proofs.GhoSchema.RowMap.{contains, inserted, still_kept, rows_are}
 use Rattle.gho_values.proofs.gho_schema.keyed.KeyedRows.put.Goals as goal
 

@@ -1,7 +1,8 @@
 use Rattle.std.proofs.Common.{◌≡◌, ◌+◌, ap, arith}
+use Rattle.std.proofs.lemmas.Result.{on_ok_weaker}
 use Rattle.slab.specs.Slab.{slab_len}
 use Rattle.paged_list.specs.Pages.{flat}
-use Rattle.paged_tables.proofs.RowPages.Reserving.{prepared, widened, roomy, no_less, enough, keys_kept, on_ok}
+use Rattle.paged_tables.proofs.RowPages.Reserving.{prepared, widened, roomy, no_less, enough, keys_kept}
 use Rattle.paged_tables.proofs.row_pages.table.Table.reserve.Goals as goal
 
 pub invariant_of-self-in_err-reserve_all : goal.invariant_of-self-in_err-reserve_all
@@ -43,9 +44,10 @@ returns-clause-ok c =
     let total_is : c.in-Some.total ≡ slab_len c.self.inside.rows + c.args.n = omega (arith, c.in-Some.ensures, c.len.ensures) in
     let same : slab_len c.reserve-2.new.self ≡ slab_len c.self.inside.rows = ap slab_len c.reserve-2.ensures.rest_kept in
     let wide = rw c.reserve.ensures.pages at c.in_ok-reserve.ensures.ok in
-    on_ok c.reserve-2.result _ _ c.reserve-2.ensures.room
-    (λ fits. enough c.self.inside.schema c.self.inside.rows c.reserve-2.new.self (flat c.self.inside.order.pages) c.self.inside.indexes.items c.make_indexes.new.indexes.items c.reserve_all.new.indexes.items c.self.inside.order.spare c.reserve.new.self.spare
-    c.args.n c.in-Some.total ready c.in_ok-reserve_all.ensures.ok total_is same wide fits)
+    on_ok_weaker c.reserve-2.result
+    (enough c.self.inside.schema c.self.inside.rows c.reserve-2.new.self (flat c.self.inside.order.pages) c.self.inside.indexes.items c.make_indexes.new.indexes.items c.reserve_all.new.indexes.items c.self.inside.order.spare c.reserve.new.self.spare
+    c.args.n c.in-Some.total ready c.in_ok-reserve_all.ensures.ok total_is same wide)
+    c.reserve-2.ensures.room
 
 pub returns-clause-spare : goal.returns-clause-spare
 returns-clause-spare c =

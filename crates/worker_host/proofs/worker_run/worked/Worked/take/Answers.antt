@@ -1,12 +1,13 @@
 use Rattle.std.proofs.Common.{ℕ, Bool, false, List, drop, length, sym, ap, ◌∙◌, subst}
 use Rattle.std.specs.Prelude.{vec_len, vec_capacity, slice_index}
+use Rattle.std.proofs.lemmas.List.{take_at}
 use Rattle.plain_server.specs.Entries.{is_cut}
 use Rattle.turn_desk.specs.declared.book.Turned.TheVariants.{Took, NoMemory}
 use Rattle.whole_run.specs.Runs.{RunView}
 use Rattle.worker_host.specs.declared.worker_run.seats.Member.{Member}
 use Rattle.worker_host.specs.WorkerRun.Workers.{places_after}
 use Rattle.worker_host.specs.WorkerRun.WorkedRuns.{listed, WorkedView, TakesOne, IsWorked}
-use Rattle.worker_host.proofs.WorkerRun.Rotating.{length-places_after, written_back}
+use Rattle.worker_host.proofs.WorkerRun.Rotating.{length-places_after}
 use Rattle.worker_host.proofs.WorkerRun.Working.{worked_more, takes_one, not_over_on, has_room, goes_from, finds_someone, takes_or_short}
 use Rattle.worker_host.proofs.worker_run.worked.Worked.take.Goals as goal
 
@@ -31,8 +32,8 @@ invariant_of-self g c =
     let old = subst (IsWorked before c.self.inside.workers c.self.inside.turns.items (vec_len c.self.inside.turns) (vec_capacity c.self.inside.turns) c.self.inside.places.items) c.if-self.false c.self.invariant in
     let at = c.place_from-from.ensures ∙ ap (λ (all : List ℕ). slice_index all c.args.worker) c.as_slice.ensures.value in
     let goes = goes_from before c.self.inside.workers c.self.inside.turns.items (vec_len c.self.inside.turns) (vec_capacity c.self.inside.turns) c.self.inside.places.items false old c.args.worker c.place_from-from.result at in
-    let whole = written_back c.self.inside.places.len c.note.new.places (drop (length c.note.new.places) c.self.inside.places.items)
-    (sym c.as_mut_slice.ensures.len ∙ sym (length-places_after c.as_mut_slice.result.now member c.in-Some.seat.place (is_cut c.last_entry-entry.result.now.asked)) ∙ ap length (sym c.note.ensures.places)) in
+    let whole = take_at c.note.new.places (drop (length c.note.new.places) c.self.inside.places.items) c.self.inside.places.len
+    (ap length c.note.ensures.places ∙ length-places_after c.as_mut_slice.result.now member c.in-Some.seat.place (is_cut c.last_entry-entry.result.now.asked) ∙ c.as_mut_slice.ensures.len) in
     let moves = whole ∙ c.note.ensures.places ∙ ap (λ (all : List ℕ). places_after all member c.in-Some.seat.place (is_cut c.last_entry-entry.result.now.asked)) c.as_mut_slice.ensures.value in
     subst
     (IsWorked c.step.new.self c.self.inside.workers c.note.new.turns.items (vec_len c.note.new.turns) (vec_capacity c.note.new.turns) _) (sym c.if-self.false)
