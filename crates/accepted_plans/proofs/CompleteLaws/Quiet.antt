@@ -8,6 +8,7 @@ use Rattle.script_text.specs.declared.operator.OperatorWord.TheVariants.{Panic}
 use Rattle.plain_server.specs.declared.entry.Entry.{Entry}
 use Rattle.plain_server.specs.Entries.{is_client}
 use Rattle.plan_words.specs.PlanData.{PlanData}
+use Rattle.migration_program.specs.Online.{attempt_goes_on}
 use Rattle.migration_program.specs.Tools.{is_renamed, is_reverting, moment}
 use Rattle.journal_facts.specs.Plans.{limits_of, scene_of, IsSerialPlan}
 use Rattle.journal_facts.specs.Turns.{history}
@@ -19,7 +20,7 @@ use Rattle.journal_facts.proofs.MachineLaws.Staying.{tables_stay}
 use Rattle.migration_facts.specs.CourseLaws.UnalteredLaws.Laws.{IsUnaltered}
 use Rattle.migration_facts.proofs.CourseLaws.UnalteredLaws.Away.{all_asked}
 use Rattle.migration_facts.proofs.FollowLaws.FollowTurns.Follows.{kept_front, kept_run}
-use Rattle.accepted_plans.specs.CompleteLaws.Laws.{IsSmooth, gives_up, may_yet}
+use Rattle.accepted_plans.specs.CompleteLaws.Laws.{IsSmooth, gives_up}
 use Rattle.accepted_plans.specs.CompleteLaws.Quiet.{IsQuiet, RowsHaveImages, is_timed_out}
 use Rattle.accepted_plans.proofs.CompleteLaws.Alone.{Nobody, asks_so, heard_well, is_of_tool, never_cut, no_command, tool_kind, unlost}
 use Rattle.accepted_plans.proofs.CompleteLaws.Fits.{fits_so}
@@ -30,7 +31,7 @@ use Rattle.accepted_plans.proofs.CompleteLaws.Untouched.{IsUntouched, nothing_be
 -- in this turn no wait is over, and no attempt has spent its turns for the drain
 pub record IsBounded (plan : PlanData) (before : List Entry) (entry : Entry) : Type 0 where
   pub timed : is_timed_out entry.answer ≡ false
-  pub drained : entry.actor ≡ Apply → may_yet (moment plan before).tool.course ≡ true → gives_up (moment plan (before ++ entry ∷ [])).tool.course ≡ false
+  pub drained : entry.actor ≡ Apply → attempt_goes_on (moment plan before).tool.course ≡ true → gives_up (moment plan (before ++ entry ∷ [])).tool.course ≡ false
 
 -- what is so behind such a run's turns
 pub record IsQuietSo (plan : PlanData) (journal : List Entry) : Type 0 where

@@ -49,6 +49,7 @@ use Rattle.migration_program.specs.declared.cutover_core.cutover.Role.{Role}
 use Rattle.migration_program.specs.declared.cutover_core.cutover.Role.TheVariants.{Inspector, Locker, Renamer}
 use Rattle.migration_program.specs.declared.cutover_core.cutover.Stage.TheVariants.{Drained}
 use Rattle.migration_program.specs.Operators.{commanded}
+use Rattle.migration_program.specs.Online.{attempt_goes_on}
 use Rattle.migration_program.specs.Programs.{given, Follows}
 use Rattle.migration_program.specs.Setups.{Setup, Listing, Clearing, MakingLog, MakingGhost, Marking, Reaching, Ready, setup_after}
 use Rattle.migration_program.specs.Tools.{Work, Course, SettingUp, Migrating, Reason, CopyUnfit, ApplyUnfit, Spent, Panicked, Tool, Moment, first_reason, stopped, is_renamed, reverts, spends, is_reverting, working, copy_after, apply_after, attempt_after, is_failure, cutover_took, drains, course_of, actor_took, turn_counts, resizes, command_took, asked_took, took, moment}
@@ -65,7 +66,7 @@ use Rattle.migration_facts.proofs.CourseLaws.CourseTurns.{gives_asked}
 use Rattle.migration_facts.proofs.AttemptLaws.Standing.{IsStanding, standing_more, all_standing}
 use Rattle.migration_facts.proofs.AttemptLaws.CauseLaws.Sentry.{sentry_unrefused}
 use Rattle.journal_facts.proofs.SentryLaws.Inductions.{moment_more}
-use Rattle.accepted_plans.specs.CompleteLaws.Laws.{may_yet, gives_up, is_copying, is_applying, has_row, is_unfit, IsSmooth, SmoothRunsAreDone}
+use Rattle.accepted_plans.specs.CompleteLaws.Laws.{gives_up, is_copying, is_applying, has_row, is_unfit, IsSmooth, SmoothRunsAreDone}
 
 -- WHAT A SMOOTH ANSWER MEANS FOR A TASK
 
@@ -357,7 +358,7 @@ module _ (plan : PlanData) (journal : List Entry) (entry : Entry) (is : IsStandi
         true≢false
         (sym (ap (λ (t : Tool). gives_up t.course) (final ∙ ap (λ (c : Course). drains plan c other) eq ∙ ap (λ (b : Bool). attempt_after plan b work turned other) fails)
         ∙ spends_stays plan tasks.CutOver (work.attempt_tries ++ other.turns ∷ []) (working (record work { cutover = turned; attempt_tries = work.attempt_tries ++ other.turns ∷ [] }) other) gave.ends)
-        ∙ smooth.drained who (ap may_yet old.1 ∙ ap may_succeed phase_same ∙ gave.stood))
+        ∙ smooth.drained who (ap attempt_goes_on old.1 ∙ ap may_succeed phase_same ∙ gave.stood))
 
     by : (b : Bool) → is_failure work.cutover.phase turned.phase ≡ b → IsOn (attempt_after plan b work turned other)
     by false calm = record { none = at.on.none; on = quiet_after work.cutover.phase turned.phase (ap cutovers.is_done (sym phase_same) ∙ undone old.0 old.1) (ap is_ending (sym phase_same) ∙ unended old.0 old.1) calm }

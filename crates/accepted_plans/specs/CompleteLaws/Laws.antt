@@ -15,18 +15,14 @@ use Rattle.migration_program.specs.declared.chunk_copier.copier.CopyStep.{CopySt
 use Rattle.migration_program.specs.declared.chunk_copier.copier.CopyStep.TheVariants.{Copying}
 use Rattle.migration_program.specs.declared.event_applier.applier.ApplyStep.{ApplyStep}
 use Rattle.migration_program.specs.declared.event_applier.applier.ApplyStep.TheVariants.{Applying}
-use Rattle.migration_program.specs.CutoverCore.CutOvers.{is_bad, may_succeed, is_ending}
+use Rattle.migration_program.specs.CutoverCore.CutOvers.{is_bad, is_ending}
 use Rattle.migration_program.specs.JournalWords.Journals.{IsFaithful}
+use Rattle.migration_program.specs.Online.{attempt_goes_on}
 use Rattle.migration_program.specs.Programs.{Follows}
 use Rattle.migration_program.specs.Tools.{Course, SettingUp, Migrating, is_renamed, moment}
 use Rattle.migration_program.specs.Verdicts.{has_ended, verdict_of}
 use Rattle.journal_facts.specs.MachineLaws.Forming.{IsFitting}
 use Rattle.journal_facts.specs.MachineLaws.Tabling.{TableStands}
-
--- an attempt stands that may yet succeed
-abbrev pub may_yet : Course → Bool
-may_yet (SettingUp setup tries) = false
-may_yet (Migrating work) = may_succeed work.cutover.phase
 
 -- an attempt ends that didn't succeed
 abbrev pub gives_up : Course → Bool
@@ -59,7 +55,7 @@ pub record IsSmooth (plan : PlanData) (before : List Entry) (entry : Entry) : Ty
   pub heard : is_client entry.actor ≡ false → is_bad entry.answer ≡ false
   pub uncut : is_client entry.actor ≡ false → entry.asked ≢ Cut
   pub fits : has_row entry.actor (moment plan before).tool.course ≡ true → is_unfit entry.answer ≡ false
-  pub drained : entry.actor ≡ Apply → may_yet (moment plan before).tool.course ≡ true → gives_up (moment plan (before ++ entry ∷ [])).tool.course ≡ false
+  pub drained : entry.actor ≡ Apply → attempt_goes_on (moment plan before).tool.course ≡ true → gives_up (moment plan (before ++ entry ∷ [])).tool.course ≡ false
   pub calm : entry.asked ≢ Command Panic
 
 -- *Smooth run*: each turn is smooth, until the tool knows that the RENAME was done.

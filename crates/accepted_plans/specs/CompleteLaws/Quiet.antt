@@ -12,13 +12,14 @@ use Rattle.plain_server.specs.declared.entry.Entry.{Entry}
 use Rattle.plain_server.specs.declared.outcome.Verdict.TheVariants.{Done}
 use Rattle.plan_words.specs.PlanData.{PlanData, new_map}
 use Rattle.migration_program.specs.Orders.{actors, is_ready}
+use Rattle.migration_program.specs.Online.{attempt_goes_on}
 use Rattle.migration_program.specs.Tools.{is_renamed, moment}
 use Rattle.migration_program.specs.Verdicts.{has_ended, verdict_of}
 use Rattle.journal_facts.specs.Plans.{IsSerialPlan}
 use Rattle.journal_facts.specs.RunLaws.Kept.{IsKept}
 use Rattle.journal_facts.specs.MachineLaws.Runnable.{IsRunnable}
 use Rattle.accepted_plans.specs.AcceptedLaws.Laws.{WasRead}
-use Rattle.accepted_plans.specs.CompleteLaws.Laws.{may_yet, gives_up}
+use Rattle.accepted_plans.specs.CompleteLaws.Laws.{gives_up}
 
 -- *Quiet plan*: it has no client, no command of the operator's and no loss of a session.
 pub record IsQuiet (plan : PlanData) : Type 0 where
@@ -45,7 +46,7 @@ is_timed_out answer = false
 -- *Within limits*: in this turn the renamer's wait isn't over, and no attempt has spent its turns for the drain.
 pub record IsWithin (plan : PlanData) (before : List Entry) (entry : Entry) : Type 0 where
   pub timed : entry.actor ≡ Ren → is_timed_out entry.answer ≡ false
-  pub drained : entry.actor ≡ Apply → may_yet (moment plan before).tool.course ≡ true → gives_up (moment plan (before ++ entry ∷ [])).tool.course ≡ false
+  pub drained : entry.actor ≡ Apply → attempt_goes_on (moment plan before).tool.course ≡ true → gives_up (moment plan (before ++ entry ∷ [])).tool.course ≡ false
 
 -- *A run within limits*: each turn is, until the tool knows that the RENAME was done.
 abbrev pub IsWithinLimits : PlanData → List Entry → Type 0
