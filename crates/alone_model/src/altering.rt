@@ -1,6 +1,6 @@
 //! The ALTER of a whole table at one instant.
 
-ghost use Rattle.std.specs.Prelude.{◌≡◌, ◌<◌, ◌^◌, if◌then◌else◌, length, Some, IfOk, option_copied};
+ghost use Rattle.std.specs.Prelude.{◌≡◌, if◌then◌else◌, Some, IfOk, option_copied};
 ghost use Rattle.gho_values.specs.AlterImage.Images.{images};
 ghost use Rattle.row_store.specs.Databases.{is_named, with_change};
 ghost use Rattle.plain_server.specs.StatementLaws.Databases.{WhereFound};
@@ -20,7 +20,6 @@ use std::alloc::{AllocError, Global};
 /// The image of every row; none where a row has no image.
 #[tactic(auto, unfolding(gho_values::specs::AlterImage::Images::images))]
 fn images(alloc: Global, map: &[MapColumn], rows: &[Row]) -> Result<Option<Rows>, AllocError>
-    requires { length map.now < 2 ^ 32 }
     ensures { IfOk result (λ made. made ≡ images map.now rows.now) }
 {
     let mut made = Sequence::new(alloc);
@@ -41,7 +40,6 @@ fn imaged(
     map: &[MapColumn],
     rows: &[Row],
 ) -> Result<Option<PlainTable>, AllocError>
-    requires { length map.now < 2 ^ 32 }
     ensures { IfOk result (λ made. made ≡ imaged (Some (schema, map.now)) rows.now) }
 {
     match images(alloc, map, rows)? {

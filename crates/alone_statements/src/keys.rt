@@ -26,7 +26,7 @@ fn has_no_null(key: &[Value]) -> bool
 }
 
 /// Whether two rows have the same values in this key, none of them null.
-fn clash_in(alloc: Global, places: &[u32], row: &Row, other: &Row) -> Result<bool, AllocError>
+fn clash_in(alloc: Global, places: &[usize], row: &Row, other: &Row) -> Result<bool, AllocError>
     ensures { IfOk result (λ clash. clash ≡ (is_eq (compare_keys (key_of places.now row.now) (key_of places.now other.now)) && no_null (key_of places.now row.now))) }
 {
     let ours = key_of(alloc, places, row.as_slice())?;
@@ -89,7 +89,7 @@ fn key_at(schema: &Schema, place: usize) -> Option<&Index>
 pub fn reaches(alloc: Global, schema: &Schema, reach: &Reach, row: &Row) -> Result<bool, AllocError>
     ensures { IfOk result (λ is. is ≡ reaches schema.now reach.now row.now) }
 {
-    match key_at(schema, reach.key as usize) {
+    match key_at(schema, reach.key) {
         Some(index) => lies_under(alloc, index, &reach.span, row),
         None => Ok(false),
     }

@@ -27,18 +27,18 @@ fn push_value(shown: &mut Row, row: &Row, place: usize) -> Result<(), AllocError
 }
 
 /// The row's values at these places.
-fn values_at(alloc: Global, places: &[u32], row: &Row) -> Result<Row, AllocError>
+fn values_at(alloc: Global, places: &[usize], row: &Row) -> Result<Row, AllocError>
     ensures { IfOk result (λ values. values ≡ flat_map (λ place. option_to_list (slice_get row.now place)) places.now) }
 {
     let mut shown = Sequence::new(alloc);
     for place in places {
-        push_value(&mut shown, row, *place as usize)?;
+        push_value(&mut shown, row, *place)?;
     }
     Ok(shown)
 }
 
 /// The rows' values at these places.
-fn columns_of(alloc: Global, places: &[u32], rows: &[Row]) -> Result<Rows, AllocError>
+fn columns_of(alloc: Global, places: &[usize], rows: &[Row]) -> Result<Rows, AllocError>
     ensures { IfOk result (λ shown. shown ≡ map (λ row. flat_map (λ place. option_to_list (slice_get row place)) places.now) rows.now) }
 {
     let mut shown = Sequence::new(alloc);

@@ -47,7 +47,7 @@ pub fn added(
         None => {
             let nullable = written.nullable.unwrap_or(true);
             let column = column_of(alloc, None, written, nullable)?;
-            let place = spot_place(columns, spot, columns.len() as u32);
+            let place = spot_place(columns, spot, columns.len());
             fitting(standing.put_in(alloc, place, column)?)
         }
     }

@@ -59,17 +59,17 @@ fn steps(
     Ok(standing)
 }
 
-fn is_origin(origins: &[Option<u32>], place: u32, before: u32) -> bool
+fn is_origin(origins: &[Option<usize>], place: usize, before: usize) -> bool
     ensures { result ≡ is_origin (slice_get origins.now place) before }
 {
-    match origins.get(place as usize) {
+    match origins.get(place) {
         Some(Some(old)) => *old == before,
         _ => false,
     }
 }
 
 /// Whether the columns at these places are, one by one, the old columns at the others.
-fn same_columns(origins: &[Option<u32>], places: &[u32], old: &[u32]) -> bool
+fn same_columns(origins: &[Option<usize>], places: &[usize], old: &[usize]) -> bool
     ensures { result ≡ same_columns origins.now places.now old.now }
 {
     if places.len() != old.len() {

@@ -21,7 +21,7 @@ use std::alloc::{AllocError, Global};
 
 fn change_reason(
     schema: &Schema,
-    place: u32,
+    place: usize,
     column: &Column,
     written: &NewColumn,
     spot: &Spot,
@@ -29,7 +29,7 @@ fn change_reason(
     requires { place < length schema.now.columns }
     ensures { IfOk result (λ reason. reason ≡ first_reason (change_reasons schema.now place column.now written.now spot.now)) }
 {
-    let others = removed(schema.columns.copy()?, place as usize);
+    let others = removed(schema.columns.copy()?, place);
     let others = others.as_slice();
     let is_in_keys = is_in_keys(schema.uniques.as_slice(), place);
     Ok(if !is_spot(others, spot) {
@@ -45,7 +45,7 @@ fn change_reason(
     })
 }
 
-fn changed_nullable(schema: &Schema, place: u32, written: &NewColumn) -> bool
+fn changed_nullable(schema: &Schema, place: usize, written: &NewColumn) -> bool
     ensures { result ≡ changed_nullable schema.now place written.now }
 {
     match written.nullable {
@@ -57,7 +57,7 @@ fn changed_nullable(schema: &Schema, place: u32, written: &NewColumn) -> bool
 fn changed_in(
     alloc: Global,
     standing: &Standing,
-    place: u32,
+    place: usize,
     spot: &Spot,
     column: Column,
 ) -> Result<Standing, AllocError>
@@ -65,7 +65,7 @@ fn changed_in(
     requires within { place < length standing.now.schema.columns }
     ensures { IfOk result (λ changed. changed ≡ changed_in standing.now place spot.now column) }
 {
-    let others = removed(standing.schema.columns.copy()?, place as usize);
+    let others = removed(standing.schema.columns.copy()?, place);
     let to = spot_place(others.as_slice(), spot, place);
     standing.moved_to(alloc, place, to, column)
 }
@@ -84,7 +84,7 @@ fn changed_column(
     alloc: Global,
     approve: bool,
     standing: &Standing,
-    place: u32,
+    place: usize,
     column: &Column,
     written: &NewColumn,
     spot: &Spot,

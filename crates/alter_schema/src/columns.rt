@@ -33,21 +33,20 @@ pub fn has_column(columns: &[Column], name: &Name) -> bool
 
 /// The column of this name and its place.
 #[tactic(auto, unfolding(crate::specs::Columns::column_named))]
-pub fn column_named<'a>(columns: &'a [Column], name: &Name) -> Option<(u32, &'a Column)>
-    requires { length columns.now ≤ 64 }
+pub fn column_named<'a>(columns: &'a [Column], name: &Name) -> Option<(usize, &'a Column)>
     ensures found { option_map (λ found. (found.0, found.1.now)) result ≡ column_named columns.now name.now }
     ensures within { IfSome result (λ found. found.0 < length columns.now) }
 {
     match column_place(columns, name) {
         None => None,
         Some(place) => match columns.get(place) {
-            Some(column) => Some((place as u32, column)),
+            Some(column) => Some((place, column)),
             None => None,
         },
     }
 }
 
-fn has_place(place: u32, index: &Index) -> bool
+fn has_place(place: usize, index: &Index) -> bool
     ensures { result ≡ has_place place index.now }
 {
     index.places.as_slice().iter().any(|own| *own == place)
@@ -55,7 +54,7 @@ fn has_place(place: u32, index: &Index) -> bool
 
 /// Whether the column at this place is in one of the keys.
 #[tactic(auto, unfolding(crate::specs::Columns::is_in_keys))]
-pub fn is_in_keys(uniques: &[Index], place: u32) -> bool
+pub fn is_in_keys(uniques: &[Index], place: usize) -> bool
     ensures { result ≡ is_in_keys uniques.now place }
 {
     uniques.iter().any(|index| has_place(place, index))
@@ -63,7 +62,7 @@ pub fn is_in_keys(uniques: &[Index], place: u32) -> bool
 
 /// Whether the column at this place is in the PRIMARY KEY.
 #[tactic(auto, unfolding(crate::specs::Columns::is_in_primary))]
-pub fn is_in_primary(uniques: &[Index], place: u32) -> bool
+pub fn is_in_primary(uniques: &[Index], place: usize) -> bool
     ensures { result ≡ is_in_primary uniques.now place }
 {
     uniques
@@ -83,8 +82,7 @@ pub fn is_spot(columns: &[Column], spot: &Spot) -> bool
 
 /// Where a column is put among the others; where nothing is said, at this place.
 #[tactic(auto, unfolding(crate::specs::Columns::spot_place))]
-pub fn spot_place(columns: &[Column], spot: &Spot, place: u32) -> u32
-    requires few { length columns.now ≤ 64 }
+pub fn spot_place(columns: &[Column], spot: &Spot, place: usize) -> usize
     requires within { place ≤ length columns.now }
     ensures place { result ≡ spot_place columns.now spot.now place }
     ensures within { result ≤ length columns.now }
@@ -93,13 +91,13 @@ pub fn spot_place(columns: &[Column], spot: &Spot, place: u32) -> u32
         Spot::Unsaid => place,
         Spot::First => 0,
         Spot::After(name) => match column_place(columns, name) {
-            Some(place) => place as u32 + 1,
+            Some(place) => place + 1,
             None => 0,
         },
     }
 }
 
-fn lacks_default(origin: Option<u32>, nullable: bool, default: &Option<Value>) -> bool
+fn lacks_default(origin: Option<usize>, nullable: bool, default: &Option<Value>) -> bool
     ensures { result ≡ lacks_default origin nullable default.now }
 {
     matches!((origin, nullable, default), (None, false, None))
@@ -109,7 +107,7 @@ fn lacks_default(origin: Option<u32>, nullable: bool, default: &Option<Value>) -
 #[tactic(auto, unfolding(crate::specs::Columns::column_of))]
 pub fn column_of(
     alloc: Global,
-    origin: Option<u32>,
+    origin: Option<usize>,
     written: &NewColumn,
     nullable: bool,
 ) -> Result<Column, AlterFault>

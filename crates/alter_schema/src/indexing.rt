@@ -1,12 +1,11 @@
 //! ADD INDEX and DROP INDEX.
 
-ghost use Rattle.std.specs.Prelude.{◌≡◌, ◌<◌, ◌≤◌, ◌++◌, length, option_to_list, IfOk, IfSome, OnOk};
+ghost use Rattle.std.specs.Prelude.{◌≡◌, ◌<◌, ◌++◌, length, option_to_list, IfOk, IfSome, OnOk};
 ghost use Rattle.std.specs.List.{filter_map, list_all};
 ghost use Rattle.gho_values.specs.SchemaRules.Reasons.{first_reason};
 ghost use Rattle.alter_schema.specs.Codes.{Answers};
 ghost use Rattle.alter_schema.specs.Columns.{column_place, has_column};
 ghost use Rattle.alter_schema.specs.Indexing.{key_names, first_column, index_name, are_columns, index_reasons, index_of, with_index, indexed_as, indexed, is_named, index_place, is_clustered, without_unique, without_index, unindexed};
-ghost use Rattle.alter_schema.specs.Standing.{Stands};
 
 use crate::code::{AlterCode, AlterFault};
 use crate::columns::{column_named, column_place, has_column};
@@ -48,7 +47,6 @@ fn key_names(alloc: Global, schema: &Schema) -> Result<Names, AllocError>
 
 #[tactic(auto, unfolding(crate::specs::Indexing::first_column))]
 fn first_column(alloc: Global, columns: &[Column], names: &[Name]) -> Result<Name, AllocError>
-    requires { length columns.now ≤ 64 }
     ensures { IfOk result (λ name. name ≡ first_column columns.now names.now) }
 {
     match names {
@@ -66,7 +64,6 @@ fn index_name(
     names: &[Name],
     written: &Option<Name>,
 ) -> Result<Name, AllocError>
-    requires { length schema.now.columns ≤ 64 }
     ensures { IfOk result (λ name. name ≡ index_name schema.now names.now written.now) }
 {
     match written {
@@ -112,17 +109,15 @@ fn index_reason(
 }
 
 fn push_place(places: &mut Places, columns: &[Column], name: &Name) -> Result<(), AllocError>
-    requires { length columns.now ≤ 64 }
     ensures { OnOk result (places.new ≡ places.old ++ option_to_list (column_place columns.now name.now)) }
 {
     match column_place(columns, name) {
-        Some(place) => places.push(place as u32),
+        Some(place) => places.push(place),
         None => Ok(()),
     }
 }
 
 fn places_of(alloc: Global, columns: &[Column], names: &[Name]) -> Result<Places, AllocError>
-    requires { length columns.now ≤ 64 }
     ensures { IfOk result (λ places. places ≡ filter_map (column_place columns.now) names.now) }
 {
     let mut places = Sequence::new(alloc);
@@ -167,7 +162,6 @@ fn indexed_as(
     names: &[Name],
     name: Name,
 ) -> Result<Standing, AlterFault>
-    requires { length standing.now.schema.columns ≤ 64 }
     ensures { Answers (λ standing. standing) result (indexed_as standing.now names.now name) }
 {
     match index_reason(alloc, &standing.schema, names, &name)? {
@@ -191,7 +185,6 @@ pub fn indexed(
     written: &Option<Name>,
     names: &[Name],
 ) -> Result<Standing, AlterFault>
-    requires { Stands standing.now }
     ensures { Answers (λ standing. standing) result (indexed standing.now written.now names.now) }
 {
     let name = index_name(alloc, &standing.schema, names, written)?;
@@ -227,7 +220,6 @@ fn is_clustered(clustered: Option<usize>, place: usize) -> bool
 /// The table without a key or an index.
 #[tactic(auto, unfolding(crate::specs::Indexing::unindexed))]
 pub fn unindexed(alloc: Global, standing: &Standing, name: &Name) -> Result<Standing, AlterFault>
-    requires { Stands standing.now }
     ensures { Answers (λ standing. standing) result (unindexed standing.now name.now) }
 {
     let schema = &standing.schema;

@@ -8,7 +8,7 @@ use gho_values::gho_schema::Column;
 use gho_values::{Duplicate, Sequence, Value};
 use std::alloc::{AllocError, Global};
 
-fn source_of(origin: Option<u32>, default: &Option<Value>) -> Result<Origin, AllocError>
+fn source_of(origin: Option<usize>, default: &Option<Value>) -> Result<Origin, AllocError>
     ensures { IfOk result (λ source. source ≡ source_of origin default.now) }
 {
     match (origin, default) {
@@ -23,7 +23,7 @@ fn source_of(origin: Option<u32>, default: &Option<Value>) -> Result<Origin, All
 pub fn map_of(
     alloc: Global,
     columns: &[Column],
-    origins: &[Option<u32>],
+    origins: &[Option<usize>],
 ) -> Result<ColumnMap, AllocError>
     requires { length origins.now ≡ length columns.now }
     ensures { IfOk result (λ map. map ≡ map_of columns.now origins.now) }

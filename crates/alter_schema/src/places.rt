@@ -12,33 +12,33 @@ use std::alloc::{AllocError, Global};
 #[derive(Clone, Copy, Debug)]
 pub enum PlaceChange {
     /// A column is put in here.
-    Added(u32),
+    Added(usize),
     /// The column here is taken out.
-    Dropped(u32),
+    Dropped(usize),
     /// A column is moved.
     Moved {
         /// Where it stood.
-        from: u32,
+        from: usize,
         /// Where it stands.
-        to: u32,
+        to: usize,
     },
 }
 
-fn opened(at: u32, place: u32) -> u32
+fn opened(at: usize, place: usize) -> usize
     requires { place ≤ 64 }
     ensures { result ≡ opened at place }
 {
     if place < at { place } else { place + 1 }
 }
 
-fn closed(at: u32, place: u32) -> u32
+fn closed(at: usize, place: usize) -> usize
     ensures { result ≡ closed at place }
 {
     if at < place { place - 1 } else { place }
 }
 
 #[tactic(auto, unfolding(crate::specs::Places::place_after))]
-fn place_after(change: PlaceChange, place: u32) -> Option<u32>
+fn place_after(change: PlaceChange, place: usize) -> Option<usize>
     requires { place ≤ 64 }
     ensures { result ≡ place_after change place }
 {
@@ -61,7 +61,7 @@ fn place_after(change: PlaceChange, place: u32) -> Option<u32>
     }
 }
 
-fn push_place(places: &mut Places, change: PlaceChange, place: u32) -> Result<(), AllocError>
+fn push_place(places: &mut Places, change: PlaceChange, place: usize) -> Result<(), AllocError>
     requires { place ≤ 64 }
     ensures { OnOk result (places.new ≡ places.old ++ option_to_list (place_after change place)) }
 {
@@ -71,7 +71,7 @@ fn push_place(places: &mut Places, change: PlaceChange, place: u32) -> Result<()
     }
 }
 
-fn places_after(alloc: Global, change: PlaceChange, places: &[u32]) -> Result<Places, AllocError>
+fn places_after(alloc: Global, change: PlaceChange, places: &[usize]) -> Result<Places, AllocError>
     requires { AllByRecursion (λ place. place < 64) places.now }
     ensures { IfOk result (λ after. after ≡ filter_map (place_after change) places.now) }
 {

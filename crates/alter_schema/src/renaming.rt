@@ -24,14 +24,14 @@ pub fn is_unapproved(approve: bool, old: &Name, new: &Name) -> bool
 fn rename_reason(
     approve: bool,
     columns: &Columns,
-    place: u32,
+    place: usize,
     old: &Name,
     new: &Name,
 ) -> Result<Option<AlterCode>, AllocError>
     requires { place < length columns.now }
     ensures { IfOk result (λ reason. reason ≡ first_reason (rename_reasons approve columns.now place old.now new.now)) }
 {
-    let others = removed(columns.copy()?, place as usize);
+    let others = removed(columns.copy()?, place);
     Ok(if has_column(others.as_slice(), new) {
         Some(AlterCode::RepeatedName)
     } else if !is_column_name(new.as_str()) {
@@ -60,12 +60,12 @@ fn with_name(column: &Column, name: &Name) -> Result<Column, AllocError>
     })
 }
 
-fn replaced(columns: Columns, place: u32, column: Column) -> Columns
+fn replaced(columns: Columns, place: usize, column: Column) -> Columns
     requires { place < length columns }
     ensures { result ≡ slice_set columns place column }
 {
     let mut columns = columns.into_vec();
-    columns[place as usize] = column;
+    columns[place] = column;
     Sequence::from_vec(columns)
 }
 
@@ -73,7 +73,7 @@ fn replaced(columns: Columns, place: u32, column: Column) -> Columns
 fn renamed_in(
     alloc: Global,
     standing: &Standing,
-    place: u32,
+    place: usize,
     column: Column,
 ) -> Result<Standing, AllocError>
     requires { place < length standing.now.schema.columns }

@@ -20,11 +20,10 @@ pub struct Standing {
 }
 
 /// Old places of columns, or none, in order.
-pub type Origins = Sequence<Option<u32>>;
+pub type Origins = Sequence<Option<usize>>;
 
 #[tactic(auto, unfolding(crate::specs::Standing::places_from))]
 fn old_places(alloc: Global, columns: &[Column]) -> Result<Origins, AllocError>
-    requires { length columns.now ≤ 64 }
     ensures { IfOk result (λ origins. origins ≡ places_from 0 columns.now) }
 {
     let mut origins = Sequence::new(alloc);
@@ -78,7 +77,7 @@ pub(crate) fn removed<T: Drop>(items: Sequence<T>, at: usize) -> Sequence<T>
     Sequence::from_vec(items)
 }
 
-pub(crate) fn copied(alloc: Global, origins: &[Option<u32>]) -> Result<Origins, AllocError>
+pub(crate) fn copied(alloc: Global, origins: &[Option<usize>]) -> Result<Origins, AllocError>
     ensures { IfOk result (λ copy. copy ≡ origins.now) }
 {
     let mut copy = Sequence::new(alloc);
@@ -88,10 +87,10 @@ pub(crate) fn copied(alloc: Global, origins: &[Option<u32>]) -> Result<Origins, 
     Ok(copy)
 }
 
-pub(crate) fn origin_at(origins: &[Option<u32>], place: u32) -> Option<u32>
+pub(crate) fn origin_at(origins: &[Option<usize>], place: usize) -> Option<usize>
     ensures { result ≡ origin_of (slice_get origins.now place) }
 {
-    match origins.get(place as usize) {
+    match origins.get(place) {
         Some(origin) => *origin,
         None => None,
     }
@@ -103,7 +102,6 @@ impl Standing {
 
     /// The table before the first clause.
     pub fn start(alloc: Global, schema: &Schema) -> Result<Standing, AllocError>
-        requires { length schema.now.columns ≤ 64 }
         ensures { IfOk result (λ standing. standing ≡ start schema.now) }
     {
         let schema = schema.copy()?;
@@ -113,29 +111,29 @@ impl Standing {
 
     /// The table with an added column at this place.
     #[tactic(auto, unfolding(crate::specs::Standing::put_in))]
-    pub fn put_in(&self, alloc: Global, at: u32, column: Column) -> Result<Standing, AllocError>
+    pub fn put_in(&self, alloc: Global, at: usize, column: Column) -> Result<Standing, AllocError>
         requires stands { Stands self.now }
         requires within { at ≤ length self.now.schema.columns }
         ensures { IfOk result (λ standing. standing ≡ put_in self.now at column) }
     {
-        let columns = inserted(self.schema.columns.copy()?, at as usize, column)?;
+        let columns = inserted(self.schema.columns.copy()?, at, column)?;
         Ok(Standing {
             schema: with_columns(alloc, PlaceChange::Added(at), &self.schema, columns)?,
-            origins: inserted(copied(alloc, self.origins.as_slice())?, at as usize, None)?,
+            origins: inserted(copied(alloc, self.origins.as_slice())?, at, None)?,
         })
     }
 
     /// The table without the column at this place.
     #[tactic(auto, unfolding(crate::specs::Standing::taken_out))]
-    pub fn taken_out(&self, alloc: Global, at: u32) -> Result<Standing, AllocError>
+    pub fn taken_out(&self, alloc: Global, at: usize) -> Result<Standing, AllocError>
         requires stands { Stands self.now }
         requires within { at < length self.now.schema.columns }
         ensures { IfOk result (λ standing. standing ≡ taken_out self.now at) }
     {
-        let columns = removed(self.schema.columns.copy()?, at as usize);
+        let columns = removed(self.schema.columns.copy()?, at);
         Ok(Standing {
             schema: with_columns(alloc, PlaceChange::Dropped(at), &self.schema, columns)?,
-            origins: removed(copied(alloc, self.origins.as_slice())?, at as usize),
+            origins: removed(copied(alloc, self.origins.as_slice())?, at),
         })
     }
 
@@ -144,8 +142,8 @@ impl Standing {
     pub fn moved_to(
         &self,
         alloc: Global,
-        from: u32,
-        to: u32,
+        from: usize,
+        to: usize,
         column: Column,
     ) -> Result<Standing, AllocError>
         requires stands { Stands self.now }
@@ -153,14 +151,14 @@ impl Standing {
         requires to { to < length self.now.schema.columns }
         ensures { IfOk result (λ standing. standing ≡ moved_to self.now from to column) }
     {
-        let columns = removed(self.schema.columns.copy()?, from as usize);
-        let columns = inserted(columns, to as usize, column)?;
+        let columns = removed(self.schema.columns.copy()?, from);
+        let columns = inserted(columns, to, column)?;
         let origin = origin_at(self.origins.as_slice(), from);
-        let origins = removed(copied(alloc, self.origins.as_slice())?, from as usize);
+        let origins = removed(copied(alloc, self.origins.as_slice())?, from);
         let change = PlaceChange::Moved { from, to };
         Ok(Standing {
             schema: with_columns(alloc, change, &self.schema, columns)?,
-            origins: inserted(origins, to as usize, origin)?,
+            origins: inserted(origins, to, origin)?,
         })
     }
 }

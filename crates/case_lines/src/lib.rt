@@ -11,6 +11,6 @@ pub use comparing::{are_same, say_difference, say_found, say_row};
 pub use intervals::{key_of, span_of};
 pub use line::Line;
 pub use reading::{
-    CallFault, bytes_of, kind_of, number_of, place_of, push_codes, row_of, say, text_of, value_of,
-    yes_or_no,
+    CallFault, bytes_of, kind_of, number_of, place_of, push_codes, row_of, say, text_of,
+    unsigned_of, value_of, yes_or_no,
 };

@@ -51,8 +51,13 @@ pub fn number_of(text: &str) -> Result<i128, CallFault> {
     text.parse::<i128>().map_err(|_| CallFault::Unread)
 }
 
-/// The number of a session, a column or a key.
-pub fn place_of(text: &str) -> Result<u32, CallFault> {
+/// The place of a column, a key or a row.
+pub fn place_of(text: &str) -> Result<usize, CallFault> {
+    text.parse::<usize>().map_err(|_| CallFault::Unread)
+}
+
+/// The number of a session, a limit or a load.
+pub fn unsigned_of(text: &str) -> Result<u32, CallFault> {
     text.parse::<u32>().map_err(|_| CallFault::Unread)
 }
 

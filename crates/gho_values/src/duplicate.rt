@@ -26,8 +26,8 @@ impl Duplicate for u8 {
     }
 }
 
-impl Duplicate for u32 {
-    fn copy(&self) -> Result<u32, AllocError> {
+impl Duplicate for usize {
+    fn copy(&self) -> Result<usize, AllocError> {
         Ok(*self)
     }
 }

@@ -3,7 +3,7 @@
 //! `test X t.0 [5,5]` says whether one of those that are held conflicts with the lock.
 
 use crate::lock_words::{lock_of, set_of};
-use case_lines::{CallFault, place_of, say};
+use case_lines::{CallFault, say, unsigned_of};
 use gho_values::{Sequence, Text};
 use row_locks::LockSet;
 use row_locks::held_locks::HeldLocks;
@@ -30,7 +30,13 @@ fn take(alloc: Global, held: &mut HeldLocks, call: &str, told: &mut Text) -> Res
     match words.as_slice() {
         ["hold", wishes @ ..] => held.append(set_of(alloc, wishes)?)?,
         ["each", strength, key, first, last] => {
-            held.append(each(alloc, strength, key, place_of(first)?, place_of(last)?)?)?;
+            held.append(each(
+                alloc,
+                strength,
+                key,
+                unsigned_of(first)?,
+                unsigned_of(last)?,
+            )?)?;
         }
         ["test", strength, key, span] => {
             let conflicts = held.any_conflicts(&lock_of(alloc, strength, key, span)?);

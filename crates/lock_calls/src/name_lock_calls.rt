@@ -4,7 +4,7 @@
 //! back. `poll 1`, `poll-end 1` and `poll-undo 1` are the same of a poll. `end 1` ends a request that waits, and `free 1` takes all
 //! away. These say `granted`, or who refuses. `holder t` says who holds it exclusively, and `waiting 1` whether the session waits.
 
-use case_lines::{CallFault, place_of, say};
+use case_lines::{CallFault, say, unsigned_of};
 use gho_values::{Name, Names, Sequence, Text};
 use metadata_locks::{Asked2, MetaLocks};
 use std::alloc::{AllocError, Global};
@@ -167,15 +167,15 @@ fn take(
     match words.as_slice() {
         ["holder", name] => say_holder(alloc, told, locks.held_by(&Name::new(alloc, name)?))?,
         ["waiting", session] => {
-            let waits = locks.waiting(place_of(session)?);
+            let waits = locks.waiting(unsigned_of(session)?);
             say(told, if waits { "yes" } else { "no" })?;
         }
-        [call, session] => say_answer(alloc, told, called(locks, call, place_of(session)?)?)?,
+        [call, session] => say_answer(alloc, told, called(locks, call, unsigned_of(session)?)?)?,
         [call, session, names] => {
             say_answer(
                 alloc,
                 told,
-                asked(alloc, locks, call, place_of(session)?, names)?,
+                asked(alloc, locks, call, unsigned_of(session)?, names)?,
             )?;
         }
         _ => return Err(CallFault::Unread),

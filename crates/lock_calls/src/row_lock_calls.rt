@@ -3,7 +3,7 @@
 //! `granted`, or the session that refuses.
 
 use crate::lock_words::set_of;
-use case_lines::{CallFault, place_of, say};
+use case_lines::{CallFault, say, unsigned_of};
 use gho_values::Text;
 use row_locks::{Asked2, LockSet, RowLocks};
 use std::alloc::{AllocError, Global};
@@ -46,7 +46,7 @@ fn take(alloc: Global, locks: &mut RowLocks, call: &str, told: &mut Text) -> Res
     let [call, session, wishes @ ..] = words.as_slice() else {
         return Err(CallFault::Unread);
     };
-    let session = place_of(session)?;
+    let session = unsigned_of(session)?;
     let set = set_of(alloc, wishes)?;
     let answer = answer_of(locks, call, session, &set)?;
     say_answer(alloc, told, answer)?;

@@ -1,6 +1,6 @@
 //! When the tool holds back.
 
-use case_lines::{CallFault, place_of, text_of};
+use case_lines::{CallFault, text_of, unsigned_of};
 use gho_values::Text;
 use std::alloc::Global;
 use throttle_gate::{Go, Throttle};
@@ -14,7 +14,7 @@ pub fn answer(alloc: Global, input: &str) -> Result<Text, CallFault> {
     };
     text_of(
         alloc,
-        match Throttle::new(place_of(most)?).asks(place_of(load)?, commanded) {
+        match Throttle::new(unsigned_of(most)?).asks(unsigned_of(load)?, commanded) {
             Go::Go => "go",
             Go::Hold { load: true } => "hold by load",
             Go::Hold { load: false } => "hold by command",

@@ -101,7 +101,7 @@ fn last_of(alloc: Global, keys: &[Key]) -> Result<Key, AllocError>
 fn next_keys(
     alloc: Global,
     size: u32,
-    places: &[u32],
+    places: &[usize],
     rows: &mut SpanRows<'_>,
 ) -> Result<Keys, AllocError>
     ensures keys { IfOk result (λ keys. keys ≡ keys_of places.now (take size rows.old)) }
@@ -121,7 +121,7 @@ fn first_keys(
     alloc: Global,
     span: &Span,
     size: u32,
-    places: &[u32],
+    places: &[usize],
     mut rows: SpanRows<'_>,
 ) -> Result<Answer, AllocError>
     ensures { IfOk result (λ answer. answer ≡ first_keys span.now size (keys_of places.now rows.entry)) }

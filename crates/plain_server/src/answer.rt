@@ -41,7 +41,7 @@ pub enum Answer {
         /// The error's number (MySQL's manual, "Server Error Message Reference").
         number: u16,
         /// The place, from 0, of the column that refused its value, where one did.
-        column: Option<u32>,
+        column: Option<usize>,
     },
     /// It has to wait, and nothing was done.
     Waits {

@@ -72,7 +72,7 @@ pub enum Progress {
     /// A row's image has a value that doesn't fit its new column.
     Unfit {
         /// The column's place in the new schema, from 0.
-        column: u32,
+        column: usize,
         /// The refusal's number.
         number: u16,
     },

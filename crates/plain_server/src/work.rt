@@ -10,7 +10,7 @@ use gho_values::{Row, Sequence, Span, Value};
 #[derive(Debug, Drop)]
 pub struct Reach {
     /// The key's place among the table's unique keys.
-    pub key: u32,
+    pub key: usize,
     /// The values.
     pub span: Span,
 }

@@ -40,14 +40,10 @@ fn point(key: &Key) -> Result<Span, AllocError>
 fn reach_at(place: usize, key: &Key) -> Result<Reach, AllocError>
     ensures { IfOk result (λ reach. reach ≡ record { key = place; span = point key.now }) }
 {
-    // There is no memory for a table of so many keys.
-    match u32::try_from(place) {
-        Ok(place) => Ok(Reach {
-            key: place,
-            span: point(key)?,
-        }),
-        Err(_) => Err(AllocError),
-    }
+    Ok(Reach {
+        key: place,
+        span: point(key)?,
+    })
 }
 
 /// The rows that one value of the clustered key at this place reaches, of a table as it is seen.
@@ -95,10 +91,6 @@ fn work_of_row(
     let Some(row) = row else {
         return Ok(Work::Refuse(Answer::Ok(0)));
     };
-    // There is no memory for a table of so many columns.
-    if map.len() > u32::MAX as usize {
-        return Err(AllocError);
-    }
     match image(alloc, map.as_slice(), row.as_slice()) {
         Ok(values) => work_of_image(alloc, &values, into),
         Err(ImageFault::Unfit(at)) => Ok(Work::Refuse(refuses_value(at))),

@@ -13,7 +13,7 @@ pub struct Lock {
     /// The table.
     pub table: Name,
     /// The key's place among the table's unique keys.
-    pub key: u32,
+    pub key: usize,
     /// The key's values that are locked.
     pub span: Span,
     /// Whether the lock is exclusive (X), or else shared (S).

@@ -12,7 +12,7 @@ use gho_values::gho_schema::Index;
 use std::cmp::Ordering;
 
 /// Which comes first: this key, or the key of a row.
-pub fn compare_key(key: &[Value], places: &[u32], row: &[Value]) -> Ordering
+pub fn compare_key(key: &[Value], places: &[usize], row: &[Value]) -> Ordering
     ensures { result ≡ compare_keys key.now (key_of places.now row.now) }
 {
     let mut theirs = KeyValues::new(places, row);
@@ -33,7 +33,7 @@ pub fn compare_key(key: &[Value], places: &[u32], row: &[Value]) -> Ordering
 }
 
 /// Which of two rows comes first by the key at these places.
-pub fn compare_rows(places: &[u32], row: &[Value], other: &[Value]) -> Ordering
+pub fn compare_rows(places: &[usize], row: &[Value], other: &[Value]) -> Ordering
     ensures { result ≡ compare_keys (key_of places.now row.now) (key_of places.now other.now) }
 {
     let mut ours = KeyValues::new(places, row);
@@ -55,14 +55,14 @@ pub fn compare_rows(places: &[u32], row: &[Value], other: &[Value]) -> Ordering
 }
 
 /// Whether the row has this key.
-pub fn is_at(places: &[u32], key: &[Value], row: &[Value]) -> bool
+pub fn is_at(places: &[usize], key: &[Value], row: &[Value]) -> bool
     ensures { result ≡ is_at places.now key.now row.now }
 {
     compare_key(key, places, row).is_eq()
 }
 
 /// Whether no value of the row's key is null.
-pub fn has_no_null(places: &[u32], row: &[Value]) -> bool
+pub fn has_no_null(places: &[usize], row: &[Value]) -> bool
     ensures { result ≡ no_null (key_of places.now row.now) }
 {
     let mut values = KeyValues::new(places, row);

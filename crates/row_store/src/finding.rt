@@ -17,7 +17,7 @@ fn row_at(rows: &[Row], place: usize) -> Option<&Row>
 }
 
 /// The place of the row with this key.
-pub fn key_place(places: &[u32], key: &[Value], rows: &[Row]) -> Option<usize>
+pub fn key_place(places: &[usize], key: &[Value], rows: &[Row]) -> Option<usize>
     requires { Ascends places.now rows.now }
     ensures { MatchOption result (find (is_at places.now key.now) rows.now ≡ None) (StandsAt places.now key.now rows.now) }
 {
@@ -33,7 +33,7 @@ pub fn key_place(places: &[u32], key: &[Value], rows: &[Row]) -> Option<usize>
 }
 
 /// The row with this key.
-pub fn row_of_key<'a>(places: &[u32], key: &[Value], rows: &'a [Row]) -> Option<&'a Row>
+pub fn row_of_key<'a>(places: &[usize], key: &[Value], rows: &'a [Row]) -> Option<&'a Row>
     requires { Ascends places.now rows.now }
     ensures { option_copied result ≡ find (is_at places.now key.now) rows.now }
 {
@@ -44,7 +44,7 @@ pub fn row_of_key<'a>(places: &[u32], key: &[Value], rows: &'a [Row]) -> Option<
 }
 
 /// Whether the row has the key that is named.
-fn is_besides(places: &[u32], besides: Option<&Key>, row: &[Value]) -> bool
+fn is_besides(places: &[usize], besides: Option<&Key>, row: &[Value]) -> bool
     ensures { result ≡ is_besides places.now (option_copied besides.entry) row.now }
 {
     match besides {
@@ -54,7 +54,7 @@ fn is_besides(places: &[u32], besides: Option<&Key>, row: &[Value]) -> bool
 }
 
 /// Whether the row has the key of the new one, no value of it null, and isn't the row of the key that is named.
-fn clashes_by_key(places: &[u32], new: &[Value], besides: Option<&Key>, row: &[Value]) -> bool
+fn clashes_by_key(places: &[usize], new: &[Value], besides: Option<&Key>, row: &[Value]) -> bool
     ensures { result ≡ clashes_by_key places.now new.now (option_copied besides.entry) row.now }
 {
     compare_rows(places, new, row).is_eq()
@@ -64,7 +64,7 @@ fn clashes_by_key(places: &[u32], new: &[Value], besides: Option<&Key>, row: &[V
 
 /// The row that clashes with the new one where the clustered key is the only unique key.
 pub fn clash_by_key<'a>(
-    places: &[u32],
+    places: &[usize],
     new: &[Value],
     besides: Option<&Key>,
     rows: &'a [Row],
@@ -85,7 +85,7 @@ pub fn clash_by_key<'a>(
 /// The first row that clashes with this one.
 pub fn first_clash<'a>(
     uniques: &[Index],
-    places: &[u32],
+    places: &[usize],
     new: &[Value],
     besides: Option<&Key>,
     rows: &'a [Row],

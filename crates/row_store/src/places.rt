@@ -12,7 +12,7 @@ use crate::comparing::{compare_key, compare_rows};
 use gho_values::{Bound, Row, Span, Value};
 
 /// How many rows come before those of this key.
-pub fn place_of_key(places: &[u32], key: &[Value], rows: &[Row]) -> usize
+pub fn place_of_key(places: &[usize], key: &[Value], rows: &[Row]) -> usize
     requires { Ascends places.now rows.now }
     ensures place { result ≡ prefix_len (comes_before places.now key.now) rows.now }
     ensures within { result ≤ length rows.now }
@@ -21,7 +21,7 @@ pub fn place_of_key(places: &[u32], key: &[Value], rows: &[Row]) -> usize
 }
 
 /// How many rows come before those of this row's key.
-pub fn place_of_row(places: &[u32], new: &[Value], rows: &[Row]) -> usize
+pub fn place_of_row(places: &[usize], new: &[Value], rows: &[Row]) -> usize
     requires { Ascends places.now rows.now }
     ensures place { result ≡ prefix_len (comes_before places.now (key_of places.now new.now)) rows.now }
     ensures within { result ≤ length rows.now }
@@ -30,7 +30,7 @@ pub fn place_of_row(places: &[u32], new: &[Value], rows: &[Row]) -> usize
 }
 
 /// Whether the row's key is on the inner side of a lower end.
-fn is_above(low: &Bound, places: &[u32], row: &[Value]) -> bool
+fn is_above(low: &Bound, places: &[usize], row: &[Value]) -> bool
     ensures { result ≡ above low.now (key_of places.now row.now) }
 {
     match low {
@@ -42,7 +42,7 @@ fn is_above(low: &Bound, places: &[u32], row: &[Value]) -> bool
 
 /// Whether the row's key is on the inner side of an upper end.
 #[tactic(auto, using(crate::proofs::Orders::turned))]
-fn is_below(high: &Bound, places: &[u32], row: &[Value]) -> bool
+fn is_below(high: &Bound, places: &[usize], row: &[Value]) -> bool
     ensures { result ≡ below high.now (key_of places.now row.now) }
 {
     match high {
@@ -53,7 +53,7 @@ fn is_below(high: &Bound, places: &[u32], row: &[Value]) -> bool
 }
 
 /// How many rows come before a lower end.
-fn rows_under(places: &[u32], low: &Bound, rows: &[Row]) -> usize
+fn rows_under(places: &[usize], low: &Bound, rows: &[Row]) -> usize
     requires { Ascends places.now rows.now }
     ensures place { result ≡ prefix_len (λ row. not (above low.now (key_of places.now row))) rows.now }
     ensures within { result ≤ length rows.now }
@@ -62,7 +62,7 @@ fn rows_under(places: &[u32], low: &Bound, rows: &[Row]) -> usize
 }
 
 /// How many rows come before what is behind an upper end.
-fn rows_up_to(places: &[u32], high: &Bound, rows: &[Row]) -> usize
+fn rows_up_to(places: &[usize], high: &Bound, rows: &[Row]) -> usize
     requires { Ascends places.now rows.now }
     ensures place { result ≡ prefix_len (λ row. below high.now (key_of places.now row)) rows.now }
     ensures within { result ≤ length rows.now }
@@ -71,7 +71,7 @@ fn rows_up_to(places: &[u32], high: &Bound, rows: &[Row]) -> usize
 }
 
 /// The rows whose keys lie in the span.
-pub fn rows_between<'a>(places: &[u32], span: &Span, rows: &'a [Row]) -> &'a [Row]
+pub fn rows_between<'a>(places: &[usize], span: &Span, rows: &'a [Row]) -> &'a [Row]
     requires { Ascends places.now rows.now }
     ensures { result.now ≡ filter (λ row. has span.now (key_of places.now row)) rows.now }
 {

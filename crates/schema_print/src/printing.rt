@@ -74,17 +74,17 @@ fn column_line(alloc: Global, column: &Column) -> Result<Text, AllocError>
     Ok(line)
 }
 
-fn push_column_name(into: &mut Text, columns: &[Column], place: u32) -> Result<(), AllocError>
+fn push_column_name(into: &mut Text, columns: &[Column], place: usize) -> Result<(), AllocError>
     ensures { OnOk result (into.new ≡ into.old ++ quoted (column_name columns.now place)) }
 {
-    match columns.get(place as usize) {
+    match columns.get(place) {
         Some(column) => push_quoted(into, column.name.as_str()),
         None => push_quoted(into, ""),
     }
 }
 
 #[tactic(auto, unfolding(crate::specs::Printing::key_names))]
-fn push_key_names(into: &mut Text, columns: &[Column], places: &[u32]) -> Result<(), AllocError>
+fn push_key_names(into: &mut Text, columns: &[Column], places: &[usize]) -> Result<(), AllocError>
     ensures { OnOk result (into.new ≡ into.old ++ key_names columns.now places.now) }
 {
     let [first, others @ ..] = places else {
@@ -99,7 +99,7 @@ fn push_key_names(into: &mut Text, columns: &[Column], places: &[u32]) -> Result
 }
 
 #[tactic(auto, unfolding(crate::specs::Printing::key_columns))]
-fn push_key_columns(into: &mut Text, columns: &[Column], places: &[u32]) -> Result<(), AllocError>
+fn push_key_columns(into: &mut Text, columns: &[Column], places: &[usize]) -> Result<(), AllocError>
     ensures { OnOk result (into.new ≡ into.old ++ key_columns columns.now places.now) }
 {
     into.push_str("(")?;

@@ -1,6 +1,6 @@
 //! The schema that a table as it is written declares.
 
-ghost use Rattle.std.specs.Prelude.{◌≡◌, ◌+◌, ◌++◌, ◌<◌, ◌^◌, not, ◌&&◌, ◌||◌, nat_lt, length, map, filter, count_by, is_none, IfOk, OnOk};
+ghost use Rattle.std.specs.Prelude.{◌≡◌, ◌+◌, ◌++◌, not, ◌&&◌, ◌||◌, nat_lt, length, map, filter, count_by, is_none, IfOk, OnOk};
 ghost use Rattle.std.specs.List.{list_all, list_any};
 ghost use Rattle.table_words.specs.Reads.{Reads};
 ghost use Rattle.gho_values.specs.SchemaRules.Reasons.{first_reason};
@@ -187,7 +187,6 @@ fn primary_indexes(
     names: &[Name],
     primaries: &[Names],
 ) -> Result<Indexes, AllocError>
-    requires { length names.now < 2 ^ 32 }
     ensures { IfOk result (λ indexes. indexes ≡ map (primary_index names.now) primaries.now) }
 {
     let mut indexes = Sequence::new(alloc);
@@ -201,7 +200,6 @@ fn primary_indexes(
 }
 
 fn key_index(alloc: Global, names: &[Name], key: &WrittenKey) -> Result<Index, AllocError>
-    requires { length names.now < 2 ^ 32 }
     ensures { IfOk result (λ index. index ≡ key_index names.now key.now) }
 {
     Ok(Index {
@@ -216,7 +214,6 @@ fn push_uniques(
     names: &[Name],
     keys: &[WrittenKey],
 ) -> Result<(), AllocError>
-    requires { length names.now < 2 ^ 32 }
     ensures { OnOk result (indexes.new ≡ indexes.old ++ map (key_index names.now) (filter (λ key. key.is_unique) keys.now)) }
 {
     for key in keys {
@@ -228,7 +225,6 @@ fn push_uniques(
 }
 
 fn plain_indexes(alloc: Global, names: &[Name], keys: &[WrittenKey]) -> Result<Indexes, AllocError>
-    requires { length names.now < 2 ^ 32 }
     ensures { IfOk result (λ indexes. indexes ≡ map (key_index names.now) (filter (λ key. not key.is_unique) keys.now)) }
 {
     let mut indexes = Sequence::new(alloc);
@@ -250,7 +246,6 @@ fn schema_of(
     keys: &[WrittenKey],
     columns: Columns,
 ) -> Result<Schema, AllocError>
-    requires { length names.now < 2 ^ 32 }
     ensures { IfOk result (λ schema. schema ≡ schema_of name comment names.now primaries.now keys.now columns) }
 {
     let mut uniques = primary_indexes(alloc, names, primaries)?;
@@ -285,7 +280,6 @@ fn built(
     columns: &[WrittenColumn],
     named: &NamedKeys,
 ) -> Result<Schema, SchemaFault>
-    requires { length names.now < 2 ^ 32 }
     ensures { Reads (λ schema. schema) result (built name comment names.now primaries.now columns.now named.now) }
 {
     if let Some(code) = name_reason(names, primaries, named) {

@@ -4,7 +4,7 @@ ghost use Rattle.std.specs.Prelude.{◌≡◌, true, IfOk};
 ghost use Rattle.gho_values.specs.SchemaRules.Lawful.{IsLawful};
 ghost use Rattle.plain_server.specs.Conditions.{IsTableName};
 
-use case_lines::{CallFault, place_of};
+use case_lines::{CallFault, unsigned_of};
 use gho_values::gho_schema::Schema;
 use gho_values::schema_rules::is_column_name;
 use gho_values::{Name, Names, Sequence};
@@ -85,8 +85,8 @@ fn look_at_log<V: Serve>(
     let answer = read_log(
         server,
         session,
-        place_of(position)?,
-        place_of(limit)?,
+        unsigned_of(position)?,
+        unsigned_of(limit)?,
         tables,
     )?;
     Ok(answer)

@@ -6,7 +6,7 @@
 
 use crate::asking::{ask, create, names_of};
 use crate::telling::{say_asked, say_number};
-use case_lines::{CallFault, place_of, say};
+use case_lines::{CallFault, say, unsigned_of};
 use gho_values::{Name, Text, print_row};
 use serving::Serve;
 use std::alloc::{AllocError, Global};
@@ -38,7 +38,7 @@ fn say_unread<V: Serve>(
 ) -> Result<(), CallFault> {
     let (position, tables) = input.split_once(' ').ok_or(CallFault::Unread)?;
     let tables = names_of(alloc, tables)?;
-    let unread = server.unread(u64::from(place_of(position)?), &tables);
+    let unread = server.unread(u64::from(unsigned_of(position)?), &tables);
     say_number(told, "", i128::from(unread))?;
     Ok(())
 }
@@ -56,7 +56,7 @@ fn take<V: Serve>(
         "rows" => say_table(alloc, server, input, told)?,
         "unread" => say_unread(alloc, server, input, told)?,
         _ => {
-            let answer = ask(alloc, server, place_of(word)?, input)?;
+            let answer = ask(alloc, server, unsigned_of(word)?, input)?;
             say_asked(told, answer.as_ref())?;
         }
     }

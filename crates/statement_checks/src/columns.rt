@@ -1,6 +1,6 @@
 //! The columns that a statement names.
 
-ghost use Rattle.std.specs.Prelude.{◌≡◌, ◌<◌, ◌==◌, ◌^◌, length, position, option_copied, IfOk};
+ghost use Rattle.std.specs.Prelude.{◌≡◌, ◌==◌, position, option_copied, IfOk};
 ghost use Rattle.std.specs.List.{list_any};
 ghost use Rattle.gho_values.specs.GhoSchema.Names.{same_name};
 ghost use Rattle.plain_server.specs.Checking.{place_of, places_named, are_distinct, beside, places_from, places_listed};
@@ -20,16 +20,12 @@ fn column_of(columns: &[Column], name: &Name) -> Option<usize>
 }
 
 /// The place of the column of this name.
-fn place_of(schema: &Schema, name: &Name) -> Result<Checked<u32>, AllocError>
-    ensures { IfOk result (λ place. place ≡ place_of schema.now name.now) }
+fn place_of(schema: &Schema, name: &Name) -> Checked<usize>
+    ensures { result ≡ place_of schema.now name.now }
 {
-    let Some(place) = column_of(schema.columns.as_slice(), name) else {
-        return Ok(Err(refuses(1054)));
-    };
-    // There is no memory for a table of so many columns.
-    match u32::try_from(place) {
-        Ok(place) => Ok(Ok(place)),
-        Err(_) => Err(AllocError),
+    match column_of(schema.columns.as_slice(), name) {
+        Some(place) => Ok(place),
+        None => Err(refuses(1054)),
     }
 }
 
@@ -44,17 +40,16 @@ pub fn places_named(
 {
     let mut places = Sequence::new(alloc);
     for name in names {
-        let place = match place_of(schema, name)? {
-            Ok(place) => place,
+        match place_of(schema, name) {
+            Ok(place) => places.push(place)?,
             Err(refusal) => return Ok(Err(refusal)),
-        };
-        places.push(place)?;
+        }
     }
     Ok(Ok(places))
 }
 
 /// Whether the place is one of the others.
-pub fn is_among(place: u32, others: &[u32]) -> bool
+pub fn is_among(place: usize, others: &[usize]) -> bool
     ensures { result ≡ list_any (λ other. place == other) others.now }
 {
     others.iter().any(|other| place == *other)
@@ -62,7 +57,7 @@ pub fn is_among(place: u32, others: &[u32]) -> bool
 
 /// Whether no place is named twice.
 #[tactic(auto, unfolding(plain_server::specs::Checking::are_distinct))]
-pub fn are_distinct(places: &[u32]) -> bool
+pub fn are_distinct(places: &[usize]) -> bool
     ensures { result ≡ are_distinct places.now }
 {
     let mut rest = places;
@@ -77,7 +72,7 @@ pub fn are_distinct(places: &[u32]) -> bool
 
 /// The value that stands beside a place, where one does.
 #[tactic(auto, unfolding(plain_server::specs::Checking::beside))]
-pub fn beside<'a>(place: u32, places: &[u32], values: &'a [Value]) -> Option<&'a Value>
+pub fn beside<'a>(place: usize, places: &[usize], values: &'a [Value]) -> Option<&'a Value>
     ensures { option_copied result ≡ beside place places.now values.now }
 {
     let mut rest = values;
@@ -95,12 +90,11 @@ pub fn beside<'a>(place: u32, places: &[u32], values: &'a [Value]) -> Option<&'a
 
 /// The places of all columns.
 fn all_places(alloc: Global, columns: &[Column]) -> Result<Places, AllocError>
-    requires { length columns.now < 2 ^ 32 }
     ensures { IfOk result (λ places. places ≡ places_from 0 columns.now) }
 {
     let mut places = Sequence::new(alloc);
     for place in 0..columns.len() {
-        places.push(place as u32)?;
+        places.push(place)?;
     }
     Ok(places)
 }
@@ -111,7 +105,6 @@ pub fn places_listed(
     schema: &Schema,
     names: &Option<Names>,
 ) -> Result<Checked<Places>, AllocError>
-    requires { length schema.now.columns < 2 ^ 32 }
     ensures { IfOk result (λ places. places ≡ places_listed schema.now names.now) }
 {
     let Some(names) = names else {

@@ -13,28 +13,28 @@ use gho_values::{Bound, Duplicate, Key, Row, Sequence, Span, StoreFault, Value, 
 use std::alloc::{AllocError, Global};
 
 /// Whether each of the places is one of the others.
-fn are_among(places: &[u32], others: &[u32]) -> bool
+fn are_among(places: &[usize], others: &[usize]) -> bool
     ensures { result ≡ list_all (λ place. list_any (λ other. place == other) others.now) places.now }
 {
     places.iter().all(|place| is_among(*place, others))
 }
 
 /// Whether the key's columns are just these.
-fn has_columns(places: &[u32], index: &Index) -> bool
+fn has_columns(places: &[usize], index: &Index) -> bool
     ensures { result ≡ has_columns places.now index.now }
 {
     are_among(index.places.as_slice(), places) && are_among(places, index.places.as_slice())
 }
 
 /// The first of the keys whose columns are just these.
-fn key_with(places: &[u32], uniques: &[Index]) -> Option<usize>
+fn key_with(places: &[usize], uniques: &[Index]) -> Option<usize>
     ensures { result ≡ position (has_columns places.now) uniques.now }
 {
     uniques.iter().position(|index| has_columns(places, index))
 }
 
 /// The first unique key whose columns are just these, each once, by its place among the unique keys.
-pub fn key_of_columns(schema: &Schema, places: &[u32]) -> Option<usize>
+pub fn key_of_columns(schema: &Schema, places: &[usize]) -> Option<usize>
     ensures { result ≡ (if are_distinct places.now then position (has_columns places.now) schema.now.uniques else None) }
 {
     if !are_distinct(places) {
@@ -44,7 +44,7 @@ pub fn key_of_columns(schema: &Schema, places: &[u32]) -> Option<usize>
 }
 
 /// The columns of the unique key at this place.
-pub fn places_at(schema: &Schema, key: usize) -> &[u32]
+pub fn places_at(schema: &Schema, key: usize) -> &[usize]
     ensures { result.now ≡ places_at schema.now key }
 {
     match schema.uniques.as_slice().get(key) {
@@ -57,12 +57,12 @@ pub fn places_at(schema: &Schema, key: usize) -> &[u32]
 fn sought_at(
     alloc: Global,
     schema: &Schema,
-    place: u32,
+    place: usize,
     value: &Value,
 ) -> Result<Checked<Value>, AllocError>
     ensures { IfOk result (λ sought. sought ≡ sought_at place (slice_get schema.now.columns place) (Some value.now)) }
 {
-    let Some(column) = schema.columns.as_slice().get(place as usize) else {
+    let Some(column) = schema.columns.as_slice().get(place) else {
         return Ok(Err(refuses(1054)));
     };
     match seek(alloc, value, column.kind) {
@@ -80,7 +80,7 @@ fn sought_at(
 pub fn sought_each(
     alloc: Global,
     schema: &Schema,
-    places: &[u32],
+    places: &[usize],
     values: &[Value],
 ) -> Result<Checked<Row>, AllocError>
     ensures { IfOk result (λ sought. sought ≡ sought_each schema.now places.now values.now) }
@@ -103,8 +103,8 @@ pub fn sought_each(
 
 fn push_beside(
     key: &mut Key,
-    place: u32,
-    places: &[u32],
+    place: usize,
+    places: &[usize],
     values: &[Value],
 ) -> Result<(), AllocError>
     ensures { OnOk result (key.new ≡ key.old ++ option_to_list (beside place places.now values.now)) }
@@ -119,8 +119,8 @@ fn push_beside(
 #[tactic(auto, using(crate::proofs::Beside::with_value_is))]
 pub fn key_from(
     alloc: Global,
-    key: &[u32],
-    places: &[u32],
+    key: &[usize],
+    places: &[usize],
     values: &[Value],
 ) -> Result<Key, AllocError>
     ensures { IfOk result (λ found. found ≡ key_from key.now places.now values.now) }
@@ -143,14 +143,14 @@ pub fn point(key: Key) -> Result<Span, AllocError>
 }
 
 /// Whether the others are all this place.
-fn are_all(place: u32, others: &[u32]) -> bool
+fn are_all(place: usize, others: &[usize]) -> bool
     ensures { result ≡ list_all (λ other. place == other) others.now }
 {
     others.iter().all(|other| place == *other)
 }
 
 /// Whether the places are all the one place of the key.
-pub fn is_only(key: &[u32], others: &[u32]) -> bool
+pub fn is_only(key: &[usize], others: &[usize]) -> bool
     ensures { result ≡ is_only key.now others.now }
 {
     match key.split_first() {

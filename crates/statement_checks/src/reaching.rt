@@ -1,6 +1,6 @@
 //! What a condition reaches.
 
-ghost use Rattle.std.specs.Prelude.{◌≡◌, map, Ok, None, if◌then◌else◌, IfOk};
+ghost use Rattle.std.specs.Prelude.{◌≡◌, map, None, if◌then◌else◌, IfOk};
 ghost use Rattle.gho_values.specs.GhoSchema.Clustering.{clustered_place};
 ghost use Rattle.gho_values.specs.GhoSchema.Rows.{key_places};
 ghost use Rattle.plain_server.specs.Checking.{is_only, reach_equal, reach_range, reach_of};
@@ -10,7 +10,6 @@ use crate::keys::{is_only, key_from, key_of_columns, places_at, point, sought_ea
 use crate::parts::{compared_columns, compared_values, set_columns, set_values};
 use crate::ranges::{spans_together, whole};
 use crate::refusing::{Checked, refuses};
-use gho_values::Span;
 use gho_values::gho_schema::{Schema, clustered_place};
 use plain_server::Reach;
 use script_text::{Comparison, Condition, Set};
@@ -40,22 +39,14 @@ fn reach_equal(alloc: Global, schema: &Schema, sets: &[Set]) -> Result<Checked<R
         places.as_slice(),
         sought.as_slice(),
     )?;
-    reach_at(place, point(key)?)
-}
-
-/// What is reached of the unique key at this place.
-fn reach_at(place: usize, span: Span) -> Result<Checked<Reach>, AllocError>
-    ensures { IfOk result (λ reach. reach ≡ Ok (record { key = place; span = span })) }
-{
-    // There is no memory for a table of so many keys.
-    match u32::try_from(place) {
-        Ok(key) => Ok(Ok(Reach { key, span })),
-        Err(_) => Err(AllocError),
-    }
+    Ok(Ok(Reach {
+        key: place,
+        span: point(key)?,
+    }))
 }
 
 /// The clustered key's place, where its one column is all that is compared.
-fn range_key(schema: &Schema, places: &[u32]) -> Option<usize>
+fn range_key(schema: &Schema, places: &[usize]) -> Option<usize>
     ensures { result ≡ (if is_only (key_places schema.now) places.now then clustered_place schema.now else None) }
 {
     if is_only(schema.key_places(), places) {
@@ -84,10 +75,10 @@ fn reach_range(
     };
     let values = compared_values(alloc, comparisons)?;
     match sought_each(alloc, schema, places.as_slice(), values.as_slice())? {
-        Ok(sought) => reach_at(
-            place,
-            spans_together(alloc, comparisons, sought.as_slice())?,
-        ),
+        Ok(sought) => Ok(Ok(Reach {
+            key: place,
+            span: spans_together(alloc, comparisons, sought.as_slice())?,
+        })),
         Err(refusal) => Ok(Err(refusal)),
     }
 }
@@ -103,7 +94,10 @@ pub fn reach_of(
 {
     match condition {
         Condition::All => match clustered_place(schema) {
-            Some(place) => reach_at(place, whole()),
+            Some(place) => Ok(Ok(Reach {
+                key: place,
+                span: whole(),
+            })),
             None => Ok(Err(refuses(1235))),
         },
         Condition::Equal(sets) => reach_equal(alloc, schema, sets.as_slice()),

@@ -1,6 +1,6 @@
 //! The new row of an INSERT or a REPLACE.
 
-ghost use Rattle.std.specs.Prelude.{◌≡◌, ◌<◌, ◌^◌, length, option_copied, IfOk};
+ghost use Rattle.std.specs.Prelude.{◌≡◌, option_copied, IfOk};
 ghost use Rattle.gho_values.specs.Storing.{stores};
 ghost use Rattle.plain_server.specs.Checking.{value_at, given_or, row_from, new_row};
 
@@ -14,7 +14,7 @@ use std::alloc::{AllocError, Global};
 /// What the column at this place stores of a value.
 pub fn stored(
     alloc: Global,
-    place: u32,
+    place: usize,
     column: &Column,
     value: &Value,
 ) -> Result<Checked<Value>, AllocError>
@@ -33,7 +33,7 @@ pub fn stored(
 /// What a column of a new row has: the value given for it, else its default.
 fn given_or(
     alloc: Global,
-    place: u32,
+    place: usize,
     column: &Column,
     given: Option<&Value>,
 ) -> Result<Checked<Value>, AllocError>
@@ -53,10 +53,9 @@ fn given_or(
 fn row_from(
     alloc: Global,
     columns: &[Column],
-    places: &[u32],
+    places: &[usize],
     values: &[Value],
 ) -> Result<Checked<Row>, AllocError>
-    requires { length columns.now < 2 ^ 32 }
     ensures { IfOk result (λ row. row ≡ row_from 0 columns.now places.now values.now) }
 {
     let mut row = Sequence::new(alloc);
@@ -82,11 +81,6 @@ pub fn new_row(
 ) -> Result<Checked<Row>, AllocError>
     ensures { IfOk result (λ row. row ≡ new_row schema.now names.now values.now) }
 {
-    let columns = schema.columns.as_slice();
-    // There is no memory for a table of so many columns.
-    if columns.len() > u32::MAX as usize {
-        return Err(AllocError);
-    }
     let places = match places_listed(alloc, schema, names)? {
         Ok(places) => places,
         Err(refusal) => return Ok(Err(refusal)),
@@ -94,5 +88,5 @@ pub fn new_row(
     if places.len() != values.len() {
         return Ok(Err(refuses(1136)));
     }
-    row_from(alloc, columns, places.as_slice(), values)
+    row_from(alloc, schema.columns.as_slice(), places.as_slice(), values)
 }

@@ -1,6 +1,6 @@
 //! A statement's work.
 
-ghost use Rattle.std.specs.Prelude.{◌≡◌, ◌<◌, ◌^◌, length, option_copied, IfOk};
+ghost use Rattle.std.specs.Prelude.{◌≡◌, option_copied, IfOk};
 ghost use Rattle.statement_checks.specs.Sets.{set_at};
 ghost use Rattle.plain_server.specs.Checking.{stored_set, sets_from, selection_of, update_of, select_of, or_refused, work_of};
 
@@ -19,7 +19,7 @@ use std::alloc::{AllocError, Global};
 /// What one column is set to, where it is, or that it refuses its value.
 fn column_set(
     alloc: Global,
-    place: u32,
+    place: usize,
     column: &Column,
     value: Option<&Value>,
 ) -> Result<Result<Option<Value>, UnfitAt>, AllocError>
@@ -43,10 +43,9 @@ fn column_set(
 fn sets_from(
     alloc: Global,
     columns: &[Column],
-    places: &[u32],
+    places: &[usize],
     values: &[Value],
 ) -> Result<Result<ColumnSets, UnfitAt>, AllocError>
-    requires { length columns.now < 2 ^ 32 }
     ensures { IfOk result (λ sets. sets ≡ sets_from 0 columns.now places.now values.now) }
 {
     let mut sets = Sequence::new(alloc);
@@ -89,11 +88,6 @@ fn update_of(
 ) -> Result<Checked<Work>, AllocError>
     ensures { IfOk result (λ work. work ≡ update_of schema.now sets.now condition.now) }
 {
-    let columns = schema.columns.as_slice();
-    // There is no memory for a table of so many columns.
-    if columns.len() > u32::MAX as usize {
-        return Err(AllocError);
-    }
     let names = set_columns(alloc, sets)?;
     let places = match places_named(alloc, schema, names.as_slice())? {
         Ok(places) => places,
@@ -107,7 +101,12 @@ fn update_of(
         Err(refusal) => return Ok(Err(refusal)),
     };
     let values = set_values(alloc, sets)?;
-    let sets = sets_from(alloc, columns, places.as_slice(), values.as_slice())?;
+    let sets = sets_from(
+        alloc,
+        schema.columns.as_slice(),
+        places.as_slice(),
+        values.as_slice(),
+    )?;
     Ok(Ok(Work::Update { reach, sets }))
 }
 

@@ -10,14 +10,14 @@ use std::alloc::{AllocError, Global};
 
 /// The row's values at these places.
 #[tactic(auto, using(crate::proofs::Shown::values_at))]
-fn values_at(alloc: Global, places: &[u32], row: &[Value]) -> Result<Row, AllocError>
+fn values_at(alloc: Global, places: &[usize], row: &[Value]) -> Result<Row, AllocError>
     ensures { IfOk result (λ values. values ≡ flat_map (λ place. option_to_list (slice_get row.now place)) places.now) }
 {
     key_of(alloc, places, row)
 }
 
 /// The rows' values at these places.
-pub fn columns_of(alloc: Global, places: &[u32], rows: &[Row]) -> Result<Rows, AllocError>
+pub fn columns_of(alloc: Global, places: &[usize], rows: &[Row]) -> Result<Rows, AllocError>
     ensures { IfOk result (λ shown. shown ≡ map (λ row. flat_map (λ place. option_to_list (slice_get row place)) places.now) rows.now) }
 {
     let mut shown = Sequence::new(alloc);

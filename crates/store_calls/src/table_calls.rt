@@ -4,6 +4,7 @@
 
 use case_lines::{
     CallFault, are_same, place_of, row_of, say, say_difference, say_found, say_row, span_of,
+    unsigned_of,
 };
 use gho_values::gho_schema::{Schema, key_of};
 use gho_values::{Duplicate, Key, Row, Sequence, Text, Value, print_row};
@@ -82,7 +83,7 @@ fn put_rising(
     told: &mut Text,
 ) -> Result<(), CallFault> {
     let (first, end) = input.split_once(' ').ok_or(CallFault::Unread)?;
-    for n in place_of(first)?..place_of(end)? {
+    for n in unsigned_of(first)?..unsigned_of(end)? {
         let mut row = Sequence::new(alloc);
         row.push(Value::Num(i128::from(n)))?;
         row.push(Value::Num(i128::from(n)))?;
@@ -124,7 +125,7 @@ fn say_pages(table: &Table, told: &mut Text) -> Result<(), AllocError> {
 /// Says the row with values of a unique key.
 fn by_key(alloc: Global, table: &Table, input: &str, told: &mut Text) -> Result<(), CallFault> {
     let (number, sought) = input.split_once(' ').ok_or(CallFault::Unread)?;
-    let n = place_of(number)? as usize;
+    let n = place_of(number)?;
     if n >= table.schema().uniques.len() {
         return Err(CallFault::Unread);
     }
@@ -135,7 +136,7 @@ fn by_key(alloc: Global, table: &Table, input: &str, told: &mut Text) -> Result<
 /// Says the rows whose values of a unique key lie in a span.
 fn in_span_by(alloc: Global, table: &Table, input: &str, told: &mut Text) -> Result<(), CallFault> {
     let (number, sought) = input.split_once(' ').ok_or(CallFault::Unread)?;
-    let n = place_of(number)? as usize;
+    let n = place_of(number)?;
     if n >= table.schema().uniques.len() {
         return Err(CallFault::Unread);
     }

@@ -72,16 +72,12 @@ pub fn statement_locks(
 fn share_lock(schema: &Schema, place: usize, span: &Span) -> Result<Lock, AllocError>
     ensures { IfOk result (λ lock. lock ≡ lock_on schema.now false (record { key = place; span = span.now })) }
 {
-    // There is no memory for a table of so many keys.
-    match u32::try_from(place) {
-        Ok(key) => Ok(Lock {
-            table: schema.name.copy()?,
-            key,
-            span: span.copy()?,
-            exclusive: false,
-        }),
-        Err(_) => Err(AllocError),
-    }
+    Ok(Lock {
+        table: schema.name.copy()?,
+        key: place,
+        span: span.copy()?,
+        exclusive: false,
+    })
 }
 
 /// The row lock on a span of the clustered key of a table of this schema.

@@ -34,14 +34,11 @@ pub fn image_of(alloc: Global, input: &str) -> Result<Text, CallFault> {
     let (map, row) = input.split_once(": ").ok_or(CallFault::Unread)?;
     let map = map_of(alloc, map)?;
     let row = row_of(alloc, row)?;
-    if map.len() >= u32::MAX as usize {
-        return Err(CallFault::Memory);
-    }
     let mut told = Text::new(alloc);
     match image(alloc, map.as_slice(), row.as_slice()) {
         Ok(image) => print_row(image.as_slice(), &mut told)?,
         Err(ImageFault::Unfit(unfit)) => {
-            told.push_number(i128::from(unfit.column))?;
+            told.push_number(unfit.column as i128)?;
             told.push_str(" refuses ")?;
             told.push_number(i128::from(unfit.unfit.number()))?;
         }

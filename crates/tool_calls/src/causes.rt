@@ -16,14 +16,14 @@ use std::alloc::{AllocError, Global};
 
 /// The name of the new column at this place.
 #[tactic(auto, using(migration_program::proofs::ToolSetup::Altered::schema_is))]
-fn new_column_name(alloc: Global, plan: &Plan, place: u32) -> Result<Name, AllocError>
+fn new_column_name(alloc: Global, plan: &Plan, place: usize) -> Result<Name, AllocError>
     ensures { IfOk result (λ name. name ≡ new_column_name plan.now place) }
 {
     name_at(alloc, plan.altered().schema.columns.as_slice(), place)
 }
 
 /// The places of the migrated table's clustered key.
-fn old_places(plan: &Plan) -> &[u32]
+fn old_places(plan: &Plan) -> &[usize]
     ensures { result.now ≡ key_places (old_schema plan.now) }
 {
     match plan.tables().find(plan.table()) {

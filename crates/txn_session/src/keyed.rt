@@ -22,7 +22,7 @@ pub struct KeyedEvent {
 }
 
 /// The key of the row that a change takes out.
-fn gone_key(alloc: Global, places: &[u32], change: &Change) -> Result<Option<Key>, AllocError>
+fn gone_key(alloc: Global, places: &[usize], change: &Change) -> Result<Option<Key>, AllocError>
     ensures { IfOk result (λ key. key ≡ option_map (key_of places.now) (gone_row change.now)) }
 {
     match change {
@@ -37,7 +37,7 @@ fn gone_key(alloc: Global, places: &[u32], change: &Change) -> Result<Option<Key
 fn keyed_event(
     alloc: Global,
     table: &Name,
-    places: &[u32],
+    places: &[usize],
     change: &Change,
 ) -> Result<KeyedEvent, AllocError>
     ensures { IfOk result (λ one. one ≡ keyed places.now (record { table = table.now; change = change.now })) }
@@ -55,7 +55,7 @@ fn keyed_event(
 pub fn keyed_events(
     alloc: Global,
     table: &Name,
-    places: &[u32],
+    places: &[usize],
     changes: &[Change],
 ) -> Result<Vec<KeyedEvent>, AllocError>
     ensures { IfOk result (λ all. all.items ≡ map (keyed places.now) (events_of table.now changes.now)) }

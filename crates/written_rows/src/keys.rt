@@ -35,12 +35,11 @@ impl Model for KeySet {
 
 /// The places 0, 1 .. of a key's values.
 fn first_places(alloc: Global, width: usize) -> Result<Places, AllocError>
-    requires { width < 2 ^ 32 }
     ensures { IfOk result (λ places. places ≡ counted 0 width) }
 {
     let mut places = Sequence::new(alloc);
     for place in 0..width {
-        places.push(place as u32)?;
+        places.push(place)?;
     }
     Ok(places)
 }
@@ -78,10 +77,6 @@ impl KeySet {
         ensures keys { IfOk result (λ set. set.keys ≡ []) }
         ensures width { IfOk result (λ set. set.width ≡ width) }
     {
-        // There is no memory for keys of so many columns.
-        if width > u32::MAX as usize {
-            return Err(AllocError);
-        }
         let schema = schema_of_keys(alloc, first_places(alloc, width)?)?;
         Ok(KeySet {
             table: Table::new(alloc, schema),

@@ -35,7 +35,7 @@ pub fn rows_met(alloc: Global, table: &Table, reach: &Reach) -> Result<Rows, All
     ensures { IfOk result (λ rows. rows ≡ rows_met table.now.table.schema reach.now table.now.table.rows) }
 {
     let schema = table.schema();
-    let place = reach.key as usize;
+    let place = reach.key;
     let Some(index) = key_at(schema, place) else {
         return Ok(Sequence::new(alloc));
     };

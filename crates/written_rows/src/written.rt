@@ -47,7 +47,7 @@ struct KeyedRow {
 }
 
 /// A copy of a row, and its key.
-fn keyed(alloc: Global, places: &[u32], row: &Row) -> Result<KeyedRow, AllocError>
+fn keyed(alloc: Global, places: &[usize], row: &Row) -> Result<KeyedRow, AllocError>
     ensures key { IfOk result (λ keyed. keyed.key ≡ key_of places.now row.now) }
     ensures row { IfOk result (λ keyed. keyed.row ≡ row.now) }
 {
@@ -58,7 +58,7 @@ fn keyed(alloc: Global, places: &[u32], row: &Row) -> Result<KeyedRow, AllocErro
 }
 
 /// Those of rows whose keys are none of these.
-fn left(alloc: Global, places: &[u32], keys: &KeySet, rows: Rows) -> Result<Rows, AllocError>
+fn left(alloc: Global, places: &[usize], keys: &KeySet, rows: Rows) -> Result<Rows, AllocError>
     ensures { IfOk result (λ left. left ≡ untouched places.now keys.now.keys rows) }
 {
     let mut left = Sequence::new(alloc);

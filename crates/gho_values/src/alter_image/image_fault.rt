@@ -11,7 +11,7 @@ use thiserror::Error;
 #[derive(Clone, Copy, Debug, PartialEq, Eq)]
 pub struct UnfitAt {
     /// The place of the column in the new schema, from 0.
-    pub column: u32,
+    pub column: usize,
     /// Why it refuses.
     pub unfit: Unfit,
 }

@@ -1,6 +1,6 @@
 //! What an ALTER makes of rows.
 
-ghost use Rattle.std.specs.Prelude.{◌≡◌, ◌<◌, ◌^◌, length};
+ghost use Rattle.std.specs.Prelude.{◌≡◌};
 ghost use Rattle.gho_values.specs.Storing.{stores};
 ghost use Rattle.gho_values.specs.AlterImage.Images.{source, Fits, Images, image};
 
@@ -16,12 +16,17 @@ pub fn source<'a>(origin: &'a Origin, row: &'a [Value], null: &'a Value) -> &'a 
     ensures { result.now ≡ source origin.now row.now }
 {
     match origin {
-        Origin::Old(place) => row.get(*place as usize).unwrap_or(null),
+        Origin::Old(place) => row.get(*place).unwrap_or(null),
         Origin::Added(value) => value,
     }
 }
 
-fn value_of(alloc: Global, column: u32, new: &MapColumn, row: &[Value]) -> Result<Value, ImageFault>
+fn value_of(
+    alloc: Global,
+    column: usize,
+    new: &MapColumn,
+    row: &[Value],
+) -> Result<Value, ImageFault>
     ensures { Fits column result (stores (source new.now.origin row.now) new.now.kind new.now.nullable) }
 {
     let null = Value::Null;
@@ -39,7 +44,6 @@ fn value_of(alloc: Global, column: u32, new: &MapColumn, row: &[Value]) -> Resul
 
 /// What the new columns store of a row, or the first that refuses.
 pub fn image(alloc: Global, map: &[MapColumn], row: &[Value]) -> Result<Row, ImageFault>
-    requires { length map.now < 2 ^ 32 }
     ensures { Images result (image map.now row.now) }
 {
     let mut made = Sequence::new(alloc);

@@ -20,7 +20,7 @@ pub struct MapColumn {
 #[derive(Debug, Drop)]
 pub enum Origin {
     /// The old column at this place, from 0.
-    Old(u32),
+    Old(usize),
     /// Nowhere: the column was added, and gets this default.
     Added(Value),
 }

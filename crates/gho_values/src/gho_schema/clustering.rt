@@ -6,17 +6,17 @@ ghost use Rattle.gho_values.specs.GhoSchema.Clustering.{is_not_null, may_cluster
 
 use crate::gho_schema::schema::{Column, Index, Schema};
 
-fn is_not_null(columns: &[Column], place: u32) -> bool
+fn is_not_null(columns: &[Column], place: usize) -> bool
     ensures { result ≡ is_not_null (slice_get columns.now place) }
 {
-    match columns.get(place as usize) {
+    match columns.get(place) {
         Some(column) => !column.nullable,
         None => false,
     }
 }
 
 /// Whether the columns at these places may not be null.
-pub fn are_not_null(columns: &[Column], places: &[u32]) -> bool
+pub fn are_not_null(columns: &[Column], places: &[usize]) -> bool
     ensures { result ≡ list_all (λ place. is_not_null (slice_get columns.now place)) places.now }
 {
     places.iter().all(|place| is_not_null(columns, *place))

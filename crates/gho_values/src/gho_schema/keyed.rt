@@ -60,10 +60,10 @@ impl Model for KeyedRows {
     ghost invariant = { λ k. k.entries.entries ≡ with_keys k.places (rows_of k.entries.entries) };
 }
 
-fn push_at(key: &mut Key, place: u32, row: &[Value]) -> Result<(), AllocError>
+fn push_at(key: &mut Key, place: usize, row: &[Value]) -> Result<(), AllocError>
     ensures { OnOk result (key.new ≡ key.old ++ option_to_list (slice_get row.now place)) }
 {
-    match row.get(place as usize) {
+    match row.get(place) {
         Some(value) => key.push(value.copy()?),
         None => Ok(()),
     }
@@ -71,7 +71,7 @@ fn push_at(key: &mut Key, place: u32, row: &[Value]) -> Result<(), AllocError>
 
 /// A row's key: its values at these places.
 #[tactic(auto, unfolding(crate::specs::GhoSchema::Rows::key_of))]
-pub fn key_of(alloc: Global, places: &[u32], row: &[Value]) -> Result<Key, AllocError>
+pub fn key_of(alloc: Global, places: &[usize], row: &[Value]) -> Result<Key, AllocError>
     ensures { IfOk result (λ key. key ≡ key_of places.now row.now) }
 {
     let mut key = Sequence::new(alloc);

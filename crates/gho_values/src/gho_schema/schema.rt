@@ -50,13 +50,13 @@ pub type Columns = Sequence<Column>;
 pub type Indexes = Sequence<Index>;
 
 /// Places of columns, from 0.
-pub type Places = Sequence<u32>;
+pub type Places = Sequence<usize>;
 
 impl Schema {
     ghost use Rattle.gho_values.specs.GhoSchema.Rows.{key_places};
 
     /// The places of the clustered key's columns, in the key's order; none where there is no such key.
-    pub fn key_places(&self) -> &[u32]
+    pub fn key_places(&self) -> &[usize]
         ensures { result.now ≡ key_places self.now }
     {
         match clustered_key(self) {

@@ -1,6 +1,6 @@
 //! Names of columns and keys: which are one, which are free, and the places that they stand for.
 
-ghost use Rattle.std.specs.Prelude.{◌≡◌, ◌++◌, ◌<◌, ◌^◌, length, option_to_list, IfOk, IfSome, OnOk};
+ghost use Rattle.std.specs.Prelude.{◌≡◌, ◌++◌, ◌<◌, length, option_to_list, IfOk, IfSome, OnOk};
 ghost use Rattle.gho_values.specs.GhoSchema.Names.{same_name};
 ghost use Rattle.gho_values.specs.SchemaRules.Names.{is_among, names_differ, place_of, places_of, spelled, numbered, free_name, first_column};
 
@@ -39,11 +39,10 @@ fn place_of(names: &[Name], name: &str) -> Option<usize>
 }
 
 fn push_place(places: &mut Places, names: &[Name], column: &Name) -> Result<(), AllocError>
-    requires { length names.now < 2 ^ 32 }
     ensures { OnOk result (places.new ≡ places.old ++ option_to_list (place_of names.now column.now)) }
 {
     match place_of(names, column.as_str()) {
-        Some(place) => places.push(place as u32),
+        Some(place) => places.push(place),
         None => Ok(()),
     }
 }
@@ -51,7 +50,6 @@ fn push_place(places: &mut Places, names: &[Name], column: &Name) -> Result<(), 
 /// The places of a key's columns; one that names no column has none.
 #[tactic(auto, unfolding(crate::specs::SchemaRules::Names::places_of))]
 pub fn places_of(alloc: Global, names: &[Name], columns: &[Name]) -> Result<Places, AllocError>
-    requires { length names.now < 2 ^ 32 }
     ensures { IfOk result (λ places. places ≡ places_of names.now columns.now) }
 {
     let mut places = Sequence::new(alloc);

@@ -54,7 +54,7 @@ impl Applier {
         &self,
         alloc: Global,
         journal: &[Entry],
-        old_places: &[u32],
+        old_places: &[usize],
     ) -> Result<Key, AllocError>
         ensures { IfOk result (λ key. key ≡ unfit_key journal.now old_places.now self.now) }
     {

@@ -13,11 +13,11 @@ use gho_values::gho_schema::Schema;
 
 /// Whether the two rows give the column at a place the same value.
 #[tactic(auto, using(crate::proofs::EventApplier::RowKeys::keys))]
-fn same_at(map: &[MapColumn], place: u32, before: &[Value], after: &[Value]) -> bool
+fn same_at(map: &[MapColumn], place: usize, before: &[Value], after: &[Value]) -> bool
     ensures { result ≡ is_eq (compare_keys (option_to_list (slice_get (given_values map.now before.now) place)) (option_to_list (slice_get (given_values map.now after.now) place))) }
 {
     let null = Value::Null;
-    match map.get(place as usize) {
+    match map.get(place) {
         Some(column) => {
             source(&column.origin, before, &null) == source(&column.origin, after, &null)
         }
@@ -26,7 +26,7 @@ fn same_at(map: &[MapColumn], place: u32, before: &[Value], after: &[Value]) -> 
 }
 
 /// Whether the two rows give each of the columns at these places the same value.
-fn same_places(map: &[MapColumn], places: &[u32], before: &[Value], after: &[Value]) -> bool
+fn same_places(map: &[MapColumn], places: &[usize], before: &[Value], after: &[Value]) -> bool
     ensures { result ≡ list_all (λ place. is_eq (compare_keys (option_to_list (slice_get (given_values map.now before.now) place)) (option_to_list (slice_get (given_values map.now after.now) place)))) places.now }
 {
     places
@@ -35,7 +35,7 @@ fn same_places(map: &[MapColumn], places: &[u32], before: &[Value], after: &[Val
 }
 
 /// Whether the two rows have the same key at these places.
-fn same_key(map: &[MapColumn], places: &[u32], before: &[Value], after: &[Value]) -> bool
+fn same_key(map: &[MapColumn], places: &[usize], before: &[Value], after: &[Value]) -> bool
     ensures { result ≡ is_eq (compare_keys (key_of places.now (given_values map.now before.now)) (key_of places.now (given_values map.now after.now))) }
 {
     same_places(map, places, before, after)

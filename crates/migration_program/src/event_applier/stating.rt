@@ -32,20 +32,20 @@ fn given_values(alloc: Global, map: &[MapColumn], row: &[Value]) -> Result<Row, 
 }
 
 /// The name of the column at a place; empty where there is none.
-pub fn name_at(alloc: Global, columns: &[Column], place: u32) -> Result<Name, AllocError>
+pub fn name_at(alloc: Global, columns: &[Column], place: usize) -> Result<Name, AllocError>
     ensures { IfOk result (λ name. name ≡ name_at columns.now place) }
 {
-    match columns.get(place as usize) {
+    match columns.get(place) {
         Some(column) => column.name.copy(),
         None => Name::new(alloc, ""),
     }
 }
 
 #[tactic(auto, using(crate::proofs::EventApplier::RowKeys::keys))]
-fn value_at(map: &[MapColumn], row: &[Value], place: u32) -> Result<Value, AllocError>
+fn value_at(map: &[MapColumn], row: &[Value], place: usize) -> Result<Value, AllocError>
     ensures { IfOk result (λ value. value ≡ value_at (given_values map.now row.now) place) }
 {
-    match map.get(place as usize) {
+    match map.get(place) {
         Some(column) => value_of(column, row),
         None => Ok(Value::Null),
     }

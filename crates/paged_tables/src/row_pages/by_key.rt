@@ -14,7 +14,7 @@ use paged_list::PagedList;
 use slab::Slab;
 
 /// The places of the columns of a unique key, by its number; none where there is no such key.
-pub fn places_at(schema: &Schema, n: usize) -> &[u32]
+pub fn places_at(schema: &Schema, n: usize) -> &[usize]
     ensures { result.now ≡ places_at schema.now n }
 {
     match schema.uniques.as_slice().get(n) {

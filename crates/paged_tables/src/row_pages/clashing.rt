@@ -17,7 +17,7 @@ use slab::Slab;
 
 /// The earlier of two rows by the clustered key.
 pub fn earlier<'a>(
-    clustered: &[u32],
+    clustered: &[usize],
     one: Option<&'a Row>,
     other: Option<&'a Row>,
 ) -> Option<&'a Row>
@@ -41,8 +41,8 @@ pub fn earlier<'a>(
 pub fn clash_in<'a>(
     rows: &'a Slab<Row>,
     order: &PagedList,
-    places: &[u32],
-    clustered: &[u32],
+    places: &[usize],
+    clustered: &[usize],
     new: &[Value],
     besides: Option<&Key>,
 ) -> Option<&'a Row>
@@ -63,7 +63,7 @@ pub fn clash_in<'a>(
 /// is named.
 pub fn first_clash<'a>(
     rows: &'a Slab<Row>,
-    clustered: &[u32],
+    clustered: &[usize],
     indexes: &[KeyIndex],
     new: &[Value],
     besides: Option<&Key>,

@@ -11,21 +11,21 @@ use gho_values::Value;
 use std::cmp::Ordering;
 
 /// Which comes first: this key, or the key of a row.
-pub fn compare_key(key: &[Value], places: &[u32], row: &[Value]) -> Ordering
+pub fn compare_key(key: &[Value], places: &[usize], row: &[Value]) -> Ordering
     ensures { result ≡ compare_keys key.now (key_of places.now row.now) }
 {
     key.iter().cmp(RowKey::new(places, row))
 }
 
 /// Which of two rows comes first by the key at these places.
-pub fn compare_rows(places: &[u32], row: &[Value], other: &[Value]) -> Ordering
+pub fn compare_rows(places: &[usize], row: &[Value], other: &[Value]) -> Ordering
     ensures { result ≡ compare_keys (key_of places.now row.now) (key_of places.now other.now) }
 {
     RowKey::new(places, row).cmp(RowKey::new(places, other))
 }
 
 /// Which of two rows comes first by the values at these places, and where they tie, at the second.
-pub fn compare_by(first: &[u32], second: &[u32], row: &[Value], other: &[Value]) -> Ordering
+pub fn compare_by(first: &[usize], second: &[usize], row: &[Value], other: &[Value]) -> Ordering
     ensures { result ≡ compare_by first.now second.now row.now other.now }
 {
     let order = compare_rows(first, row, other);
@@ -37,7 +37,7 @@ pub fn compare_by(first: &[u32], second: &[u32], row: &[Value], other: &[Value])
 }
 
 /// Whether the row has this key.
-pub fn is_at(places: &[u32], key: &[Value], row: &[Value]) -> bool
+pub fn is_at(places: &[usize], key: &[Value], row: &[Value]) -> bool
     ensures { result ≡ is_at places.now key.now row.now }
 {
     compare_key(key, places, row).is_eq()

@@ -24,7 +24,7 @@ pub struct KeyIndex {
 
 impl KeyIndex {
     /// The place of an entry by its row.
-    fn place_of(&self, rows: &Slab<Row>, clustered: &[u32], entry: usize) -> Place
+    fn place_of(&self, rows: &Slab<Row>, clustered: &[usize], entry: usize) -> Place
         requires { Ascending (compare_by self.now.places clustered.now) (rows_of rows.now (flat self.now.entries.pages)) }
         ensures gap { IsGap self.now.entries.pages result.page result.at }
         ensures place { place_in self.now.entries.pages result.page result.at ≡ place_by self.now.places clustered.now (row_of rows.now entry) (rows_of rows.now (flat self.now.entries.pages)) }
@@ -109,7 +109,7 @@ pub fn reserve_all(indexes: &mut Vec<KeyIndex>, total: usize) -> Result<(), Allo
 }
 
 /// Puts an entry in its place.
-fn add(rows: &Slab<Row>, clustered: &[u32], index: &mut KeyIndex, entry: usize)
+fn add(rows: &Slab<Row>, clustered: &[usize], index: &mut KeyIndex, entry: usize)
     requires { IsReady rows.now clustered.now index.old }
     ensures { IsAdded rows.now clustered.now entry index.old index.new }
 {
@@ -118,7 +118,7 @@ fn add(rows: &Slab<Row>, clustered: &[u32], index: &mut KeyIndex, entry: usize)
 }
 
 /// Puts an entry in its place in each index. It takes no memory.
-pub fn add_all(rows: &Slab<Row>, clustered: &[u32], indexes: &mut Vec<KeyIndex>, entry: usize)
+pub fn add_all(rows: &Slab<Row>, clustered: &[usize], indexes: &mut Vec<KeyIndex>, entry: usize)
     requires { AllByRecursion (IsReady rows.now clustered.now) indexes.old.items }
     ensures { AllZip (IsAdded rows.now clustered.now entry) indexes.old.items indexes.new.items }
 {
@@ -129,7 +129,7 @@ pub fn add_all(rows: &Slab<Row>, clustered: &[u32], indexes: &mut Vec<KeyIndex>,
 }
 
 /// Takes an entry out of its place.
-fn take(rows: &Slab<Row>, clustered: &[u32], index: &mut KeyIndex, entry: usize)
+fn take(rows: &Slab<Row>, clustered: &[usize], index: &mut KeyIndex, entry: usize)
     requires { IsHolding rows.now clustered.now entry index.old }
     ensures { IsTaken rows.now clustered.now entry index.old index.new }
 {
@@ -141,7 +141,7 @@ fn take(rows: &Slab<Row>, clustered: &[u32], index: &mut KeyIndex, entry: usize)
 }
 
 /// Takes an entry out of its place in each index. It takes no memory.
-pub fn take_all(rows: &Slab<Row>, clustered: &[u32], indexes: &mut Vec<KeyIndex>, entry: usize)
+pub fn take_all(rows: &Slab<Row>, clustered: &[usize], indexes: &mut Vec<KeyIndex>, entry: usize)
     requires { AllByRecursion (IsHolding rows.now clustered.now entry) indexes.old.items }
     ensures { AllZip (IsTaken rows.now clustered.now entry) indexes.old.items indexes.new.items }
 {

@@ -32,8 +32,8 @@ pub fn row_of(rows: &Slab<Row>, entry: usize) -> &[Value]
 #[derive(Drop)]
 struct BeforeRow<'a> {
     rows: &'a Slab<Row>,
-    first: &'a [u32],
-    second: &'a [u32],
+    first: &'a [usize],
+    second: &'a [usize],
     row: &'a [Value],
 }
 
@@ -53,7 +53,7 @@ pub enum Sought<'a> {
 }
 
 /// Which comes first: the key that is sought, or the row's.
-fn compare_sought(sought: Sought<'_>, places: &[u32], row: &[Value]) -> Ordering
+fn compare_sought(sought: Sought<'_>, places: &[usize], row: &[Value]) -> Ordering
     ensures { result ≡ compare_keys (sought_key places.now sought.entry) (key_of places.now row.now) }
 {
     match sought {
@@ -66,7 +66,7 @@ fn compare_sought(sought: Sought<'_>, places: &[u32], row: &[Value]) -> Ordering
 #[derive(Drop)]
 struct BeforeKey<'a> {
     rows: &'a Slab<Row>,
-    places: &'a [u32],
+    places: &'a [usize],
     sought: Sought<'a>,
 }
 
@@ -82,8 +82,8 @@ impl<'a> Test for BeforeKey<'a> {
 pub fn place_of_row(
     rows: &Slab<Row>,
     order: &PagedList,
-    first: &[u32],
-    second: &[u32],
+    first: &[usize],
+    second: &[usize],
     row: &[Value],
 ) -> Place
     requires { FailsOn (is_before first.now second.now row.now) (rows_of rows.now (flat order.now.pages)) }
@@ -100,7 +100,7 @@ pub fn place_of_row(
 }
 
 /// The place of a key by the first places alone.
-fn place_of_key(rows: &Slab<Row>, order: &PagedList, places: &[u32], sought: Sought<'_>) -> Place
+fn place_of_key(rows: &Slab<Row>, order: &PagedList, places: &[usize], sought: Sought<'_>) -> Place
     requires { FailsOn (comes_before places.now (sought_key places.now sought)) (rows_of rows.now (flat order.now.pages)) }
     ensures gap { IsGap order.now.pages result.page result.at }
     ensures place { place_in order.now.pages result.page result.at ≡ prefix_len (comes_before places.now (sought_key places.now sought.entry)) (rows_of rows.now (flat order.now.pages)) }
@@ -116,7 +116,7 @@ fn place_of_key(rows: &Slab<Row>, order: &PagedList, places: &[u32], sought: Sou
 pub fn found(
     rows: &Slab<Row>,
     order: &PagedList,
-    places: &[u32],
+    places: &[usize],
     sought: Sought<'_>,
 ) -> Option<(Place, usize)>
     requires { (second : List ℕ) × Ascending (compare_by places.now second) (rows_of rows.now (flat order.now.pages)) }
@@ -138,7 +138,7 @@ pub fn found(
 pub fn row_with_key<'a>(
     rows: &'a Slab<Row>,
     order: &PagedList,
-    places: &[u32],
+    places: &[usize],
     sought: Sought<'_>,
 ) -> Option<&'a Row>
     requires { (second : List ℕ) × IsListed places.now second rows.now (flat order.now.pages) }
@@ -155,9 +155,9 @@ pub fn row_with_key<'a>(
 fn found_besides(
     rows: &Slab<Row>,
     order: &PagedList,
-    places: &[u32],
+    places: &[usize],
     sought: Sought<'_>,
-    second: &[u32],
+    second: &[usize],
     named: &[Value],
 ) -> Option<usize>
     requires { Ascending (compare_by places.now second.now) (rows_of rows.now (flat order.now.pages)) }
@@ -184,9 +184,9 @@ fn found_besides(
 pub fn row_besides<'a>(
     rows: &'a Slab<Row>,
     order: &PagedList,
-    places: &[u32],
+    places: &[usize],
     sought: Sought<'_>,
-    second: &[u32],
+    second: &[usize],
     named: &[Value],
 ) -> Option<&'a Row>
     requires { IsListed places.now second.now rows.now (flat order.now.pages) }

@@ -10,7 +10,7 @@ use std::marker::Model;
 /// The values of a row in some columns. Contracts see those that are left.
 #[derive(Drop)]
 pub struct RowKey<'a> {
-    columns: &'a [u32],
+    columns: &'a [usize],
     values: &'a [Value],
 }
 
@@ -26,7 +26,7 @@ impl<'a> Model for RowKey<'a> {
 
 impl<'a> RowKey<'a> {
     /// The key that `columns` make of the row `values`, column by column, in their order; a column past the row's end gives nothing.
-    pub fn new(columns: &'a [u32], values: &'a [Value]) -> RowKey<'a>
+    pub fn new(columns: &'a [usize], values: &'a [Value]) -> RowKey<'a>
         ensures { result ≡ key_of columns.now values.now }
     {
         RowKey { columns, values }
@@ -44,7 +44,7 @@ impl<'a> Iterator for RowKey<'a> {
     fn next(&mut self) -> Option<&'a Value> {
         while let Some((column, behind)) = self.columns.split_first() {
             self.columns = behind;
-            if let Some(value) = self.values.get(*column as usize) {
+            if let Some(value) = self.values.get(*column) {
                 return Some(value);
             }
         }

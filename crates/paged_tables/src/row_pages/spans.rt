@@ -13,7 +13,7 @@ use paged_list::{Entries, PagedList, Test};
 use slab::Slab;
 
 /// Whether the row's key is on the inner side of a lower end.
-fn is_above(low: &Bound, places: &[u32], row: &[Value]) -> bool
+fn is_above(low: &Bound, places: &[usize], row: &[Value]) -> bool
     ensures { result ≡ above low.now (key_of places.now row.now) }
 {
     match low {
@@ -25,7 +25,7 @@ fn is_above(low: &Bound, places: &[u32], row: &[Value]) -> bool
 
 /// Whether the row's key is on the inner side of an upper end.
 #[tactic(auto, using(row_store::proofs::Orders::turned))]
-fn is_below(high: &Bound, places: &[u32], row: &[Value]) -> bool
+fn is_below(high: &Bound, places: &[usize], row: &[Value]) -> bool
     ensures { result ≡ below high.now (key_of places.now row.now) }
 {
     match high {
@@ -39,7 +39,7 @@ fn is_below(high: &Bound, places: &[u32], row: &[Value]) -> bool
 #[derive(Drop)]
 struct BeforeEnd<'a> {
     rows: &'a Slab<Row>,
-    places: &'a [u32],
+    places: &'a [usize],
     low: &'a Bound,
 }
 
@@ -55,7 +55,7 @@ impl<'a> Test for BeforeEnd<'a> {
 #[derive(Drop)]
 struct UpToEnd<'a> {
     rows: &'a Slab<Row>,
-    places: &'a [u32],
+    places: &'a [usize],
     high: &'a Bound,
 }
 
@@ -71,7 +71,7 @@ impl<'a> Test for UpToEnd<'a> {
 pub fn entries_in_span<'a>(
     rows: &Slab<Row>,
     order: &'a PagedList,
-    places: &[u32],
+    places: &[usize],
     span: &Span,
 ) -> Entries<'a>
     requires { (second : List ℕ) × Ascending (compare_by places.now second) (rows_of rows.now (flat order.now.pages)) }

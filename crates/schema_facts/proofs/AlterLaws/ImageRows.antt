@@ -1,15 +1,12 @@
 -- The image of a row is a row of the altered table.
-use Rattle.std.proofs.Common.{◌≡◌, ℕ, suc, ◌+◌, ◌≤◌, Bool, List, [], ◌∷◌, length, Option, Ok, refl, sym, ap, subst, arith}
+use Rattle.std.proofs.Common.{◌≡◌, ℕ, suc, ◌+◌, List, [], ◌∷◌, length, Option, Ok, refl, sym, ap, subst, arith}
 use Rattle.gho_values.specs.Laws.{StoresAgain}
 use Rattle.gho_values.specs.Storing.{stores}
 use Rattle.gho_values.specs.declared.value.Value.{Value}
-use Rattle.gho_values.specs.declared.alter_image.clause.Clause.{Clause}
 use Rattle.gho_values.specs.declared.gho_schema.schema.Column.{Column}
-use Rattle.gho_values.specs.declared.gho_schema.schema.Schema.{Schema}
 use Rattle.gho_values.specs.GhoSchema.Tables.{IsRow}
 use Rattle.gho_values.specs.AlterImage.Images.{source, image_from, image}
-use Rattle.gho_values.specs.SchemaRules.Lawful.{IsLawful}
-use Rattle.alter_schema.specs.Altering.{source_of, map_of, altered}
+use Rattle.alter_schema.specs.Altering.{source_of, map_of}
 use Rattle.schema_facts.specs.AlterLaws.Laws.{Altered, ImagesAreRows, MapsFit}
 use Rattle.schema_facts.proofs.AlterLaws.Images.{front-of, made-is}
 use Rattle.schema_facts.proofs.AlterLaws.KeepingKeys.{ends}
@@ -41,11 +38,3 @@ pub maps_fit : MapsFit
 maps_fit approve schema clauses new lawful e =
     let end = ends approve schema clauses new lawful e in
     subst (λ (n : Altered). length n.1 ≡ length n.0.columns) end.is (map-length end.standing.schema.columns end.standing.origins end.kept.stands.origins)
-
--- an altered table has at most 64 columns, and so has its map
-pub maps_few : (approve : Bool) (schema : Schema) (clauses : List Clause) (new : Altered) → IsLawful schema → altered approve schema clauses ≡ Ok new → length new.1 ≤ 64
-maps_few approve schema clauses new lawful e =
-    let end = ends approve schema clauses new lawful e in
-    let same : length (map_of end.standing.schema.columns end.standing.origins) ≡ length end.standing.schema.columns = map-length end.standing.schema.columns end.standing.origins end.kept.stands.origins in
-    let few : length end.standing.schema.columns ≤ 64 = end.kept.stands.few in
-    subst (λ (n : Altered). length n.1 ≤ 64) end.is (omega (arith, same, few))

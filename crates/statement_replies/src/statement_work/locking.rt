@@ -1,6 +1,6 @@
 //! Locks on the values of unique keys.
 
-ghost use Rattle.std.specs.Prelude.{◌≡◌, ◌<◌, ◌^◌, ◌++◌, length, OnOk, IfOk};
+ghost use Rattle.std.specs.Prelude.{◌≡◌, ◌++◌, OnOk, IfOk};
 ghost use Rattle.gho_values.specs.Spans.{point};
 ghost use Rattle.gho_values.specs.GhoSchema.Rows.{key_of};
 ghost use Rattle.plain_server.specs.Needing.{lock_on, point_lock, points_from, points, points_of};
@@ -39,7 +39,7 @@ fn push_point(
     alloc: Global,
     into: &mut LockSet,
     schema: &Schema,
-    place: u32,
+    place: usize,
     index: &Index,
     row: &[Value],
 ) -> Result<(), AllocError>
@@ -62,7 +62,6 @@ fn push_each(
     uniques: &[Index],
     row: &[Value],
 ) -> Result<(), AllocError>
-    requires { length uniques.now < 2 ^ 32 }
     ensures { OnOk result (into.new ≡ into.old ++ points_from schema.now 0 uniques.now row.now) }
 {
     let mut place = 0;
@@ -82,10 +81,6 @@ pub fn push_points(
 ) -> Result<(), AllocError>
     ensures { OnOk result (into.new ≡ into.old ++ points schema.now row.now) }
 {
-    // There is no memory for a table of so many keys.
-    if schema.uniques.len() > u32::MAX as usize {
-        return Err(AllocError);
-    }
     push_each(alloc, into, schema, schema.uniques.as_slice(), row)
 }
 

@@ -10,7 +10,7 @@ pub enum Reason {
         /// The turn.
         turn: u64,
         /// The column's place in the new schema, from 0.
-        column: u32,
+        column: usize,
         /// The refusal's number.
         number: u16,
     },
@@ -19,7 +19,7 @@ pub enum Reason {
         /// The turn.
         turn: u64,
         /// The column's place in the new schema, from 0.
-        column: u32,
+        column: usize,
         /// The refusal's number.
         number: u16,
     },
