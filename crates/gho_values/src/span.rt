@@ -1,6 +1,6 @@
 //! Spans of a key's values, as row locks and chunks take them.
 
-ghost use Rattle.std.specs.Prelude.{◌≡◌};
+ghost use Rattle.std.specs.Prelude.{◌≡◌, IfOk};
 
 use crate::duplicate::Duplicate;
 use crate::value::Key;
@@ -46,7 +46,17 @@ impl Duplicate for Span {
 }
 
 impl Span {
-    ghost use Rattle.gho_values.specs.Spans.{has, meets};
+    ghost use Rattle.gho_values.specs.Spans.{point, has, meets};
+
+    /// The span of one key.
+    pub fn point(key: Key) -> Result<Span, AllocError>
+        ensures { IfOk result (λ span. span ≡ point key) }
+    {
+        Ok(Span {
+            low: Bound::Closed(key.copy()?),
+            high: Bound::Closed(key),
+        })
+    }
 
     /// Whether the key lies in the span.
     #[tactic(auto, unfolding(crate::specs::Spans::has))]

@@ -17,7 +17,7 @@ use Rattle.gho_values.specs.declared.gho_schema.schema.Column.{Column}
 use Rattle.gho_values.specs.declared.gho_schema.schema.Index.{Index}
 use Rattle.gho_values.specs.GhoSchema.Names.{same_name}
 use Rattle.gho_values.specs.GhoSchema.Clustering.{clustered_place}
-use Rattle.gho_values.specs.GhoSchema.Rows.{key_places}
+use Rattle.gho_values.specs.GhoSchema.Rows.{key_places, places_at}
 use Rattle.gho_values.specs.declared.alter_image.image_fault.UnfitAt.{UnfitAt}
 use Rattle.script_text.specs.declared.statement.Statement.{Statement}
 use Rattle.script_text.specs.declared.statement.Statement.TheVariants as statements
@@ -145,14 +145,6 @@ key_from (place ∷ key) places values = with_value (beside place places values)
 abbrev pub keyed : {A : Type 0} → Option ℕ → (ℕ → Result A Answer) → Result A Answer
 keyed None f = Err (refuses 1235)
 keyed (Some place) f = f place
-
--- the columns of a unique key, by its place
-abbrev pub index_places : Option Index → List ℕ
-index_places None = []
-index_places (Some index) = index.places
-
-abbrev pub places_at : Schema → ℕ → List ℕ
-places_at schema key = index_places (slice_get schema.uniques key)
 
 -- equalities: on the columns of a unique key, the first of which they are all the columns, each once
 unfoldable pub reach_equal : Schema → List (List ℕ) → List Value → Result Reach Answer

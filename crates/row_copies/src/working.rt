@@ -17,7 +17,7 @@ ghost use Rattle.written_rows.specs.Written.{nothing, seen};
 
 use gho_values::alter_image::{ColumnMap, ImageFault, image};
 use gho_values::gho_schema::{Schema, clustered_place};
-use gho_values::{Bound, Duplicate, Key, Name, Row, Rows, Span};
+use gho_values::{Duplicate, Key, Name, Row, Rows, Span};
 use paged_tables::Tables;
 use paged_tables::row_pages::Table;
 use plain_server::{Answer, Reach, Work};
@@ -25,26 +25,6 @@ use statement_checks::{new_row, refuses, refuses_value};
 use std::alloc::{AllocError, Global};
 use txn_session::Txn;
 use written_rows::{SeenTable, WrittenRows};
-
-/// The span of one key.
-fn point(key: &Key) -> Result<Span, AllocError>
-    ensures { IfOk result (λ span. span ≡ point key.now) }
-{
-    Ok(Span {
-        low: Bound::Closed(key.copy()?),
-        high: Bound::Closed(key.copy()?),
-    })
-}
-
-/// What is reached of the clustered key at this place, at one value.
-fn reach_at(place: usize, key: &Key) -> Result<Reach, AllocError>
-    ensures { IfOk result (λ reach. reach ≡ record { key = place; span = point key.now }) }
-{
-    Ok(Reach {
-        key: place,
-        span: point(key)?,
-    })
-}
 
 /// The rows that one value of the clustered key at this place reaches, of a table as it is seen.
 fn rows_reached(
@@ -55,7 +35,8 @@ fn rows_reached(
 ) -> Result<Rows, AllocError>
     ensures { IfOk result (λ rows. rows ≡ rows_met seen.now.schema (record { key = place; span = point key.now }) seen.now.rows) }
 {
-    seen.met(alloc, &reach_at(place, key)?)
+    let span = Span::point(key.copy()?)?;
+    seen.met(alloc, &Reach { key: place, span })
 }
 
 /// The rows of a clustered key, of a table as it is seen: one, where a row has it.

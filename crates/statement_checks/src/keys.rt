@@ -2,14 +2,13 @@
 
 ghost use Rattle.std.specs.Prelude.{◌≡◌, ◌==◌, ◌++◌, position, option_to_list, slice_get, Some, None, if◌then◌else◌, IfOk, OnOk};
 ghost use Rattle.std.specs.List.{list_all, list_any};
-ghost use Rattle.gho_values.specs.Spans.{point};
-ghost use Rattle.plain_server.specs.Checking.{are_distinct, beside, has_columns, sought_at, sought_each, key_from, places_at, is_only};
+ghost use Rattle.plain_server.specs.Checking.{are_distinct, beside, has_columns, sought_at, sought_each, key_from, is_only};
 
 use crate::columns::{are_distinct, beside, is_among};
 use crate::refusing::{Checked, refuses, refuses_value};
 use gho_values::alter_image::UnfitAt;
 use gho_values::gho_schema::{Index, Schema};
-use gho_values::{Bound, Duplicate, Key, Row, Sequence, Span, StoreFault, Value, seek};
+use gho_values::{Duplicate, Key, Row, Sequence, StoreFault, Value, seek};
 use std::alloc::{AllocError, Global};
 
 /// Whether each of the places is one of the others.
@@ -41,16 +40,6 @@ pub fn key_of_columns(schema: &Schema, places: &[usize]) -> Option<usize>
         return None;
     }
     key_with(places, schema.uniques.as_slice())
-}
-
-/// The columns of the unique key at this place.
-pub fn places_at(schema: &Schema, key: usize) -> &[usize]
-    ensures { result.now ≡ places_at schema.now key }
-{
-    match schema.uniques.as_slice().get(key) {
-        Some(index) => index.places.as_slice(),
-        None => &[],
-    }
 }
 
 /// What the column at this place compares with a literal.
@@ -130,16 +119,6 @@ pub fn key_from(
         push_beside(&mut found, *place, places, values)?;
     }
     Ok(found)
-}
-
-/// The span of one key.
-pub fn point(key: Key) -> Result<Span, AllocError>
-    ensures { IfOk result (λ span. span ≡ point key) }
-{
-    Ok(Span {
-        low: Bound::Closed(key.copy()?),
-        high: Bound::Closed(key),
-    })
 }
 
 /// Whether the others are all this place.

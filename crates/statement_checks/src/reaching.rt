@@ -6,10 +6,11 @@ ghost use Rattle.gho_values.specs.GhoSchema.Rows.{key_places};
 ghost use Rattle.plain_server.specs.Checking.{is_only, reach_equal, reach_range, reach_of};
 
 use crate::columns::places_named;
-use crate::keys::{is_only, key_from, key_of_columns, places_at, point, sought_each};
+use crate::keys::{is_only, key_from, key_of_columns, sought_each};
 use crate::parts::{compared_columns, compared_values, set_columns, set_values};
 use crate::ranges::{spans_together, whole};
 use crate::refusing::{Checked, refuses};
+use gho_values::Span;
 use gho_values::gho_schema::{Schema, clustered_place};
 use plain_server::Reach;
 use script_text::{Comparison, Condition, Set};
@@ -35,13 +36,13 @@ fn reach_equal(alloc: Global, schema: &Schema, sets: &[Set]) -> Result<Checked<R
     };
     let key = key_from(
         alloc,
-        places_at(schema, place),
+        schema.places_at(place),
         places.as_slice(),
         sought.as_slice(),
     )?;
     Ok(Ok(Reach {
         key: place,
-        span: point(key)?,
+        span: Span::point(key)?,
     }))
 }
 

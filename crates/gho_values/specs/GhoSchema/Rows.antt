@@ -8,6 +8,7 @@ use Rattle.gho_values.specs.declared.gho_schema.schema.Schema.{Schema}
 use Rattle.gho_values.specs.declared.gho_schema.schema.Index.{Index}
 use Rattle.gho_values.specs.GhoSchema.Clustering.{clustered_key}
 
+-- the places of a key's columns, in the key's order; none where there is no such key
 abbrev pub places_of : Option Index → List ℕ
 places_of None = []
 places_of (Some index) = index.places
@@ -15,6 +16,10 @@ places_of (Some index) = index.places
 -- the places of the clustered key's columns, in the key's order; none where there is no such key
 abbrev pub key_places : Schema → List ℕ
 key_places schema = places_of (clustered_key schema)
+
+-- those of the unique key of this number, from 0
+abbrev pub places_at : Schema → ℕ → List ℕ
+places_at schema key = places_of (slice_get schema.uniques key)
 
 -- a row's key: its values at these places
 unfoldable pub key_of : List ℕ → List Value → List Value

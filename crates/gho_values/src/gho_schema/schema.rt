@@ -53,13 +53,23 @@ pub type Indexes = Sequence<Index>;
 pub type Places = Sequence<usize>;
 
 impl Schema {
-    ghost use Rattle.gho_values.specs.GhoSchema.Rows.{key_places};
+    ghost use Rattle.gho_values.specs.GhoSchema.Rows.{key_places, places_at};
 
     /// The places of the clustered key's columns, in the key's order; none where there is no such key.
     pub fn key_places(&self) -> &[usize]
         ensures { result.now ≡ key_places self.now }
     {
         match clustered_key(self) {
+            Some(index) => index.places.as_slice(),
+            None => &[],
+        }
+    }
+
+    /// The places of the columns of a unique key, by its number from 0; none where there is no such key.
+    pub fn places_at(&self, key: usize) -> &[usize]
+        ensures { result.now ≡ places_at self.now key }
+    {
+        match self.uniques.as_slice().get(key) {
             Some(index) => index.places.as_slice(),
             None => &[],
         }

@@ -9,12 +9,12 @@ use Rattle.gho_values.specs.Spans.{has}
 use Rattle.gho_values.specs.declared.gho_schema.schema.Schema.{Schema}
 use Rattle.gho_values.specs.declared.gho_schema.schema.Index.{Index}
 use Rattle.gho_values.specs.GhoSchema.Clustering.{clustered_place, unique_at}
-use Rattle.gho_values.specs.GhoSchema.Rows.{key_of, key_places, places_of}
+use Rattle.gho_values.specs.GhoSchema.Rows.{key_of, key_places, places_of, places_at}
 use Rattle.paged_list.specs.Pages.{InPages, flat}
 use Rattle.row_store.proofs.Orders.{Row}
 use Rattle.paged_tables.specs.RowPages.RowOrders.{row_of, rows_of, compare_by, Ascending, Has, IsListed}
 use Rattle.paged_tables.specs.RowPages.Indexes.{all_but, other_keys, keys_of, IsIndexed}
-use Rattle.paged_tables.specs.RowPages.ByKeys.{places_at, HasRow, AreInSpan, IsOrderOf}
+use Rattle.paged_tables.specs.RowPages.ByKeys.{HasRow, AreInSpan, IsOrderOf}
 use Rattle.paged_tables.specs.RowPages.StoredRows.{IsStored}
 use Rattle.paged_tables.specs.declared.row_pages.indexes.KeyIndex.{KeyIndex}
 use Rattle.paged_tables.proofs.RowPages.Ordered.{all_at}

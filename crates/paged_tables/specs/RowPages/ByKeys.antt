@@ -1,21 +1,15 @@
 -- Rows by any unique key.
 use Rattle.std.specs.Prelude.{◌≡◌, ◌⊎◌, ℕ, true, List, [], ◌∷◌, find, Option}
-use Rattle.std.specs.List.{slice_get}
 use Rattle.slab.specs.Slab.{Slab}
 use Rattle.gho_values.specs.declared.value.Value.{Value}
 use Rattle.gho_values.specs.declared.span.Span.{Span}
 use Rattle.gho_values.specs.Spans.{has}
-use Rattle.gho_values.specs.declared.gho_schema.schema.Schema.{Schema}
-use Rattle.gho_values.specs.GhoSchema.Rows.{key_of, key_places, places_of}
+use Rattle.gho_values.specs.GhoSchema.Rows.{key_of, key_places, places_at}
 use Rattle.paged_list.specs.Pages.{InPages}
 use Rattle.row_store.specs.RowLists.{is_at}
 use Rattle.row_store.specs.Databases.{TableRows}
 use Rattle.paged_tables.specs.RowPages.RowOrders.{compare_by, Ascending}
 use Rattle.paged_tables.specs.RowPages.Indexes.{IsIndexed}
-
--- the places of the columns of the unique key of this number
-abbrev pub places_at : Schema → ℕ → List ℕ
-places_at schema n = places_of (slice_get schema.uniques n)
 
 -- the row of least clustered key that has these values in the columns of the unique key of this number
 abbrev pub row_by : ℕ → TableRows → List Value → Option (List Value)

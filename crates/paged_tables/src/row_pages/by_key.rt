@@ -1,9 +1,9 @@
 //! Which entries stand in order of a unique key.
 
 ghost use Rattle.std.specs.Prelude.{◌≡◌, ◌<◌, length, slice_get, option_copied, Some, MatchOption};
-ghost use Rattle.gho_values.specs.GhoSchema.Rows.{key_places};
+ghost use Rattle.gho_values.specs.GhoSchema.Rows.{key_places, places_at};
 ghost use Rattle.paged_list.specs.Pages.{flat};
-ghost use Rattle.paged_tables.specs.RowPages.ByKeys.{places_at, IsOrderOf};
+ghost use Rattle.paged_tables.specs.RowPages.ByKeys.{IsOrderOf};
 ghost use Rattle.paged_tables.specs.RowPages.Indexes.{other_keys};
 ghost use Rattle.paged_tables.specs.RowPages.StoredRows.{IsStored};
 
@@ -12,16 +12,6 @@ use gho_values::Row;
 use gho_values::gho_schema::{Schema, clustered_place};
 use paged_list::PagedList;
 use slab::Slab;
-
-/// The places of the columns of a unique key, by its number; none where there is no such key.
-pub fn places_at(schema: &Schema, n: usize) -> &[usize]
-    ensures { result.now ≡ places_at schema.now n }
-{
-    match schema.uniques.as_slice().get(n) {
-        Some(unique) => unique.places.as_slice(),
-        None => &[],
-    }
-}
 
 /// Which of the indexes is that of the unique key of this number; none for the clustered key.
 fn index_number(schema: &Schema, n: usize) -> Option<usize>

@@ -2,15 +2,15 @@
 
 ghost use Rattle.std.specs.Prelude.{◌≡◌, ◌≤◌, ◌<◌, ◌+◌, ◌==◌, true, [], if◌then◌else◌, None, length, get_or, is_some, option_copied, IfOk, OnOk};
 ghost use Rattle.std.specs.List.{flat_map};
-ghost use Rattle.gho_values.specs.GhoSchema.Rows.{key_of, key_places, with_row};
+ghost use Rattle.gho_values.specs.GhoSchema.Rows.{key_of, key_places, places_at, with_row};
 ghost use Rattle.gho_values.specs.GhoSchema.Tables.{Ascends};
 ghost use Rattle.paged_list.specs.Pages.{pages_made, last_page};
 ghost use Rattle.row_store.specs.RowLists.{comes_before, without_key};
 ghost use Rattle.row_store.specs.Databases.{row_at_key, clashing, rows_in, name_table};
-ghost use Rattle.paged_tables.specs.RowPages.ByKeys.{places_at, row_by, AreInSpan};
+ghost use Rattle.paged_tables.specs.RowPages.ByKeys.{row_by, AreInSpan};
 ghost use Rattle.paged_tables.specs.RowPages.StoredRows.{ArePagesOfRows};
 
-use crate::row_pages::by_key::{order_by, places_at};
+use crate::row_pages::by_key::order_by;
 use crate::row_pages::clashing::{clash_in, earlier, first_clash};
 use crate::row_pages::copying::{copied_table, table_of};
 use crate::row_pages::indexes::{KeyIndex, add_all, make_indexes, reserve_all, take_all};
@@ -183,7 +183,7 @@ impl Table {
         let indexes = self.indexes.as_slice();
         let entries = order_by(&self.schema, &self.rows, &self.order, indexes, n);
         let sought = Sought::Key(key.as_slice());
-        row_with_key(&self.rows, entries, places_at(&self.schema, n), sought)
+        row_with_key(&self.rows, entries, self.schema.places_at(n), sought)
     }
 
     /// The rows whose values in the columns of a unique key lie in the span, in order of these; rows that tie, as those
@@ -194,7 +194,7 @@ impl Table {
     {
         let indexes = self.indexes.as_slice();
         let entries = order_by(&self.schema, &self.rows, &self.order, indexes, n);
-        let found = entries_in_span(&self.rows, entries, places_at(&self.schema, n), span);
+        let found = entries_in_span(&self.rows, entries, self.schema.places_at(n), span);
         SpanRows::new(&self.rows, found)
     }
 

@@ -1,12 +1,11 @@
 //! Locks on the values of unique keys.
 
 ghost use Rattle.std.specs.Prelude.{◌≡◌, ◌++◌, OnOk, IfOk};
-ghost use Rattle.gho_values.specs.Spans.{point};
 ghost use Rattle.gho_values.specs.GhoSchema.Rows.{key_of};
 ghost use Rattle.plain_server.specs.Needing.{lock_on, point_lock, points_from, points, points_of};
 
 use gho_values::gho_schema::{Index, Schema, key_of};
-use gho_values::{Bound, Duplicate, Key, Row, Span, Value};
+use gho_values::{Duplicate, Row, Span, Value};
 use plain_server::Reach;
 use row_locks::{Lock, LockSet};
 use row_store::has_no_null;
@@ -21,16 +20,6 @@ pub fn lock_on(schema: &Schema, exclusive: bool, reach: &Reach) -> Result<Lock, 
         key: reach.key,
         span: reach.span.copy()?,
         exclusive,
-    })
-}
-
-/// The span of one key.
-fn point(key: Key) -> Result<Span, AllocError>
-    ensures { IfOk result (λ span. span ≡ point key) }
-{
-    Ok(Span {
-        low: Bound::Closed(key.copy()?),
-        high: Bound::Closed(key),
     })
 }
 
@@ -49,7 +38,7 @@ fn push_point(
     if !has_no_null(places, row) {
         return Ok(());
     }
-    let span = point(key_of(alloc, places, row)?)?;
+    let span = Span::point(key_of(alloc, places, row)?)?;
     into.push(lock_on(schema, true, &Reach { key: place, span })?)
 }
 

@@ -1,7 +1,6 @@
 use Rattle.std.proofs.Common.{sym, refl}
-use Rattle.gho_values.specs.GhoSchema.Rows.{key_places}
+use Rattle.gho_values.specs.GhoSchema.Rows.{key_places, places_at}
 use Rattle.paged_list.specs.Pages.{flat}
-use Rattle.paged_tables.specs.RowPages.ByKeys.{places_at}
 use Rattle.paged_tables.proofs.RowPages.ByKeys.{own_order, index_order, no_index}
 use Rattle.paged_tables.proofs.row_pages.by_key.order_by.Goals as goal
 

@@ -1,8 +1,7 @@
 use Rattle.std.proofs.Common.{◌∙◌, sym}
-use Rattle.gho_values.specs.GhoSchema.Rows.{key_places}
+use Rattle.gho_values.specs.GhoSchema.Rows.{key_places, places_at}
 use Rattle.paged_list.specs.Pages.{flat}
 use Rattle.row_store.specs.RowLists.{is_at}
-use Rattle.paged_tables.specs.RowPages.ByKeys.{places_at}
 use Rattle.paged_tables.proofs.RowPages.FirstRows.{found_by_test}
 use Rattle.paged_tables.proofs.row_pages.table.Table.get_by.Goals as goal
 

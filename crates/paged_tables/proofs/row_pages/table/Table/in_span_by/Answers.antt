@@ -1,8 +1,7 @@
 use Rattle.std.proofs.Common.{◌∙◌, ℕ, IsSome}
 use Rattle.slab.specs.Slab.{get}
-use Rattle.gho_values.specs.GhoSchema.Rows.{key_places}
+use Rattle.gho_values.specs.GhoSchema.Rows.{key_places, places_at}
 use Rattle.paged_list.specs.Pages.{flat}
-use Rattle.paged_tables.specs.RowPages.ByKeys.{places_at}
 use Rattle.paged_tables.proofs.RowPages.Ordered.{has_all, all_has}
 use Rattle.paged_tables.proofs.RowPages.ByKeys.{are_in_span}
 use Rattle.paged_tables.proofs.row_pages.table.Table.in_span_by.Goals as goal
