@@ -78,6 +78,7 @@ may_exclude Lock (requests.LockTables names) = true
 may_exclude Ren (requests.Rename pairs) = true
 may_exclude actor request = false
 
+-- an attempt at the cut-over runs, and may still succeed
 abbrev pub attempt_goes_on : Course → Bool
 attempt_goes_on (SettingUp setup tries) = false
 attempt_goes_on (Migrating work) = may_succeed work.cutover.phase

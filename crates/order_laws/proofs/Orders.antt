@@ -5,13 +5,14 @@ use Rattle.std.specs.List.{AllByRecursion, flat_map, list_all, repeat, slice_spl
 use Rattle.gho_values.specs.SchemaRules.Results.{◌>>=◌}
 use Rattle.script_text.specs.declared.actor.Actor.{Actor}
 use Rattle.plain_server.specs.Entries.{same_actor}
+use Rattle.plan_words.specs.PlanData.{turns_in}
 use Rattle.plan_words.specs.declared.runs.ActorRun.{ActorRun}
 use Rattle.order_reader.specs.Spacing.{is_empty, is_space, spaced_words}
 use Rattle.turn_reader.specs.Refusals.{or_refused}
 use Rattle.turn_reader.specs.Turns.{next_word, run_among, runs_from, turns_of}
 use Rattle.report_print.specs.Turns.{joined, order_text, run_text, runs_of}
 use Rattle.client_lines.proofs.Actors.{same_is}
-use Rattle.order_laws.specs.Laws.{IsOf, turns_in}
+use Rattle.order_laws.specs.Laws.{IsOf}
 use Rattle.order_laws.proofs.Words.{IsRun, dark_run, first_part, long_run, one_part, run_read}
 
 abbrev run : Actor → ℕ → ActorRun

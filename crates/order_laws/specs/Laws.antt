@@ -1,9 +1,9 @@
 -- *The printed order is read again*, as the turns whose order it is. This project's rule.
-use Rattle.std.specs.Prelude.{◌≡◌, ◌<◌, ◌≤◌, ◌^◌, ℕ, List, [], ◌∷◌, length, Ok}
-use Rattle.std.specs.List.{AllByRecursion, flat_map, repeat}
+use Rattle.std.specs.Prelude.{◌≡◌, ◌<◌, ◌≤◌, ◌^◌, ℕ, List, length, Ok}
+use Rattle.std.specs.List.{AllByRecursion}
 use Rattle.script_text.specs.declared.actor.Actor.{Actor}
 use Rattle.script_text.specs.declared.actor.Actor.TheVariants.{Client}
-use Rattle.plan_words.specs.declared.runs.ActorRun.{ActorRun}
+use Rattle.plan_words.specs.PlanData.{turns_in}
 use Rattle.report_print.specs.Turns.{order_text, runs_of}
 use Rattle.turn_reader.specs.Turns.{turns_of}
 
@@ -17,10 +17,6 @@ IsOf clients actor = Unit {0}
 abbrev pub PrintedOrdersAreRead : Type 0
 PrintedOrdersAreRead =
     (clients : ℕ) (actors : List Actor) → clients < 2 ^ 32 → length actors < 2 ^ 32 → AllByRecursion (IsOf clients) actors → turns_of clients (order_text (runs_of actors)) ≡ Ok (runs_of actors)
-
--- the turns of runs, one after the other
-abbrev pub turns_in : List ActorRun → List Actor
-turns_in runs = flat_map (λ run. repeat run.times (run.actor ∷ [])) runs
 
 -- These runs are those turns.
 abbrev pub PrintedOrdersAreThoseTurns : Type 0

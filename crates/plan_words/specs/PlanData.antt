@@ -1,5 +1,6 @@
 -- What a plan says, and what its ALTER makes of its table (MySQL's manual, "ALTER TABLE Statement").
-use Rattle.std.specs.Prelude.{ℕ, List, [], unwrap_or, Option, Some, None}
+use Rattle.std.specs.Prelude.{ℕ, List, [], ◌∷◌, unwrap_or, Option, Some, None}
+use Rattle.std.specs.List.{flat_map, repeat}
 use Rattle.std.specs.Option.{option_map}
 use Rattle.std.specs.Result.{result_ok}
 use Rattle.gho_values.specs.declared.gho_schema.schema.Schema.{Schema}
@@ -7,6 +8,7 @@ use Rattle.gho_values.specs.declared.alter_image.clause.Clause.{Clause}
 use Rattle.gho_values.specs.declared.alter_image.map.MapColumn.{MapColumn}
 use Rattle.alter_schema.specs.Altering.{altered}
 use Rattle.row_store.specs.Databases.{TableRows, Database, find_table}
+use Rattle.script_text.specs.declared.actor.Actor.{Actor}
 use Rattle.script_text.specs.declared.loss.Loss.{Loss}
 use Rattle.script_text.specs.declared.operator.Command.{Command}
 use Rattle.script_text.specs.declared.script.ScriptLine.{ScriptLine}
@@ -30,6 +32,10 @@ pub record PlanData : Type 0 where
   -- the order of turns that is asked for
   pub turns : List ActorRun
   pub options : Options
+
+-- the turns of runs, one after the other
+abbrev pub turns_in : List ActorRun → List Actor
+turns_in runs = flat_map (λ run. repeat run.times (run.actor ∷ [])) runs
 
 -- a new schema, and for each of its columns where its values come from
 abbrev pub Altered : Type 0

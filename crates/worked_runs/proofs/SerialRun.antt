@@ -21,7 +21,8 @@ use Rattle.migration_program.specs.Programs.{Follows}
 use Rattle.migration_program.specs.Orders.{ReplayOrder, IsReplay}
 use Rattle.migration_program.specs.JournalWords.Histories.{history, is_alter}
 use Rattle.migration_program.specs.JournalWords.Serials.{IsSerial}
-use Rattle.plain_server.specs.StatementLaws.Covering.{StoresDefault, IsOrderlyTable}
+use Rattle.gho_values.specs.SchemaRules.Lawful.{StoresDefault}
+use Rattle.plain_server.specs.StatementLaws.Covering.{IsOrderlyTable}
 use Rattle.journal_facts.specs.Plans as plans
 use Rattle.journal_facts.specs.Plans.{scene_of, KeepsAway, IsSerialPlan, IsPlanRun}
 use Rattle.journal_facts.proofs.PlanJournals.{journals_are_serial}

@@ -19,7 +19,8 @@ use Rattle.plain_server.specs.declared.work.Selection.{Selection}
 use Rattle.plain_server.specs.declared.work.Work.{Work}
 use Rattle.plain_server.specs.declared.work.Work.TheVariants.{Insert, Replace, Delete, Update}
 use Rattle.plain_server.specs.Checking.{◌>>=◌, value_at, given_or, beside, row_from, new_row, places_listed, unless, places_named, are_distinct, reach_of, selection_of, set_first, stored_set, sets_from, or_refused, update_of, select_of, work_of}
-use Rattle.plain_server.specs.StatementLaws.Covering.{StoresDefault, SetsFit, IsSound}
+use Rattle.gho_values.specs.SchemaRules.Lawful.{StoresDefault}
+use Rattle.plain_server.specs.StatementLaws.Covering.{SetsFit, IsSound}
 
 -- what is not refused passes
 abbrev pub OkIs : {A E : Type 0} → (A → Type 0) → Result A E → Type 0

@@ -6,6 +6,7 @@ use Rattle.gho_values.specs.declared.gho_schema.schema.Schema.{Schema}
 use Rattle.gho_values.specs.GhoSchema.Tables.{IsRow, IsTable}
 use Rattle.gho_values.specs.declared.gho_schema.schema.Column.{Column}
 use Rattle.gho_values.specs.Storing.{stores}
+use Rattle.gho_values.specs.SchemaRules.Lawful.{StoresDefault}
 use Rattle.row_store.specs.ClusteredKeys.{HasClusteredKey}
 use Rattle.row_store.specs.Databases.{TableRows}
 use Rattle.event_codec.specs.declared.event.Change.{Change}
@@ -34,11 +35,6 @@ Covered schema locks changes = AllByRecursion (λ change. RowsCovered schema loc
 -- no lock of the one conflicts with one of the other
 abbrev pub Apart : List Lock → List Lock → Type 0
 Apart own others = (lock other : Lock) → Among lock own → Among other others → conflict lock other ≡ false
-
--- a default that is there is stored as itself
-abbrev pub StoresDefault : Column → Option Value → Type 0
-StoresDefault column None = Unit {0}
-StoresDefault column (Some value) = stores value column.kind column.nullable ≡ Ok value
 
 -- a table with a clustered key, and defaults that fit their columns
 pub record IsOrderlyTable (table : TableRows) : Type 0 where

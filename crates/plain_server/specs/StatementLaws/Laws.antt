@@ -17,7 +17,8 @@ use Rattle.plain_server.specs.Checking.{work_of}
 use Rattle.plain_server.specs.Saying.{tells}
 use Rattle.plain_server.specs.Jobs.{Job, says, job_says, job_needs, after_events}
 use Rattle.plain_server.specs.StatementLaws.Agreeing.{Agree, Within}
-use Rattle.plain_server.specs.StatementLaws.Covering.{Apart, IsSound, StoresDefault}
+use Rattle.gho_values.specs.SchemaRules.Lawful.{StoresDefault}
+use Rattle.plain_server.specs.StatementLaws.Covering.{Apart, IsSound}
 use Rattle.plain_server.specs.StatementLaws.Databases.{IsOrderly, EventsCovered}
 
 -- the two databases let the job say and need the same

@@ -5,15 +5,16 @@ use Rattle.std.specs.List.{slice_get, repeat}
 use Rattle.std.proofs.lemmas.Bool.{and_parts, ltb-true, ltb-false}
 use Rattle.std.proofs.lemmas.List.{drop_all}
 use Rattle.script_text.specs.declared.actor.Actor.{Actor}
+use Rattle.plan_words.specs.PlanData.{turns_in}
 use Rattle.plan_words.specs.declared.runs.ActorRun.{ActorRun}
 use Rattle.migration_program.specs.Orders.{Found, first_ready}
 use Rattle.turn_book.proofs.Clients.{left_here}
-use Rattle.plan_replays.specs.WholeReplay.Places.{words_of_runs, words_from, by_word}
+use Rattle.plan_replays.specs.WholeReplay.Places.{words_from, by_word}
 
-pub words_whole : (runs : List ActorRun) → words_from 0 runs ≡ words_of_runs runs
+pub words_whole : (runs : List ActorRun) → words_from 0 runs ≡ turns_in runs
 unfolding words_from
 words_whole [] = refl
-words_whole (run ∷ runs) = let same : run.times - 0 ≡ run.times = omega arith in ap (λ (n : ℕ). repeat n (run.actor ∷ []) ++ words_of_runs runs) same
+words_whole (run ∷ runs) = let same : run.times - 0 ≡ run.times = omega arith in ap (λ (n : ℕ). repeat n (run.actor ∷ []) ++ turns_in runs) same
 
 -- an actor that isn't ready, so many times
 unready : (ready : Actor → Bool) (times : ℕ) (actor : Actor) (others : List Actor) → ready actor ≡ false → first_ready ready (repeat times (actor ∷ []) ++ others) ≡ first_ready ready others
@@ -27,7 +28,7 @@ one_less ready times less actor others is so = rw (is, so) refl
 
 taken_at : (ready : Actor → Bool) (used : ℕ) (run : ActorRun) (runs : List ActorRun) → used < run.times → ready run.actor ≡ true → first_ready ready (words_from used (run ∷ runs)) ≡ Some (record { actor = run.actor; behind = words_from (used + 1) (run ∷ runs) })
 unfolding words_from
-taken_at ready used run runs within so = let less : run.times - used ≡ suc (run.times - (used + 1)) = omega (arith, within) in one_less ready (run.times - used) (run.times - (used + 1)) run.actor (words_of_runs runs) less so
+taken_at ready used run runs within so = let less : run.times - used ≡ suc (run.times - (used + 1)) = omega (arith, within) in one_less ready (run.times - used) (run.times - (used + 1)) run.actor (turns_in runs) less so
 
 -- a word whose actor is ready
 word_taken : (ready : Actor → Bool) (used index : ℕ) (runs : List ActorRun) (run : ActorRun) → slice_get runs index ≡ Some run → used < run.times → ready run.actor ≡ true
@@ -36,11 +37,11 @@ word_taken ready used index runs run is within so = rw (left_here runs index run
 
 spent_at : (ready : Actor → Bool) (used : ℕ) (run : ActorRun) (runs : List ActorRun) → run.times ≤ used → first_ready ready (words_from used (run ∷ runs)) ≡ first_ready ready (words_from 0 runs)
 unfolding words_from
-spent_at ready used run runs past = let none : run.times - used ≡ 0 = omega (arith, past) in ap (λ (n : ℕ). first_ready ready (repeat n (run.actor ∷ []) ++ words_of_runs runs)) none ∙ ap (first_ready ready) (sym (words_whole runs))
+spent_at ready used run runs past = let none : run.times - used ≡ 0 = omega (arith, past) in ap (λ (n : ℕ). first_ready ready (repeat n (run.actor ∷ []) ++ turns_in runs)) none ∙ ap (first_ready ready) (sym (words_whole runs))
 
 unready_at : (ready : Actor → Bool) (used : ℕ) (run : ActorRun) (runs : List ActorRun) → ready run.actor ≡ false → first_ready ready (words_from used (run ∷ runs)) ≡ first_ready ready (words_from 0 runs)
 unfolding words_from
-unready_at ready used run runs none = unready ready (run.times - used) run.actor (words_of_runs runs) none ∙ ap (first_ready ready) (sym (words_whole runs))
+unready_at ready used run runs none = unready ready (run.times - used) run.actor (turns_in runs) none ∙ ap (first_ready ready) (sym (words_whole runs))
 
 passed_by : (ready : Actor → Bool) (used : ℕ) (run : ActorRun) (runs : List ActorRun) (left : Bool) → nat_lt used run.times ≡ left → (left && ready run.actor) ≡ false → first_ready ready (words_from used (run ∷ runs)) ≡ first_ready ready (words_from 0 runs)
 passed_by ready used run runs true is none = unready_at ready used run runs none

@@ -1,21 +1,17 @@
 -- *Place*: what is left of a replay's order, as the code keeps it, and the queue that it stands for. (This project's rule.)
 use Rattle.std.specs.Prelude.{ℕ, ◌-◌, List, [], ◌∷◌, ◌++◌, drop, Option, Some, None}
-use Rattle.std.specs.List.{flat_map, repeat}
+use Rattle.std.specs.List.{repeat}
 use Rattle.script_text.specs.declared.actor.Actor.{Actor}
-use Rattle.plan_words.specs.PlanData.{PlanData}
+use Rattle.plan_words.specs.PlanData.{PlanData, turns_in}
 use Rattle.plan_words.specs.declared.runs.ActorRun.{ActorRun}
 use Rattle.migration_program.specs.Orders.{actors, Queue, Choice, Found}
 use Rattle.plan_replays.specs.declared.whole_replay.place.Place.{Place}
 use Rattle.plan_replays.specs.declared.whole_replay.place.NextTurn.{NextTurn}
 
--- the words of runs, each as often as it stands
-abbrev pub words_of_runs : List ActorRun → List Actor
-words_of_runs runs = flat_map (λ run. repeat run.times (run.actor ∷ [])) runs
-
--- the same, where so many words of the first run are behind
+-- the turns of runs, where so many of the first run are behind
 unfoldable pub words_from : ℕ → List ActorRun → List Actor
 words_from used [] = []
-words_from used (run ∷ runs) = repeat (run.times - used) (run.actor ∷ []) ++ words_of_runs runs
+words_from used (run ∷ runs) = repeat (run.times - used) (run.actor ∷ []) ++ turns_in runs
 
 abbrev pub queue_of : PlanData → Place → Queue
 queue_of plan place = record { words = words_from place.used (drop place.run plan.turns); round = drop place.actor (actors plan) }
