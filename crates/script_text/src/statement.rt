@@ -4,7 +4,7 @@ use gho_values::{Duplicate, Name, Names, Row, Sequence, Value};
 use std::alloc::AllocError;
 
 /// A statement (MySQL's manual, "Data Manipulation Statements").
-#[derive(Debug, Drop)]
+#[derive(Debug)]
 pub enum Statement {
     /// INSERT INTO table [(columns)] VALUES (values).
     Insert {
@@ -110,6 +110,49 @@ pub enum Shown {
     Columns(Names),
     /// COUNT(*): how many rows there are.
     Count,
+}
+
+impl Drop for Statement {
+    fn drop(self) {
+        match self {
+            Statement::Insert {
+                table,
+                columns,
+                values,
+            }
+            | Statement::Replace {
+                table,
+                columns,
+                values,
+            } => {
+                drop(table);
+                drop(columns);
+                drop(values);
+            }
+            Statement::Delete { table, condition } => {
+                drop(table);
+                drop(condition);
+            }
+            Statement::Update {
+                table,
+                sets,
+                condition,
+            } => {
+                drop(table);
+                drop(sets);
+                drop(condition);
+            }
+            Statement::Select {
+                table,
+                shown,
+                condition,
+            } => {
+                drop(table);
+                drop(shown);
+                drop(condition);
+            }
+        }
+    }
 }
 
 impl Duplicate for Set {

@@ -7,7 +7,7 @@ use crate::{Chars, Duplicate, Kind, Name, Sequence, Value};
 use std::alloc::AllocError;
 
 /// A table's columns, keys and indexes (MySQL's manual, "CREATE TABLE Statement").
-#[derive(Debug, Drop)]
+#[derive(Debug)]
 pub struct Schema {
     /// The table's name.
     pub name: Name,
@@ -51,6 +51,23 @@ pub type Indexes = Sequence<Index>;
 
 /// Places of columns, from 0.
 pub type Places = Sequence<usize>;
+
+impl Drop for Schema {
+    fn drop(self) {
+        let Schema {
+            name,
+            columns,
+            uniques,
+            indexes,
+            comment,
+        } = self;
+        drop(name);
+        drop(columns);
+        drop(uniques);
+        drop(indexes);
+        drop(comment);
+    }
+}
 
 impl Schema {
     ghost use Rattle.gho_values.specs.GhoSchema.Rows.{key_places, places_at};

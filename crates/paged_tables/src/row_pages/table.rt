@@ -26,12 +26,27 @@ use std::marker::Model;
 use std::mem;
 
 /// A table with its rows, in pages of 1 to 64.
-#[derive(Debug, Drop)]
+#[derive(Debug)]
 pub struct Table {
     schema: Schema,
     rows: Slab<Row>,
     order: PagedList,
     indexes: Vec<KeyIndex>,
+}
+
+impl Drop for Table {
+    fn drop(self) {
+        let Table {
+            schema,
+            rows,
+            order,
+            indexes,
+        } = self;
+        drop(schema);
+        drop(rows);
+        drop(order);
+        drop(indexes);
+    }
 }
 
 impl Model for Table {
