@@ -6,7 +6,7 @@
 
 use case_lines::{CallFault, say, unsigned_of};
 use gho_values::{Name, Names, Sequence, Text};
-use metadata_locks::{Asked2, MetaLocks};
+use metadata_locks::{LockAnswer, MetaLocks};
 use std::alloc::{AllocError, Global};
 
 fn names_of(alloc: Global, letters: &str) -> Result<Names, AllocError> {
@@ -37,7 +37,7 @@ fn ask(
     session: u32,
     names: &Names,
     exclusive: bool,
-) -> Result<Asked2, CallFault> {
+) -> Result<LockAnswer, CallFault> {
     if locks.waiting(session) {
         return Err(CallFault::Unread);
     }
@@ -45,24 +45,28 @@ fn ask(
 }
 
 /// An ask for exclusive locks that is ended where it is granted.
-fn turn(locks: &mut MetaLocks, session: u32, names: &Names) -> Result<Asked2, CallFault> {
+fn turn(locks: &mut MetaLocks, session: u32, names: &Names) -> Result<LockAnswer, CallFault> {
     if locks.waiting(session) {
         return Err(CallFault::Unread);
     }
     let answer = locks.ask(session, names, true)?;
-    if answer == Asked2::Granted {
+    if answer == LockAnswer::Granted {
         locks.end(session);
     }
     Ok(answer)
 }
 
 /// An ask for shared locks that is taken back where it is granted.
-fn shared_undone(locks: &mut MetaLocks, session: u32, names: &Names) -> Result<Asked2, CallFault> {
+fn shared_undone(
+    locks: &mut MetaLocks,
+    session: u32,
+    names: &Names,
+) -> Result<LockAnswer, CallFault> {
     if locks.waiting(session) {
         return Err(CallFault::Unread);
     }
     let answer = locks.ask(session, names, false)?;
-    if answer == Asked2::Granted {
+    if answer == LockAnswer::Granted {
         locks.undo(session);
     }
     Ok(answer)
@@ -73,7 +77,7 @@ fn exclusive_undone(
     locks: &mut MetaLocks,
     session: u32,
     names: &Names,
-) -> Result<Asked2, CallFault> {
+) -> Result<LockAnswer, CallFault> {
     if locks.waiting(session) {
         return Err(CallFault::Unread);
     }
@@ -83,12 +87,12 @@ fn exclusive_undone(
 }
 
 /// A poll of a session that waits.
-fn poll(locks: &mut MetaLocks, session: u32, then: Then) -> Result<Asked2, CallFault> {
+fn poll(locks: &mut MetaLocks, session: u32, then: Then) -> Result<LockAnswer, CallFault> {
     if !locks.waiting(session) {
         return Err(CallFault::Unread);
     }
     let answer = locks.poll(session);
-    if answer == Asked2::Granted {
+    if answer == LockAnswer::Granted {
         match then {
             Then::Keep => {}
             Then::End => locks.end(session),
@@ -99,12 +103,12 @@ fn poll(locks: &mut MetaLocks, session: u32, then: Then) -> Result<Asked2, CallF
 }
 
 /// The end of a request that waits.
-fn end(locks: &mut MetaLocks, session: u32) -> Result<Asked2, CallFault> {
+fn end(locks: &mut MetaLocks, session: u32) -> Result<LockAnswer, CallFault> {
     if !locks.waiting(session) {
         return Err(CallFault::Unread);
     }
     locks.end(session);
-    Ok(Asked2::Granted)
+    Ok(LockAnswer::Granted)
 }
 
 /// A call that names locks.
@@ -114,7 +118,7 @@ fn asked(
     call: &str,
     session: u32,
     letters: &str,
-) -> Result<Asked2, CallFault> {
+) -> Result<LockAnswer, CallFault> {
     let names = names_of(alloc, letters)?;
     match call {
         "S" => ask(locks, session, &names, false),
@@ -129,7 +133,7 @@ fn asked(
 }
 
 /// A call that names a session alone.
-fn called(locks: &mut MetaLocks, call: &str, session: u32) -> Result<Asked2, CallFault> {
+fn called(locks: &mut MetaLocks, call: &str, session: u32) -> Result<LockAnswer, CallFault> {
     match call {
         "poll" => poll(locks, session, Then::Keep),
         "poll-end" => poll(locks, session, Then::End),
@@ -137,16 +141,16 @@ fn called(locks: &mut MetaLocks, call: &str, session: u32) -> Result<Asked2, Cal
         "end" => end(locks, session),
         "free" => {
             locks.free(session);
-            Ok(Asked2::Granted)
+            Ok(LockAnswer::Granted)
         }
         _ => Err(CallFault::Unread),
     }
 }
 
-fn say_answer(alloc: Global, told: &mut Text, answer: Asked2) -> Result<(), AllocError> {
+fn say_answer(alloc: Global, told: &mut Text, answer: LockAnswer) -> Result<(), AllocError> {
     match answer {
-        Asked2::Granted => say(told, "granted"),
-        Asked2::Waits { by } => say(told, format!(in alloc; "{by} refuses")?.as_str()),
+        LockAnswer::Granted => say(told, "granted"),
+        LockAnswer::Waits { by } => say(told, format!(in alloc; "{by} refuses")?.as_str()),
     }
 }
 

@@ -5,12 +5,12 @@
 use crate::lock_words::set_of;
 use case_lines::{CallFault, say, unsigned_of};
 use gho_values::Text;
-use row_locks::{Asked2, LockSet, RowLocks};
+use row_locks::{LockAnswer, LockSet, RowLocks};
 use std::alloc::{AllocError, Global};
 
-fn undone(locks: &mut RowLocks, session: u32, set: &LockSet) -> Result<Asked2, AllocError> {
+fn undone(locks: &mut RowLocks, session: u32, set: &LockSet) -> Result<LockAnswer, AllocError> {
     let answer = locks.ask(session, set)?;
-    if answer == Asked2::Granted {
+    if answer == LockAnswer::Granted {
         locks.undo(session);
     }
     Ok(answer)
@@ -21,23 +21,23 @@ fn answer_of(
     call: &str,
     session: u32,
     set: &LockSet,
-) -> Result<Asked2, CallFault> {
+) -> Result<LockAnswer, CallFault> {
     match call {
         "ask" => Ok(locks.ask(session, set)?),
         "test" => Ok(locks.test(session, set)),
         "undo" => Ok(undone(locks, session, set)?),
         "free" => {
             locks.free(session);
-            Ok(Asked2::Granted)
+            Ok(LockAnswer::Granted)
         }
         _ => Err(CallFault::Unread),
     }
 }
 
-fn say_answer(alloc: Global, told: &mut Text, answer: Asked2) -> Result<(), AllocError> {
+fn say_answer(alloc: Global, told: &mut Text, answer: LockAnswer) -> Result<(), AllocError> {
     match answer {
-        Asked2::Granted => say(told, "granted"),
-        Asked2::Waits { by } => say(told, format!(in alloc; "{by} refuses")?.as_str()),
+        LockAnswer::Granted => say(told, "granted"),
+        LockAnswer::Waits { by } => say(told, format!(in alloc; "{by} refuses")?.as_str()),
     }
 }
 

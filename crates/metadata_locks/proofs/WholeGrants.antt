@@ -6,7 +6,7 @@ use Rattle.std.specs.List.{AllByRecursion}
 use Rattle.std.proofs.Math.Bool.{or-not_self}
 use Rattle.std.proofs.lemmas.Bool.{or_right}
 use Rattle.std.proofs.lemmas.Cmp.{nat_list_eq_equiv}
-use Rattle.metadata_locks.specs.declared.request.Asked2.TheVariants as answers
+use Rattle.metadata_locks.specs.declared.request.LockAnswer.TheVariants as answers
 use Rattle.metadata_locks.specs.Granting.{HeldName, has_name, holds, answer_by}
 use Rattle.metadata_locks.specs.Holding.{NameTable, held_by, added, asked_by, refuser_of}
 use Rattle.metadata_locks.specs.Laws.{GrantsWhole}

@@ -5,8 +5,8 @@ use Rattle.std.specs.List.{list_any}
 use Rattle.std.specs.Option.{option_map}
 use Rattle.least_session.specs.Least.{least}
 use Rattle.metadata_locks.specs.declared.request.Waiter.{Waiter}
-use Rattle.metadata_locks.specs.declared.request.Asked2.{Asked2}
-use Rattle.metadata_locks.specs.declared.request.Asked2.TheVariants as answers
+use Rattle.metadata_locks.specs.declared.request.LockAnswer.{LockAnswer}
+use Rattle.metadata_locks.specs.declared.request.LockAnswer.TheVariants as answers
 
 -- A lock on a name, exclusive or else shared, and the session that holds it.
 pub record HeldName : Type 0 where
@@ -82,6 +82,6 @@ holder_of [] name = None
 holder_of (other ∷ held) name = if is_on other name true then Some other.session else holder_of held name
 
 -- The answer where this session refuses, or none does.
-abbrev pub answer_by : Option ℕ → Asked2
+abbrev pub answer_by : Option ℕ → LockAnswer
 answer_by None = answers.Granted
 answer_by (Some by) = answers.Waits by

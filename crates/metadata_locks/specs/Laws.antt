@@ -3,7 +3,7 @@ use Rattle.std.specs.Prelude.{◌≡◌, ◌≢◌, ℕ, Bool, true, false, ◌&
 use Rattle.std.specs.Cmp.Lexicographic.{pointwise}
 use Rattle.std.specs.List.{AllByRecursion}
 use Rattle.metadata_locks.specs.declared.request.Waiter.{Waiter}
-use Rattle.metadata_locks.specs.declared.request.Asked2.TheVariants as answers
+use Rattle.metadata_locks.specs.declared.request.LockAnswer.TheVariants as answers
 use Rattle.metadata_locks.specs.Granting.{HeldName, has_name, holds, refuser_of_name, answer_by}
 use Rattle.metadata_locks.specs.Holding.{NameTable, refuser_of, asked, polled, freed, undone, ended}
 

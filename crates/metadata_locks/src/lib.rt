@@ -9,4 +9,4 @@ mod request;
 mod waiting;
 
 pub use locks::MetaLocks;
-pub use request::Asked2;
+pub use request::LockAnswer;

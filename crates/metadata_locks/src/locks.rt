@@ -9,7 +9,7 @@ ghost use Rattle.metadata_locks.specs.Waiting.{IsAt, round};
 
 use crate::granting::{is_holding, names_to_add, take_away};
 use crate::refusing::{holder_of, refuser_of_names};
-use crate::request::{Asked2, Request, Waiter};
+use crate::request::{LockAnswer, Request, Waiter};
 use crate::waiting::place_of;
 use gho_values::{Duplicate, Name, Names};
 use std::alloc::{AllocError, Global};
@@ -70,12 +70,12 @@ impl MetaLocks {
     }
 
     /// What `ask` would answer; and to a session that waits for just these names exclusively, what `poll` would.
-    pub fn test(&self, session: u32, names: &Names, exclusive: bool) -> Asked2
+    pub fn test(&self, session: u32, names: &Names, exclusive: bool) -> LockAnswer
         ensures { result ≡ answer_by (refuser_of self.now session exclusive names.now) }
     {
         match self.refuser(session, names, exclusive) {
-            None => Asked2::Granted,
-            Some(by) => Asked2::Waits { by },
+            None => LockAnswer::Granted,
+            Some(by) => LockAnswer::Waits { by },
         }
     }
 
@@ -99,7 +99,7 @@ impl MetaLocks {
         session: u32,
         names: &Names,
         exclusive: bool,
-    ) -> Result<Asked2, AllocError>
+    ) -> Result<LockAnswer, AllocError>
         requires { waits self.old session ≡ false }
         ensures answer { IfOk result (λ answer. answer ≡ answer_by (refuser_of self.old session exclusive names.now)) }
         ensures ok { OnOk result (self.new ≡ asked self.old session exclusive names.now) }
@@ -108,13 +108,13 @@ impl MetaLocks {
         match self.refuser(session, names, exclusive) {
             None => {
                 self.grant(session, names, exclusive)?;
-                Ok(Asked2::Granted)
+                Ok(LockAnswer::Granted)
             }
             Some(by) => {
                 if exclusive {
                     self.line_up(session, names)?;
                 }
-                Ok(Asked2::Waits { by })
+                Ok(LockAnswer::Waits { by })
             }
         }
     }
@@ -163,7 +163,7 @@ impl MetaLocks {
     }
 
     /// Asks again for the session's request that waits.
-    pub fn poll(&mut self, session: u32) -> Asked2
+    pub fn poll(&mut self, session: u32) -> LockAnswer
         requires { waits self.old session ≡ true }
         ensures answer { result ≡ answer_by (refuser_of_poll self.old session) }
         ensures after { self.new ≡ polled self.old session }
@@ -175,7 +175,7 @@ impl MetaLocks {
     }
 
     /// Asks again for the session's request, which stands at this place.
-    fn poll_at(&mut self, session: u32, place: usize) -> Asked2
+    fn poll_at(&mut self, session: u32, place: usize) -> LockAnswer
         requires { IsAt session self.old.waiting place }
         ensures answer { result ≡ answer_by (refuser_of_poll self.old session) }
         ensures after { self.new ≡ polled self.old session }
@@ -184,9 +184,9 @@ impl MetaLocks {
         match self.refuser(session, &waiter.names, true) {
             None => {
                 self.grant_waiter(session, place);
-                Asked2::Granted
+                LockAnswer::Granted
             }
-            Some(by) => Asked2::Waits { by },
+            Some(by) => LockAnswer::Waits { by },
         }
     }
 

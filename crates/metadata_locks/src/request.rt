@@ -8,7 +8,7 @@ use gho_values::{Name, Names};
 
 /// What is answered to a session that asks for names.
 #[derive(Clone, Copy, Debug, PartialEq, Eq)]
-pub enum Asked2 {
+pub enum LockAnswer {
     /// It has them all now.
     Granted,
     /// It has no more than before, and must wait.

@@ -11,7 +11,7 @@ use Rattle.gho_values.specs.Spans.{meets}
 use Rattle.gho_values.proofs.SpanLaws.{meets_both_ways}
 use Rattle.row_locks.specs.declared.lock.Lock.{Lock}
 use Rattle.row_locks.specs.declared.lock.HeldLock.{HeldLock}
-use Rattle.row_locks.specs.declared.lock.Asked2.TheVariants as answers
+use Rattle.row_locks.specs.declared.lock.LockAnswer.TheVariants as answers
 use Rattle.row_locks.specs.Granting.{same_place, conflict, refusal, refuser_of_lock, refuser_of_set, answer_by}
 use Rattle.least_session.proofs.Kept.{both, kept}
 use Rattle.least_session.proofs.Sessions.{none_of, not_refused}

@@ -5,8 +5,8 @@ use Rattle.least_session.specs.Least.{least}
 use Rattle.gho_values.specs.Spans.{meets}
 use Rattle.row_locks.specs.declared.lock.Lock.{Lock}
 use Rattle.row_locks.specs.declared.lock.HeldLock.{HeldLock}
-use Rattle.row_locks.specs.declared.lock.Asked2.{Asked2}
-use Rattle.row_locks.specs.declared.lock.Asked2.TheVariants as answers
+use Rattle.row_locks.specs.declared.lock.LockAnswer.{LockAnswer}
+use Rattle.row_locks.specs.declared.lock.LockAnswer.TheVariants as answers
 
 -- The two locks are on the same key of the same table.
 abbrev pub same_place : Lock → Lock → Bool
@@ -31,10 +31,10 @@ refuser_of_set held session [] = None
 refuser_of_set held session (lock ∷ set) = least (refuser_of_lock held session lock) (refuser_of_set held session set)
 
 -- The answer where this session refuses, or none does.
-abbrev pub answer_by : Option ℕ → Asked2
+abbrev pub answer_by : Option ℕ → LockAnswer
 answer_by None = answers.Granted
 answer_by (Some by) = answers.Waits by
 
 -- The answer to a session that asks for the locks: it gets all, or waits for the least session that refuses one.
-abbrev pub answer_to : List HeldLock → ℕ → List Lock → Asked2
+abbrev pub answer_to : List HeldLock → ℕ → List Lock → LockAnswer
 answer_to held session set = answer_by (refuser_of_set held session set)

@@ -2,7 +2,7 @@
 use Rattle.std.specs.Prelude.{◌≡◌, ◌≢◌, ℕ, false, List, [], ◌++◌, map, fold, None, AllPairs, ◌⊎◌}
 use Rattle.row_locks.specs.declared.lock.Lock.{Lock}
 use Rattle.row_locks.specs.declared.lock.HeldLock.{HeldLock}
-use Rattle.row_locks.specs.declared.lock.Asked2.TheVariants as answers
+use Rattle.row_locks.specs.declared.lock.LockAnswer.TheVariants as answers
 use Rattle.row_locks.specs.Granting.{conflict, answer_to}
 use Rattle.row_locks.specs.Holding.{LockTable, held_by, asked, freed, undone}
 

@@ -8,5 +8,5 @@ mod lock;
 mod locks;
 mod refusing;
 
-pub use lock::{Asked2, HeldLock, Lock, LockSet};
+pub use lock::{HeldLock, Lock, LockAnswer, LockSet};
 pub use locks::RowLocks;

@@ -73,7 +73,7 @@ pub fn take_away(held: &mut Vec<HeldLock>, session: u32)
 
 /// What is answered to a session that asks for locks.
 #[derive(Clone, Copy, Debug, PartialEq, Eq)]
-pub enum Asked2 {
+pub enum LockAnswer {
     /// It has them all now.
     Granted,
     /// It has none of them now, and must wait.

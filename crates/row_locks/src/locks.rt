@@ -4,7 +4,7 @@ ghost use Rattle.std.specs.Prelude.{◌≡◌, [], None, IfOk, OnOk, OnErr};
 ghost use Rattle.row_locks.specs.Holding.{IsLastAskOf, asked, freed, undone};
 ghost use Rattle.row_locks.specs.Granting.{answer_to};
 
-use crate::lock::{Asked2, HeldLock, LockSet, held_by, holds_one, take_away};
+use crate::lock::{HeldLock, LockAnswer, LockSet, held_by, holds_one, take_away};
 use crate::refusing::refuser_of_set;
 use std::alloc::{AllocError, Global};
 use std::marker::Model;
@@ -47,23 +47,23 @@ impl RowLocks {
     }
 
     /// What `ask` would answer.
-    pub fn test(&self, session: u32, set: &LockSet) -> Asked2
+    pub fn test(&self, session: u32, set: &LockSet) -> LockAnswer
         ensures { result ≡ answer_to self.now.held session set.now }
     {
         match refuser_of_set(self.held.as_slice(), session, set.as_slice()) {
-            None => Asked2::Granted,
-            Some(by) => Asked2::Waits { by },
+            None => LockAnswer::Granted,
+            Some(by) => LockAnswer::Waits { by },
         }
     }
 
     /// Gives the session all the locks of the set, or none where another session's lock refuses one of them.
-    pub fn ask(&mut self, session: u32, set: &LockSet) -> Result<Asked2, AllocError>
+    pub fn ask(&mut self, session: u32, set: &LockSet) -> Result<LockAnswer, AllocError>
         ensures answer { IfOk result (λ answer. answer ≡ answer_to self.old.held session set.now) }
         ensures ok { OnOk result (self.new ≡ asked self.old session set.now) }
         ensures err { OnErr result (self.new ≡ self.old) }
     {
         let answer = self.test(session, set);
-        if answer == Asked2::Granted {
+        if answer == LockAnswer::Granted {
             let mut added = held_by(*self.held.allocator(), session, set.as_slice())?;
             let before = self.held.len();
             self.held.append(&mut added)?;
