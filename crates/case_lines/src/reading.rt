@@ -56,7 +56,7 @@ pub fn place_of(text: &str) -> Result<usize, CallFault> {
     text.parse::<usize>().map_err(|_| CallFault::Unread)
 }
 
-/// The number of a session, a limit or a load.
+/// A number that isn't below 0: of a session, of rows, a limit or a load.
 pub fn unsigned_of(text: &str) -> Result<u32, CallFault> {
     text.parse::<u32>().map_err(|_| CallFault::Unread)
 }
