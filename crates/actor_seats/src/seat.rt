@@ -12,7 +12,7 @@ use plain_server::{Answer, Asked, Entry};
 use script_text::Actor;
 
 /// What is kept of an actor.
-#[derive(Clone, Copy, Debug, PartialEq, Eq)]
+#[derive(Clone, Copy)]
 pub struct ActorSeat {
     /// Whose seat it is.
     pub actor: Actor,

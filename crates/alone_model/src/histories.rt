@@ -18,7 +18,7 @@ use plan_words::Plan;
 use std::alloc::{AllocError, Global};
 
 /// What happened to the clients' tables.
-#[derive(Debug, Drop)]
+#[derive(Drop)]
 pub enum Happening {
     /// A transaction of these lines ended.
     Txn(TxnLines),
@@ -27,7 +27,7 @@ pub enum Happening {
 }
 
 /// What came of a history.
-#[derive(Debug, Drop)]
+#[derive(Drop)]
 pub struct InOrder {
     /// The replies, a list a transaction.
     pub replies: Sequence<Replies>,

@@ -13,14 +13,14 @@ use plain_server::{Replies, Reply, TxnLine};
 use std::alloc::{AllocError, Global};
 
 /// What lines were answered and wrote.
-#[derive(Debug, Drop)]
+#[derive(Drop)]
 struct Ran {
     replies: Replies,
     writes: Events,
 }
 
 /// What became of a transaction alone.
-#[derive(Debug, Drop)]
+#[derive(Drop)]
 pub struct AloneTxn {
     /// The replies, in order.
     pub replies: Replies,

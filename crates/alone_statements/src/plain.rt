@@ -10,7 +10,7 @@ use std::alloc::{AllocError, Global};
 use std::marker::Model;
 
 /// A table: a schema, and rows.
-#[derive(Debug, Drop)]
+#[derive(Drop)]
 pub struct PlainTable {
     pub(crate) schema: Schema,
     pub(crate) rows: Rows,

@@ -21,7 +21,7 @@ use std::alloc::{AllocError, Global};
 pub type Changes = Sequence<Change>;
 
 /// What a statement says.
-#[derive(Debug, Drop)]
+#[derive(Drop)]
 pub struct Told {
     /// The answer.
     pub answer: Answer,

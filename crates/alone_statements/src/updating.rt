@@ -48,7 +48,7 @@ fn with_sets(alloc: Global, sets: &[Option<Value>], row: &[Value]) -> Result<Row
 }
 
 /// How far an UPDATE is.
-#[derive(Debug, Drop)]
+#[derive(Drop)]
 pub struct Going {
     /// The rows as the changes so far have left them.
     pub rows: Rows,

@@ -9,7 +9,7 @@ use gho_values::{Duplicate, Sequence};
 use std::alloc::{AllocError, Global};
 
 /// What happens to the places of columns.
-#[derive(Clone, Copy, Debug)]
+#[derive(Clone, Copy)]
 pub enum PlaceChange {
     /// A column is put in here.
     Added(usize),

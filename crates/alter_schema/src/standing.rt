@@ -11,7 +11,7 @@ use gho_values::{Duplicate, Sequence};
 use std::alloc::{AllocError, Global};
 
 /// The schema that the clauses so far leave, and where its columns' values come from.
-#[derive(Debug, Drop)]
+#[derive(Drop)]
 pub struct Standing {
     /// The schema.
     pub schema: Schema,

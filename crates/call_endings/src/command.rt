@@ -1,7 +1,7 @@
 //! The commands that read a plan.
 
 /// What is done with a plan.
-#[derive(Clone, Copy, Debug, PartialEq, Eq)]
+#[derive(Clone, Copy)]
 pub enum PlanCommand {
     /// `check`: its altered schema is printed.
     Check,

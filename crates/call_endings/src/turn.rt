@@ -4,7 +4,7 @@ use gho_values::Sequence;
 use script_text::Actor;
 
 /// Whose turn it was.
-#[derive(Debug, Drop)]
+#[derive(Drop)]
 pub struct Turn {
     /// The number of the worker that took it: 0 in a replay.
     pub worker: u32,

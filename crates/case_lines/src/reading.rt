@@ -6,7 +6,7 @@ use gho_values::{Bytes, Chars, Kind, Row, Sequence, Text, Value};
 use std::alloc::{AllocError, AllocFailed, Global};
 
 /// Why a call has no answer.
-#[derive(Clone, Copy, Debug, PartialEq, Eq)]
+#[derive(Clone, Copy)]
 pub enum CallFault {
     /// The call or its input can't be read.
     Unread,

@@ -10,7 +10,7 @@ use plain_server::{Answer, Asked, Entry, Mark};
 use script_text::{Actor, ScriptWord, Side};
 
 /// What became of it.
-#[derive(Debug, Drop)]
+#[derive(Drop)]
 pub enum Became<'a> {
     /// Nothing.
     Nothing,

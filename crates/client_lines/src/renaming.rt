@@ -11,7 +11,7 @@ use row_store::Pair;
 use script_text::{Actor, Side};
 
 /// Which of the tool's actors wait with a RENAME that takes the table's name away.
-#[derive(Clone, Copy, Debug)]
+#[derive(Clone, Copy)]
 pub struct Renaming {
     op: bool,
     insp: bool,

@@ -10,7 +10,7 @@ use script_text::{ScriptLine, ScriptWord};
 use std::marker::Model;
 
 /// How far a client is in its script, as its turns tell.
-#[derive(Debug, Drop)]
+#[derive(Drop)]
 pub(crate) struct Walk<'a> {
     left: &'a [ScriptLine],
     begun: u64,

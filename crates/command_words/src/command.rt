@@ -1,7 +1,7 @@
 //! The commands of the program.
 
 /// What a command line asks for.
-#[derive(Clone, Copy, Debug, PartialEq, Eq)]
+#[derive(Clone, Copy)]
 pub enum Command {
     /// `check`: the altered schema of a plan.
     Check,

@@ -13,7 +13,7 @@ use std::alloc::{AllocError, Global};
 use std::marker::Model;
 
 /// The words of a command line, without the program's name.
-#[derive(Debug, Drop)]
+#[derive(Drop)]
 pub struct Line {
     words: Vec<String>,
 }

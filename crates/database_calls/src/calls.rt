@@ -49,7 +49,7 @@ fn add(
 }
 
 /// What became of a put.
-#[derive(Clone, Copy, PartialEq, Eq)]
+#[derive(Clone, Copy)]
 enum PutAnswer {
     Done,
     There,

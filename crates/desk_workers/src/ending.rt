@@ -8,7 +8,7 @@ use crate::workers::Worker;
 use turn_desk::{Book, Turned};
 
 /// How the turns of all workers ended.
-#[derive(Clone, Copy, PartialEq, Eq, Debug)]
+#[derive(Clone, Copy)]
 pub enum Ending {
     /// No turn is left.
     Over,

@@ -6,7 +6,7 @@ use gho_values::{Duplicate, Name, Row, Sequence};
 use std::alloc::AllocError;
 
 /// One row that a transaction wrote, changed or removed (MySQL's manual, "Replication Formats").
-#[derive(Debug, Drop)]
+#[derive(Drop)]
 pub struct RowEvent {
     /// The table's name when the event was logged.
     pub table: Name,
@@ -15,7 +15,7 @@ pub struct RowEvent {
 }
 
 /// What was done to a row.
-#[derive(Debug, Drop)]
+#[derive(Drop)]
 pub enum Change {
     /// The row was written.
     Write(Row),

@@ -7,7 +7,7 @@ use std::alloc::{AllocError, AllocFailed};
 use thiserror::Error;
 
 /// Why a column refuses a value, each with its number in MySQL's manual, "Server Error Message Reference".
-#[derive(Clone, Copy, Debug, PartialEq, Eq)]
+#[derive(Clone, Copy, Debug)]
 pub enum Unfit {
     /// 1048: the column can't be null.
     Null,

@@ -1,7 +1,7 @@
 //! The kinds of columns.
 
 /// The kind of a column's values (MySQL's manual, "Data Types").
-#[derive(Clone, Copy, Debug, PartialEq, Eq)]
+#[derive(Clone, Copy)]
 pub enum Kind {
     /// TINYINT, SMALLINT, MEDIUMINT, INT or BIGINT: whole numbers of 1, 2, 3, 4 or 8 bytes.
     Int {

@@ -14,7 +14,7 @@ use std::marker::Model;
 use std::slice::Iter;
 
 /// Items in order. Equal lists are equal sequences, whatever room they keep.
-#[derive(Debug, Drop)]
+#[derive(Drop)]
 pub struct Sequence<T> {
     items: Vec<T>,
 }

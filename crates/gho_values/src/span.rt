@@ -7,7 +7,7 @@ use crate::value::Key;
 use std::alloc::AllocError;
 
 /// One end of a span.
-#[derive(Debug, Drop)]
+#[derive(Drop)]
 pub enum Bound {
     /// The span ends at this key and leaves it out.
     Open(Key),
@@ -18,7 +18,7 @@ pub enum Bound {
 }
 
 /// The keys between two ends.
-#[derive(Debug, Drop)]
+#[derive(Drop)]
 pub struct Span {
     /// The lower end.
     pub low: Bound,

@@ -12,7 +12,7 @@ use std::alloc::{AllocError, Global};
 use std::marker::Model;
 
 /// The text of a value, of a comment or of a default.
-#[derive(Debug, Drop)]
+#[derive(Drop)]
 pub struct Chars {
     text: String,
 }
@@ -67,7 +67,7 @@ impl Eq for Chars {
 }
 
 /// A text that grows: what the program prints is built in one.
-#[derive(Debug, Drop)]
+#[derive(Drop)]
 pub struct Text {
     text: String,
 }

@@ -11,7 +11,7 @@ use std::alloc::AllocError;
 pub type Bytes = Sequence<u8>;
 
 /// A literal, or what a column holds.
-#[derive(Debug, Drop)]
+#[derive(Drop)]
 pub enum Value {
     /// NULL.
     Null,

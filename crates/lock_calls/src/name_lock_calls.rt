@@ -21,7 +21,7 @@ fn names_of(alloc: Global, letters: &str) -> Result<Names, AllocError> {
 }
 
 /// What is done with a request that was granted just now.
-#[derive(Clone, Copy, PartialEq, Eq)]
+#[derive(Clone, Copy)]
 enum Then {
     /// It is kept.
     Keep,

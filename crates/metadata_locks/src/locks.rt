@@ -16,7 +16,7 @@ use std::alloc::{AllocError, Global};
 use std::marker::Model;
 
 /// What the last ask or poll did to the requests that wait.
-#[derive(Clone, Copy, Debug)]
+#[derive(Clone, Copy)]
 enum Step {
     /// It was an ask, before which so many waited.
     Asked(usize),
@@ -25,7 +25,7 @@ enum Step {
 }
 
 /// Where the last ask or poll that changed anything began.
-#[derive(Clone, Copy, Debug)]
+#[derive(Clone, Copy)]
 struct Mark {
     /// Who asked or polled.
     session: u32,
@@ -38,7 +38,7 @@ struct Mark {
 }
 
 /// The names that sessions hold, shared or exclusively, and the requests that wait to hold some exclusively.
-#[derive(Debug, Drop)]
+#[derive(Drop)]
 pub struct MetaLocks {
     granted: Vec<Request>,
     waiting: Vec<Waiter>,

@@ -7,7 +7,7 @@ ghost use Rattle.metadata_locks.specs.Requests.{locks_of};
 use gho_values::{Name, Names};
 
 /// What is answered to a session that asks for names.
-#[derive(Clone, Copy, Debug, PartialEq, Eq)]
+#[derive(Clone, Copy, PartialEq, Eq)]
 pub enum LockAnswer {
     /// It has them all now.
     Granted,
@@ -19,7 +19,7 @@ pub enum LockAnswer {
 }
 
 /// A request that was granted: its names are held.
-#[derive(Debug, Drop)]
+#[derive(Drop)]
 pub struct Request {
     /// The session that asked.
     pub session: u32,
@@ -30,7 +30,7 @@ pub struct Request {
 }
 
 /// A request for names that waits to hold them exclusively.
-#[derive(Debug, Drop)]
+#[derive(Drop)]
 pub struct Waiter {
     /// The session that asked.
     pub session: u32,

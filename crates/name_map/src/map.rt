@@ -11,7 +11,7 @@ use std::alloc::{AllocError, Global};
 use std::marker::Model;
 
 /// Values under different names, in order of adding. A name is found by its hash.
-#[derive(Debug, Drop)]
+#[derive(Drop)]
 pub struct NameMap<T> {
     entries: IndexMap<String, T>,
 }

@@ -13,7 +13,7 @@ pub(crate) const HINT: &str = "checkpoint";
 const MOST_CHARACTERS: u16 = 255;
 
 /// How far the rows are copied.
-#[derive(Debug, Drop)]
+#[derive(Drop)]
 pub enum Reach {
     /// No row is copied.
     Nothing,
@@ -24,7 +24,7 @@ pub enum Reach {
 }
 
 /// How far the migration has come.
-#[derive(Debug, Drop)]
+#[derive(Drop)]
 pub struct Checkpoint {
     /// How many events of the log are applied.
     pub position: u64,

@@ -10,7 +10,7 @@ use std::iter::FusedIterator;
 use std::marker::Model;
 
 /// Entries in order. Contracts see those that are left.
-#[derive(Debug, Drop)]
+#[derive(Drop)]
 pub struct Entries<'a> {
     first: &'a [usize],
     pages: &'a [Page],

@@ -11,7 +11,7 @@ use std::alloc::{AllocError, Global};
 use std::marker::Model;
 
 /// A page, and a place among its entries. A put or a removal may move what stands behind it to another place.
-#[derive(Clone, Copy, Debug)]
+#[derive(Clone, Copy)]
 pub struct Place {
     /// The page's number, from 0.
     pub page: usize,
@@ -139,7 +139,7 @@ fn entry_behind(pages: &[Page], place: Place) -> Option<(Place, usize)>
 
 /// A list of entries in pages of 1 to 64, two neighbours together more than 32. Contracts see the pages, and for how many
 /// more entries there is room.
-#[derive(Debug, Drop)]
+#[derive(Drop)]
 pub struct PagedList {
     pages: Vec<Page>,
 }

@@ -17,7 +17,7 @@ use std::alloc::{AllocError, Global};
 use std::marker::Model;
 
 /// Tables kept by name, in order of adding. Contracts see them as those of `row_store`'s plain list.
-#[derive(Debug, Drop)]
+#[derive(Drop)]
 pub struct Tables {
     tables: NameMap<Table>,
 }

@@ -6,7 +6,7 @@ use gho_values::{Duplicate, Key, Keys, Rows};
 use std::alloc::AllocError;
 
 /// The answer to one call.
-#[derive(Debug, Drop)]
+#[derive(Drop)]
 pub enum Answer {
     /// It is done, with how many rows it wrote, changed or removed.
     Ok(u64),
@@ -58,7 +58,7 @@ pub enum Answer {
 }
 
 /// The least and the greatest clustered key of a table's rows.
-#[derive(Debug, Drop)]
+#[derive(Drop)]
 pub struct KeyRange {
     /// The least.
     pub least: Key,

@@ -10,7 +10,7 @@ use std::alloc::{AllocError, Global};
 use std::marker::Model;
 
 /// What an actor asks in its turn.
-#[derive(Debug, Drop)]
+#[derive(Drop)]
 pub enum Asked {
     /// A call of its session.
     Call(Request),
@@ -23,7 +23,6 @@ pub enum Asked {
 }
 
 /// One turn of a run.
-#[derive(Debug)]
 pub struct Entry {
     /// Whose turn it was.
     pub actor: Actor,
@@ -82,7 +81,6 @@ impl Duplicate for Entry {
 }
 
 /// The turns of a run, in order. Turns are numbered from 1.
-#[derive(Debug)]
 pub struct Journal {
     entries: Sequence<Entry>,
 }

@@ -12,7 +12,7 @@ use std::marker::Model;
 
 /// Names that are held, in the order in which they were granted: contracts see this list. A statement is granted its table's name
 /// again and again, so each name stands besides once as it is held, and is looked up there: these are few.
-#[derive(Debug, Drop)]
+#[derive(Drop)]
 pub struct HeldNames {
     granted: Vec<HeldName>,
     different: Vec<HeldName>,

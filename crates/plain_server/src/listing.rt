@@ -6,7 +6,7 @@ use gho_values::{Chars, Duplicate, Name, Names, Sequence};
 use std::alloc::AllocError;
 
 /// A table that stands.
-#[derive(Debug, Drop)]
+#[derive(Drop)]
 pub struct TableName {
     /// Its name.
     pub name: Name,
@@ -18,7 +18,7 @@ pub struct TableName {
 pub type TableNames = Sequence<TableName>;
 
 /// A session that waits for names of tables exclusively.
-#[derive(Debug, Drop)]
+#[derive(Drop)]
 pub struct ShownWaiter {
     /// The session.
     pub session: u32,

@@ -4,7 +4,7 @@ use gho_values::Names;
 use row_locks::LockSet;
 
 /// The locks that a request needs, all at once.
-#[derive(Debug, Drop)]
+#[derive(Drop)]
 pub struct Need {
     /// Whether its names are needed exclusively, or else shared.
     pub exclusive: bool,

@@ -6,7 +6,7 @@ use gho_values::{Duplicate, Key, Name, Sequence};
 use std::alloc::AllocError;
 
 /// A task of the tool, which may be tried again where it fails.
-#[derive(Clone, Copy, Debug, PartialEq, Eq)]
+#[derive(Clone, Copy)]
 pub enum Task {
     /// The setup.
     Setup,
@@ -22,7 +22,7 @@ pub enum Task {
 pub type Numbers = Sequence<u64>;
 
 /// Why a migration was reverted.
-#[derive(Debug, Drop)]
+#[derive(Drop)]
 pub enum Cause {
     /// A row's image has a value that doesn't fit its new column.
     Unfit {
@@ -50,7 +50,7 @@ pub enum Cause {
 }
 
 /// How a migration ended.
-#[derive(Debug, Drop)]
+#[derive(Drop)]
 pub enum Verdict {
     /// The ALTER was done.
     Done,
@@ -61,7 +61,7 @@ pub enum Verdict {
 }
 
 /// What an answer means for a task.
-#[derive(Clone, Copy, Debug, PartialEq, Eq)]
+#[derive(Clone, Copy)]
 pub enum Progress {
     /// The task goes on.
     Going,

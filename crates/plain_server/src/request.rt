@@ -10,7 +10,6 @@ use script_text::Statement;
 use std::alloc::AllocError;
 
 /// One call of a session.
-#[derive(Debug)]
 pub enum Request {
     /// BEGIN.
     Begin,

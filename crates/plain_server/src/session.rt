@@ -7,7 +7,7 @@ use gho_values::Name;
 use row_locks::held_locks::HeldLocks;
 
 /// How often a waiting session is polled before its wait times out.
-#[derive(Clone, Copy, Debug, PartialEq, Eq)]
+#[derive(Clone, Copy)]
 pub struct Limits {
     /// Of a client's session.
     pub client_wait: u32,
@@ -16,7 +16,7 @@ pub struct Limits {
 }
 
 /// A name of a table that a session holds (MySQL's manual, "Metadata Locking").
-#[derive(Debug, Drop)]
+#[derive(Drop)]
 pub struct HeldName {
     /// The name, whether or not a table has it.
     pub name: Name,
@@ -25,7 +25,7 @@ pub struct HeldName {
 }
 
 /// A live session.
-#[derive(Debug, Drop)]
+#[derive(Drop)]
 pub struct Session {
     /// Its number; sessions count from 1 in the order of connecting.
     pub number: u32,
@@ -44,7 +44,7 @@ pub struct Session {
 }
 
 /// A request that waits.
-#[derive(Debug, Drop)]
+#[derive(Drop)]
 pub struct Waiting {
     /// The session that asked.
     pub session: u32,

@@ -7,7 +7,7 @@ use script_text::{ScriptWord, Side};
 use std::alloc::AllocError;
 
 /// What became of one line of a transaction.
-#[derive(Clone, Copy, Debug, PartialEq, Eq)]
+#[derive(Clone, Copy)]
 pub enum Mark {
     /// It was answered.
     Answered,
@@ -18,7 +18,7 @@ pub enum Mark {
 }
 
 /// A line of a transaction, and what became of it.
-#[derive(Debug, Drop)]
+#[derive(Drop)]
 pub struct TxnLine {
     /// The line.
     pub word: ScriptWord,
@@ -30,7 +30,7 @@ pub struct TxnLine {
 pub type TxnLines = Sequence<TxnLine>;
 
 /// How a transaction ended.
-#[derive(Clone, Copy, Debug, PartialEq, Eq)]
+#[derive(Clone, Copy)]
 pub enum TxnEnd {
     /// It was a single statement.
     Single,
@@ -45,7 +45,7 @@ pub enum TxnEnd {
 }
 
 /// A transaction that ended.
-#[derive(Debug, Drop)]
+#[derive(Drop)]
 pub struct EndedTxn {
     /// Its lines, in order.
     pub lines: TxnLines,
@@ -54,7 +54,7 @@ pub struct EndedTxn {
 }
 
 /// What a client got for a line.
-#[derive(Debug, Drop)]
+#[derive(Drop)]
 pub enum Reply {
     /// It is done, with how many rows it wrote, changed or removed.
     Ok(u64),

@@ -7,7 +7,7 @@ use gho_values::gho_schema::Places;
 use gho_values::{Row, Sequence, Span, Value};
 
 /// Some values of one unique key of a table: those that a condition asks for.
-#[derive(Debug, Drop)]
+#[derive(Drop)]
 pub struct Reach {
     /// The key's place among the table's unique keys.
     pub key: usize,
@@ -16,7 +16,7 @@ pub struct Reach {
 }
 
 /// What is selected of the rows that are read.
-#[derive(Debug, Drop)]
+#[derive(Drop)]
 pub enum Selection {
     /// The values of all columns.
     AllColumns,
@@ -30,7 +30,6 @@ pub enum Selection {
 pub type ColumnSets = Sequence<Option<Value>>;
 
 /// What a statement is to do.
-#[derive(Debug)]
 pub enum Work {
     /// Nothing: it is refused.
     Refuse(Answer),
@@ -78,7 +77,7 @@ impl Drop for Work {
 }
 
 /// What a statement says.
-#[derive(Debug, Drop)]
+#[derive(Drop)]
 pub struct StatementResult {
     /// The answer.
     pub answer: Answer,

@@ -13,7 +13,7 @@ use thiserror::Error;
 use turn_reader::TurnRefusal;
 
 /// Where in a plan a refusal stands. Everything is counted from 1.
-#[derive(Clone, Copy, Debug, PartialEq, Eq)]
+#[derive(Clone, Copy)]
 pub enum Place {
     /// Nowhere that has a number.
     Nowhere,
@@ -42,7 +42,7 @@ pub enum Place {
 }
 
 /// Why a plan is refused.
-#[derive(Clone, Copy, Debug, PartialEq, Eq)]
+#[derive(Clone, Copy, Debug)]
 pub enum PlanRefusal {
     /// 59: a byte past the limit of a plan is there.
     TooLong,

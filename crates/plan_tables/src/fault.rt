@@ -7,7 +7,7 @@ use table_words::SchemaCode;
 use thiserror::Error;
 
 /// Why the tables of a plan are refused.
-#[derive(Clone, Copy, Debug, PartialEq, Eq)]
+#[derive(Clone, Copy, Debug)]
 pub enum TableRefusal {
     /// 10 to 19: the text of a CREATE TABLE is refused; 12 also where a table before has the name.
     Schema {

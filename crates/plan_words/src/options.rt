@@ -6,7 +6,7 @@ use gho_values::Duplicate;
 use std::alloc::AllocError;
 
 /// The options of a plan: gh-ost's flags where it has them. Ranges and defaults are this project's rule.
-#[derive(Clone, Copy, Debug, PartialEq, Eq)]
+#[derive(Clone, Copy)]
 pub struct Options {
     /// How many rows a chunk has at most (`--chunk-size`): 1 to 100,000.
     pub chunk_size: u32,

@@ -7,7 +7,7 @@ use script_text::Actor;
 use std::alloc::AllocError;
 
 /// Turns of one actor, one behind the other, as a word of a plan's `turns` asks for them: `copy*3`.
-#[derive(Clone, Copy, Debug, PartialEq, Eq)]
+#[derive(Clone, Copy)]
 pub struct ActorRun {
     /// Whose turns.
     pub actor: Actor,

@@ -12,7 +12,7 @@ use script_text::Actor;
 use std::alloc::AllocError;
 
 /// Turns of one actor, one behind the other, to which one more may come.
-#[derive(Clone, Copy, Debug)]
+#[derive(Clone, Copy)]
 pub(crate) struct OpenRun {
     actor: Actor,
     times: u64,

@@ -15,7 +15,7 @@ use std::alloc::{AllocError, Global};
 use std::marker::Model;
 
 /// The locks that a session holds, in the order in which they were granted.
-#[derive(Debug, Drop)]
+#[derive(Drop)]
 pub struct HeldLocks {
     locks: Vec<Lock>,
     index: LockIndex,

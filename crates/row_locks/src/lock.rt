@@ -8,7 +8,7 @@ use gho_values::{Duplicate, Name, Sequence, Span};
 use std::alloc::{AllocError, Global};
 
 /// A lock on the values of one key of a table that lie in a span, whether or not rows have them.
-#[derive(Debug, Drop)]
+#[derive(Drop)]
 pub struct Lock {
     /// The table.
     pub table: Name,
@@ -35,7 +35,7 @@ impl Duplicate for Lock {
 pub type LockSet = Sequence<Lock>;
 
 /// A lock and the session that holds it.
-#[derive(Debug, Drop)]
+#[derive(Drop)]
 pub struct HeldLock {
     /// The session.
     pub session: u32,
@@ -72,7 +72,7 @@ pub fn take_away(held: &mut Vec<HeldLock>, session: u32)
 }
 
 /// What is answered to a session that asks for locks.
-#[derive(Clone, Copy, Debug, PartialEq, Eq)]
+#[derive(Clone, Copy, PartialEq, Eq)]
 pub enum LockAnswer {
     /// It has them all now.
     Granted,

@@ -10,7 +10,7 @@ use std::alloc::{AllocError, Global};
 use std::marker::Model;
 
 /// Where the last granted ask began.
-#[derive(Clone, Copy, Debug)]
+#[derive(Clone, Copy)]
 struct Mark {
     /// Who asked.
     session: u32,
@@ -19,7 +19,7 @@ struct Mark {
 }
 
 /// The row locks that sessions hold. A lock that is refused leaves no trace: who waits asks again.
-#[derive(Debug, Drop)]
+#[derive(Drop)]
 pub struct RowLocks {
     held: Vec<HeldLock>,
     last: Option<Mark>,

@@ -7,7 +7,7 @@ use std::alloc::{AllocError, AllocFailed};
 use thiserror::Error;
 
 /// A table's name, and the one that it gets.
-#[derive(Debug, Drop)]
+#[derive(Drop)]
 pub struct Pair {
     /// The table's name.
     pub old: Name,

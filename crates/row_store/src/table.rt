@@ -17,7 +17,7 @@ use std::marker::Model;
 use std::mem;
 
 /// A table with its rows. Contracts see besides for how many more rows it has room.
-#[derive(Debug, Drop)]
+#[derive(Drop)]
 pub struct Table {
     schema: Schema,
     rows: Vec<Row>,

@@ -44,7 +44,7 @@ impl<T: Drop> From<AllocFailed<T>> for AddFault {
 }
 
 /// Tables kept by name, in order of adding.
-#[derive(Debug, Drop)]
+#[derive(Drop)]
 pub struct Tables {
     tables: NameMap<Table>,
 }

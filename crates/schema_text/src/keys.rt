@@ -10,7 +10,7 @@ use std::alloc::{AllocError, Global};
 use table_words::KeyText;
 
 /// Keys that all have names.
-#[derive(Debug, Drop)]
+#[derive(Drop)]
 pub struct NamedKeys {
     /// Their names, in order.
     pub names: Names,

@@ -9,7 +9,7 @@ use std::alloc::Global;
 use table_words::{SchemaFault, Token, any_word_at, behind_sign, keyword_at, mismatch, text_at};
 
 /// An option of a table.
-#[derive(Debug, Drop)]
+#[derive(Drop)]
 pub enum TableOption {
     /// COMMENT.
     Comment(Chars),

@@ -9,7 +9,7 @@ use std::alloc::{AllocError, Global};
 use table_words::KeyText;
 
 /// The parts of a table.
-#[derive(Debug, Drop)]
+#[derive(Drop)]
 pub struct Parts {
     /// Its columns, in order.
     pub columns: Sequence<WrittenColumn>,

@@ -4,7 +4,7 @@ use gho_values::{Chars, Kind, Name, Names, Sequence};
 use table_words::{Attribute, Attributes, KeyText};
 
 /// A column as it is written.
-#[derive(Debug, Drop)]
+#[derive(Drop)]
 pub struct WrittenColumn {
     /// Its name.
     pub name: Name,
@@ -15,7 +15,7 @@ pub struct WrittenColumn {
 }
 
 /// What stands behind a column's kind.
-#[derive(Debug, Drop)]
+#[derive(Drop)]
 pub struct ColumnAttributes {
     /// NULL, NOT NULL and DEFAULT.
     pub plain: Attributes,
@@ -26,7 +26,7 @@ pub struct ColumnAttributes {
 }
 
 /// An attribute of a column.
-#[derive(Debug, Drop)]
+#[derive(Drop)]
 pub enum ColumnAttribute {
     /// PRIMARY KEY.
     Primary,
@@ -37,7 +37,7 @@ pub enum ColumnAttribute {
 }
 
 /// A key that isn't the PRIMARY KEY.
-#[derive(Debug, Drop)]
+#[derive(Drop)]
 pub struct WrittenKey {
     /// Whether it is UNIQUE.
     pub is_unique: bool,
@@ -46,7 +46,7 @@ pub struct WrittenKey {
 }
 
 /// An item between a table's parentheses.
-#[derive(Debug, Drop)]
+#[derive(Drop)]
 pub enum Item {
     /// A column.
     Column(WrittenColumn),
@@ -60,7 +60,7 @@ pub enum Item {
 pub type Items = Sequence<Item>;
 
 /// A whole text.
-#[derive(Debug, Drop)]
+#[derive(Drop)]
 pub struct WrittenTable {
     /// The table's name.
     pub name: Name,

@@ -6,7 +6,7 @@ use std::alloc::{AllocError, AllocFailed};
 use thiserror::Error;
 
 /// Why a line's words are refused, each with its number.
-#[derive(Clone, Copy, Debug, PartialEq, Eq)]
+#[derive(Clone, Copy, Debug)]
 pub enum StatementCode {
     /// 41: the words are no statement as this program reads it.
     Syntax,
@@ -29,7 +29,7 @@ impl StatementCode {
 }
 
 /// Why a line of a script is refused, each with its number.
-#[derive(Clone, Copy, Debug, PartialEq, Eq)]
+#[derive(Clone, Copy, Debug)]
 pub enum ScriptCode {
     /// 40: the line has an open quote, an odd character or too long a number.
     Word,
@@ -64,7 +64,7 @@ impl ScriptCode {
 }
 
 /// The refusal of a script: of its first line that is refused.
-#[derive(Clone, Copy, Debug, PartialEq, Eq)]
+#[derive(Clone, Copy, Debug)]
 pub struct ScriptRefusal {
     /// Why it is refused.
     pub code: ScriptCode,

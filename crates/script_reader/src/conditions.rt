@@ -13,7 +13,7 @@ use std::alloc::{AllocError, Global};
 use table_words::{Token, behind_keyword};
 
 /// Which of its three forms a condition has.
-#[derive(Clone, Copy, Debug, PartialEq, Eq)]
+#[derive(Clone, Copy)]
 pub enum ConditionForm {
     /// Equalities joined by AND.
     Equality,

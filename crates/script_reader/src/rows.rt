@@ -11,7 +11,7 @@ use std::alloc::Global;
 use table_words::{Token, behind_sign};
 
 /// What INSERT and REPLACE say.
-#[derive(Debug, Drop)]
+#[derive(Drop)]
 pub struct RowText {
     /// The table's name.
     pub table: Name,

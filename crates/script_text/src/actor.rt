@@ -6,7 +6,7 @@ use gho_values::Duplicate;
 use std::alloc::AllocError;
 
 /// Who takes a turn: a part of the tool, or a client of the server.
-#[derive(Clone, Copy, Debug, PartialEq, Eq)]
+#[derive(Clone, Copy, PartialEq, Eq)]
 pub enum Actor {
     /// The operator, who commands the tool.
     Op,
@@ -31,7 +31,7 @@ impl Duplicate for Actor {
 }
 
 /// On which side of a call to the server its session is lost.
-#[derive(Clone, Copy, Debug, PartialEq, Eq)]
+#[derive(Clone, Copy)]
 pub enum Side {
     /// Before the call: the server doesn't do it.
     Before,

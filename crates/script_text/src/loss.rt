@@ -7,7 +7,7 @@ use gho_values::Duplicate;
 use std::alloc::AllocError;
 
 /// A turn at which an actor's connection is lost.
-#[derive(Clone, Copy, Debug, PartialEq, Eq)]
+#[derive(Clone, Copy)]
 pub enum Loss {
     /// At the actor's n-th call, counted from 1.
     Nth {

@@ -6,7 +6,7 @@ use gho_values::{Duplicate, Sequence};
 use std::alloc::AllocError;
 
 /// A command of the operator to the tool.
-#[derive(Clone, Copy, Debug, PartialEq, Eq)]
+#[derive(Clone, Copy)]
 pub enum OperatorWord {
     /// Hold the copying of rows.
     Throttle,
@@ -29,7 +29,7 @@ impl Duplicate for OperatorWord {
 }
 
 /// A command, and how many of the operator's turns it takes.
-#[derive(Clone, Copy, Debug, PartialEq, Eq)]
+#[derive(Clone, Copy)]
 pub struct Command {
     /// What is commanded.
     pub word: OperatorWord,

@@ -7,7 +7,7 @@ use gho_values::{Duplicate, Sequence};
 use std::alloc::AllocError;
 
 /// What a line of a script asks for.
-#[derive(Debug, Drop)]
+#[derive(Drop)]
 pub enum ScriptWord {
     /// BEGIN or START TRANSACTION.
     Begin,
@@ -31,7 +31,7 @@ impl Duplicate for ScriptWord {
 }
 
 /// A line of a script.
-#[derive(Debug, Drop)]
+#[derive(Drop)]
 pub struct ScriptLine {
     /// Its number in the script's text, counted from 1.
     pub line: u32,

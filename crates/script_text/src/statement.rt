@@ -4,7 +4,6 @@ use gho_values::{Duplicate, Name, Names, Row, Sequence, Value};
 use std::alloc::AllocError;
 
 /// A statement (MySQL's manual, "Data Manipulation Statements").
-#[derive(Debug)]
 pub enum Statement {
     /// INSERT INTO table [(columns)] VALUES (values).
     Insert {
@@ -52,7 +51,7 @@ pub enum Statement {
 }
 
 /// Which rows a statement meets.
-#[derive(Debug, Drop)]
+#[derive(Drop)]
 pub enum Condition {
     /// All rows: no condition is written.
     All,
@@ -63,7 +62,7 @@ pub enum Condition {
 }
 
 /// A column and a value: what it becomes in SET, what it equals in a condition.
-#[derive(Debug, Drop)]
+#[derive(Drop)]
 pub struct Set {
     /// The column's name, as it was written.
     pub column: Name,
@@ -75,7 +74,7 @@ pub struct Set {
 pub type Sets = Sequence<Set>;
 
 /// How a column lies to a value.
-#[derive(Debug, Drop)]
+#[derive(Drop)]
 pub struct Comparison {
     /// The column's name, as it was written.
     pub column: Name,
@@ -89,7 +88,7 @@ pub struct Comparison {
 pub type Comparisons = Sequence<Comparison>;
 
 /// The sign of a comparison.
-#[derive(Clone, Copy, Debug, PartialEq, Eq)]
+#[derive(Clone, Copy)]
 pub enum Sign {
     /// `<`
     Less,
@@ -102,7 +101,7 @@ pub enum Sign {
 }
 
 /// What SELECT shows.
-#[derive(Debug, Drop)]
+#[derive(Drop)]
 pub enum Shown {
     /// `*`: the values of all columns.
     All,

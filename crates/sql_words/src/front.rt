@@ -14,7 +14,7 @@ use crate::quoted::{bytes_length, name_length, text_length};
 use crate::word::{WordClass, WordFault};
 
 /// What stands at the front of a rest of a text.
-#[derive(Clone, Copy, Debug, PartialEq, Eq)]
+#[derive(Clone, Copy)]
 pub enum Front {
     /// White space or a comment, of so many bytes.
     Gap(usize),

@@ -5,7 +5,7 @@ use std::marker::Model;
 use thiserror::Error;
 
 /// What sort of word it is.
-#[derive(Clone, Copy, Debug, PartialEq, Eq)]
+#[derive(Clone, Copy, Debug)]
 pub enum WordClass {
     /// An unquoted name or keyword.
     Name,
@@ -22,7 +22,7 @@ pub enum WordClass {
 }
 
 /// A word of a text.
-#[derive(Clone, Copy, Debug)]
+#[derive(Clone, Copy)]
 pub struct Word<'a> {
     pub class: WordClass,
     /// The word as it stands in the text, with its quotes.
@@ -32,7 +32,7 @@ pub struct Word<'a> {
 }
 
 /// The words of a text, in its order.
-#[derive(Debug, Drop)]
+#[derive(Drop)]
 pub struct Words<'a> {
     items: Vec<Word<'a>>,
 }

@@ -19,7 +19,7 @@ use written_rows::WrittenRows;
 pub type Changes = Sequence<Change>;
 
 /// What a statement says.
-#[derive(Debug, Drop)]
+#[derive(Drop)]
 pub struct Told {
     /// The answer.
     pub answer: Answer,

@@ -11,7 +11,7 @@ use gho_values::Value;
 use std::alloc::Global;
 
 /// An attribute of a column.
-#[derive(Debug, Drop)]
+#[derive(Drop)]
 pub enum Attribute {
     /// NULL, or NOT NULL where false.
     Nullable(bool),
@@ -22,7 +22,7 @@ pub enum Attribute {
 }
 
 /// The attributes of a column that are written.
-#[derive(Debug, Drop)]
+#[derive(Drop)]
 pub struct Attributes {
     /// NULL or NOT NULL, where one is written.
     pub nullable: Option<bool>,

@@ -7,7 +7,7 @@ use std::alloc::{AllocError, AllocFailed};
 use thiserror::Error;
 
 /// Why a text of CREATE TABLE is refused, each with its number.
-#[derive(Clone, Copy, Debug, PartialEq, Eq)]
+#[derive(Clone, Copy, Debug)]
 pub enum SchemaCode {
     /// 10: the text isn't CREATE TABLE as this program reads it.
     Syntax,

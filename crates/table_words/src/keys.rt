@@ -13,7 +13,7 @@ use sql_words::WordClass;
 use std::alloc::Global;
 
 /// A key or an index as it is written.
-#[derive(Debug, Drop)]
+#[derive(Drop)]
 pub struct KeyText {
     /// Its name, where one is written.
     pub name: Option<Name>,

@@ -12,7 +12,7 @@ use crate::token::Token;
 use gho_values::Kind;
 
 /// The word that a kind begins with.
-#[derive(Clone, Copy, Debug, PartialEq, Eq)]
+#[derive(Clone, Copy)]
 pub enum KindWord {
     /// An integer kind of so many bytes.
     Integer(u8),

@@ -7,7 +7,7 @@ use gho_values::gho_schema::same_name;
 use sql_words::{Word, WordClass};
 
 /// A literal as it is written.
-#[derive(Clone, Copy, Debug)]
+#[derive(Clone, Copy)]
 pub enum LiteralRef<'a> {
     /// NULL.
     Null,

@@ -7,7 +7,7 @@ use gho_values::gho_schema::same_name;
 use sql_words::{Word, WordClass};
 
 /// A word that owns its text.
-#[derive(Debug, Drop)]
+#[derive(Drop)]
 pub struct Token {
     /// What sort of word it is.
     pub class: WordClass,

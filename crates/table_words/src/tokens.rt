@@ -11,7 +11,7 @@ use sql_words::{Word, WordFault, words};
 use std::alloc::{AllocError, Global};
 
 /// The words of a text.
-#[derive(Debug, Drop)]
+#[derive(Drop)]
 pub struct TextWords {
     /// All of them, or where the text has a fault, those before the first.
     pub words: Sequence<Token>,

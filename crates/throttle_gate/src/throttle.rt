@@ -6,7 +6,7 @@ ghost use Rattle.throttle_gate.specs.Throttle.{answer_at};
 use std::marker::Model;
 
 /// Whether a piece of work may begin.
-#[derive(Clone, Copy, Debug, PartialEq, Eq)]
+#[derive(Clone, Copy)]
 pub enum Go {
     /// It may.
     Go,
@@ -18,7 +18,7 @@ pub enum Go {
 }
 
 /// How much load the tool tolerates.
-#[derive(Debug, Drop)]
+#[derive(Drop)]
 pub struct Throttle {
     max_load: u32,
 }

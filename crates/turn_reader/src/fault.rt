@@ -6,7 +6,7 @@ use std::alloc::{AllocError, AllocFailed};
 use thiserror::Error;
 
 /// 56: a word asks for no turns of an actor that the plan has.
-#[derive(Clone, Copy, Debug, PartialEq, Eq)]
+#[derive(Clone, Copy, Debug)]
 pub struct TurnRefusal {
     /// The word's number in the text, from 1.
     pub word: u32,

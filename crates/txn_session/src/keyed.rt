@@ -13,7 +13,7 @@ use std::alloc::{AllocError, Global};
 
 /// A row event, and the clustered key of the row that it takes out, where it takes one out: so it is done to its table
 /// without memory.
-#[derive(Debug, Drop)]
+#[derive(Drop)]
 pub struct KeyedEvent {
     /// The event.
     pub event: RowEvent,

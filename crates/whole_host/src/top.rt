@@ -27,7 +27,7 @@ use std::sync::Wait;
 use std::thread::Threads;
 
 /// How a call of `ghost_` ended.
-#[derive(Debug, Drop)]
+#[derive(Drop)]
 pub struct Ended {
     /// The number of its status.
     pub status: u8,

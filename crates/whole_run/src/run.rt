@@ -23,7 +23,7 @@ use std::marker::Model;
 use turn_book::Book;
 
 /// What became of a step.
-#[derive(Clone, Copy, Debug, PartialEq, Eq)]
+#[derive(Clone, Copy)]
 pub enum Stepped {
     /// A turn was taken: the journal has one entry more.
     Took,

@@ -8,7 +8,7 @@ use plain_server::{Answer, Asked, Entry, Mark};
 use script_text::Side;
 
 /// What became of a client's line in a turn.
-#[derive(Clone, Copy, Debug, PartialEq, Eq)]
+#[derive(Clone, Copy)]
 pub(crate) enum Fate {
     /// Nothing.
     Nothing,

@@ -1,7 +1,7 @@
 //! What is kept of a client.
 
 /// How far a client is in its script.
-#[derive(Clone, Copy, Debug, PartialEq, Eq)]
+#[derive(Clone, Copy)]
 pub struct ClientSeat {
     /// How many lines of the script are behind it.
     pub place: usize,

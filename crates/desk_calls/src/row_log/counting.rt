@@ -13,7 +13,7 @@ use std::marker::Model;
 
 /// How many events of the watched tables stand before each event of a log, and how many there are in all. Contracts see
 /// besides for how many more events there is room.
-#[derive(Debug, Drop)]
+#[derive(Drop)]
 pub(crate) struct Counts {
     watched: Names,
     before: Vec<u64>,

@@ -16,7 +16,7 @@ use std::marker::Model;
 
 /// The events of the committed transactions. How many of them are unread is known at once of the tables that it watches.
 /// Contracts see besides for how many more events it has room.
-#[derive(Debug, Drop)]
+#[derive(Drop)]
 pub struct Log {
     events: Vec<RowEvent>,
     counts: Counts,

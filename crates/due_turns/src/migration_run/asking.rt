@@ -12,7 +12,7 @@ use serving::Serve;
 use std::alloc::AllocError;
 
 /// What an actor hears of the server's answer, and what it misses.
-#[derive(Debug, Drop)]
+#[derive(Drop)]
 pub struct Heard {
     /// The answer; `Lost` where the session was lost.
     pub answer: Answer,

@@ -12,7 +12,7 @@ use script_text::Actor;
 use serving::Serve;
 
 /// What a run counts of its server.
-#[derive(Clone, Copy, Debug, PartialEq, Eq)]
+#[derive(Clone, Copy)]
 pub struct Counts {
     /// How many transactions of clients are open.
     pub load: u64,
@@ -21,7 +21,7 @@ pub struct Counts {
 }
 
 /// What one session adds to the counts.
-#[derive(Clone, Copy, Debug, PartialEq, Eq)]
+#[derive(Clone, Copy)]
 pub(crate) struct Share {
     /// Whether a client's transaction is open in it.
     pub(crate) open: bool,

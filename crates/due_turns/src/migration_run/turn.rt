@@ -7,7 +7,6 @@ use plain_server::Asked;
 use script_text::{Actor, Side};
 
 /// What an actor asks in its turn, and where its session is lost in it.
-#[derive(Debug)]
 pub struct Turn {
     /// Whose turn it is.
     pub actor: Actor,

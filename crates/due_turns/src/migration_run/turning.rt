@@ -17,7 +17,7 @@ use serving::Serve;
 use std::alloc::AllocError;
 
 /// A turn that was taken in a session.
-#[derive(Debug, Drop)]
+#[derive(Drop)]
 pub struct Taken {
     /// Its entry.
     pub entry: Entry,

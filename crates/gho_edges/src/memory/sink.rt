@@ -11,7 +11,7 @@ use std::alloc::Global;
 use std::marker::Model;
 
 /// Holds what it was given, and fails once it has taken so many bytes.
-#[derive(Debug, Drop)]
+#[derive(Drop)]
 pub struct BytesSink {
     held: Vec<u8>,
     until_fault: Option<usize>,

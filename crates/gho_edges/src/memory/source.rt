@@ -10,7 +10,7 @@ use crate::source::{Source, Took};
 use std::marker::Model;
 
 /// Gives its bytes in order, and fails at the first call that would pass a place.
-#[derive(Debug, Drop)]
+#[derive(Drop)]
 pub struct BytesSource {
     bytes: Vec<u8>,
     place: usize,

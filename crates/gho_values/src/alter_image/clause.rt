@@ -3,7 +3,7 @@
 use crate::{Kind, Name, Names, Sequence, Value};
 
 /// One clause of ALTER TABLE (MySQL's manual, "ALTER TABLE Statement").
-#[derive(Debug, Drop)]
+#[derive(Drop)]
 pub enum Clause {
     /// ADD COLUMN.
     Add {
@@ -42,7 +42,7 @@ pub enum Clause {
 }
 
 /// A column as a clause writes it.
-#[derive(Debug, Drop)]
+#[derive(Drop)]
 pub struct NewColumn {
     /// Its name.
     pub name: Name,
@@ -55,7 +55,7 @@ pub struct NewColumn {
 }
 
 /// Where a clause puts its column.
-#[derive(Debug, Drop)]
+#[derive(Drop)]
 pub enum Spot {
     /// Nothing is written.
     Unsaid,

@@ -6,7 +6,7 @@ use crate::{Duplicate, Kind, Sequence, Value};
 use std::alloc::AllocError;
 
 /// A new column: what it stores, and of what.
-#[derive(Debug, Drop)]
+#[derive(Drop)]
 pub struct MapColumn {
     /// The kind of its values.
     pub kind: Kind,
@@ -17,7 +17,7 @@ pub struct MapColumn {
 }
 
 /// Where a new column's values come from.
-#[derive(Debug, Drop)]
+#[derive(Drop)]
 pub enum Origin {
     /// The old column at this place, from 0.
     Old(usize),

@@ -7,7 +7,6 @@ use crate::{Chars, Duplicate, Kind, Name, Sequence, Value};
 use std::alloc::AllocError;
 
 /// A table's columns, keys and indexes (MySQL's manual, "CREATE TABLE Statement").
-#[derive(Debug)]
 pub struct Schema {
     /// The table's name.
     pub name: Name,
@@ -22,7 +21,7 @@ pub struct Schema {
 }
 
 /// A column of a table.
-#[derive(Debug, Drop)]
+#[derive(Drop)]
 pub struct Column {
     /// The column's name, as it was written.
     pub name: Name,
@@ -35,7 +34,7 @@ pub struct Column {
 }
 
 /// A key or an index of a table.
-#[derive(Debug, Drop)]
+#[derive(Drop)]
 pub struct Index {
     /// The key's name; none exactly for the PRIMARY KEY.
     pub name: Option<Name>,

@@ -7,7 +7,7 @@ use gho_values::{Bound, Duplicate, Key, Name};
 use std::alloc::AllocError;
 
 /// A chunk that was begun.
-#[derive(Clone, Copy, Debug, PartialEq, Eq)]
+#[derive(Clone, Copy)]
 pub struct Chunk {
     /// The turn in which the copier was told its keys and its end.
     pub told: u64,
@@ -18,7 +18,7 @@ pub struct Chunk {
 }
 
 /// Which call comes next.
-#[derive(Clone, Copy, Debug, PartialEq, Eq)]
+#[derive(Clone, Copy)]
 pub enum CopyStep {
     /// It asks where the next chunk ends.
     Choosing,
@@ -41,7 +41,7 @@ pub enum CopyStep {
 }
 
 /// What is copied.
-#[derive(Debug, Drop)]
+#[derive(Drop)]
 pub struct CopyRange {
     /// Where the copy begins.
     pub low: Bound,
@@ -50,7 +50,7 @@ pub struct CopyRange {
 }
 
 /// How far the copier is. It keeps turns of the journal and counts, and no list that it was told.
-#[derive(Debug, Drop)]
+#[derive(Drop)]
 pub struct Copier {
     /// The migrated table.
     pub table: Name,

@@ -3,7 +3,7 @@
 use gho_values::Name;
 
 /// Which of the tool's three takes part.
-#[derive(Clone, Copy, Debug, PartialEq, Eq)]
+#[derive(Clone, Copy)]
 pub enum Role {
     /// It writes the hint row, looks at what waits and what stands, and clears up.
     Inspector,
@@ -14,7 +14,7 @@ pub enum Role {
 }
 
 /// How far an attempt is that may yet succeed.
-#[derive(Clone, Copy, Debug, PartialEq, Eq)]
+#[derive(Clone, Copy)]
 pub enum Stage {
     /// The sentry was asked for, and waits.
     Guarding,
@@ -37,7 +37,7 @@ pub enum Stage {
 }
 
 /// Which of the tool's tables are still to be dropped.
-#[derive(Clone, Copy, Debug, PartialEq, Eq)]
+#[derive(Clone, Copy)]
 pub struct Leftovers {
     /// The changelog.
     pub log: bool,
@@ -48,7 +48,7 @@ pub struct Leftovers {
 }
 
 /// What is done to clear up.
-#[derive(Clone, Copy, Debug, PartialEq, Eq)]
+#[derive(Clone, Copy)]
 pub enum Clearing {
     /// The tables are looked at.
     Looking,
@@ -57,7 +57,7 @@ pub enum Clearing {
 }
 
 /// How far the cut-over is with its attempts.
-#[derive(Clone, Copy, Debug, PartialEq, Eq)]
+#[derive(Clone, Copy)]
 pub enum Phase {
     /// No attempt stands.
     Resting,
@@ -72,7 +72,7 @@ pub enum Phase {
 }
 
 /// What the locker has of the server.
-#[derive(Clone, Copy, Debug, PartialEq, Eq)]
+#[derive(Clone, Copy)]
 pub enum Hold {
     /// Nothing.
     Nothing,
@@ -85,7 +85,7 @@ pub enum Hold {
 }
 
 /// How far the cut-over is.
-#[derive(Debug, Drop)]
+#[derive(Drop)]
 pub struct CutOver {
     /// The migrated table.
     pub table: Name,

@@ -5,7 +5,7 @@ use gho_values::alter_image::ColumnMap;
 use gho_values::gho_schema::Schema;
 
 /// How an event's statement goes.
-#[derive(Clone, Copy, Debug, PartialEq, Eq)]
+#[derive(Clone, Copy)]
 pub enum Part {
     /// As it is planned.
     Whole,
@@ -16,7 +16,7 @@ pub enum Part {
 }
 
 /// A batch with events of the table.
-#[derive(Clone, Copy, Debug, PartialEq, Eq)]
+#[derive(Clone, Copy)]
 pub struct Batch {
     /// The turn in which the applier was told its events.
     pub read: u64,
@@ -29,7 +29,7 @@ pub struct Batch {
 }
 
 /// Which call comes next.
-#[derive(Clone, Copy, Debug, PartialEq, Eq)]
+#[derive(Clone, Copy)]
 pub enum ApplyStep {
     /// It reads the next events.
     Reading,
@@ -49,7 +49,7 @@ pub enum ApplyStep {
 }
 
 /// How far the applier is. It keeps turns of the journal and counts, and no list that it was told.
-#[derive(Debug, Drop)]
+#[derive(Drop)]
 pub struct Applier {
     /// The migrated table.
     pub table: Name,

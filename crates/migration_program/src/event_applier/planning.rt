@@ -16,7 +16,7 @@ use plain_server::turn_answers::answer_at;
 use plain_server::{Answer, Entry};
 
 /// What one statement does to the new table with rows of the old one.
-#[derive(Clone, Copy, Debug)]
+#[derive(Clone, Copy)]
 pub(crate) enum Planned<'a> {
     /// REPLACE of the row's image.
     Put(&'a Row),

@@ -9,7 +9,7 @@ use plan_words::{Options, Plan};
 use script_text::{Command, OperatorWord};
 
 /// What the operator's commands have done so far.
-#[derive(Clone, Copy, Debug, PartialEq, Eq)]
+#[derive(Clone, Copy)]
 pub struct Operator {
     /// How many of its commands were taken, each unit of a wait as one.
     pub taken: u64,

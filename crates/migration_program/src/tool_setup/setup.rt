@@ -13,7 +13,7 @@ use plan_words::Plan;
 use std::alloc::{AllocError, Global};
 
 /// How far the setup is.
-#[derive(Clone, Copy, Debug, PartialEq, Eq)]
+#[derive(Clone, Copy)]
 pub enum Setup {
     /// The tables are listed.
     Listing,
@@ -30,7 +30,7 @@ pub enum Setup {
 }
 
 /// What an answer makes of the setup.
-#[derive(Clone, Copy, Debug, PartialEq, Eq)]
+#[derive(Clone, Copy)]
 pub enum SetupTook {
     /// It goes on so.
     Goes(Setup),

@@ -14,7 +14,7 @@ use slab::Slab;
 use std::alloc::{AllocError, Global};
 
 /// All entries in order of one unique key, and then of the clustered one.
-#[derive(Debug, Drop)]
+#[derive(Drop)]
 pub struct KeyIndex {
     /// The places of the key's columns.
     pub places: Places,

@@ -26,7 +26,6 @@ use std::marker::Model;
 use std::mem;
 
 /// A table with its rows, in pages of 1 to 64.
-#[derive(Debug)]
 pub struct Table {
     schema: Schema,
     rows: Slab<Row>,

@@ -3,7 +3,7 @@
 use script_text::Actor;
 
 /// What is left of a replay's order: the plan's words from one on, and the actors of a pass from one on.
-#[derive(Clone, Copy, Debug, PartialEq, Eq)]
+#[derive(Clone, Copy)]
 pub(crate) struct Place {
     /// The plan's run of words that comes next.
     pub(crate) run: usize,
@@ -14,7 +14,7 @@ pub(crate) struct Place {
 }
 
 /// The actor whose turn comes next, and what is left behind that turn.
-#[derive(Clone, Copy, Debug, PartialEq, Eq)]
+#[derive(Clone, Copy)]
 pub(crate) struct NextTurn {
     /// The actor.
     pub(crate) actor: Actor,

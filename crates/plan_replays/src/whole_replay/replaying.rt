@@ -16,7 +16,7 @@ use serving::Serve;
 use whole_run::{Run, Stepped};
 
 /// What became of a replay.
-#[derive(Clone, Copy, Debug, PartialEq, Eq)]
+#[derive(Clone, Copy)]
 pub enum Replayed {
     /// The run has ended, or has as many turns as the plan allows.
     Over,

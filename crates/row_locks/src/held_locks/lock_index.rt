@@ -12,7 +12,7 @@ use paged_list::PagedList;
 use std::alloc::{AllocError, Global};
 
 /// The places of locks.
-#[derive(Debug, Drop)]
+#[derive(Drop)]
 pub struct LockIndex {
     /// Those of the locks on one key, by table, key and its values; where they tie, exclusive locks come first.
     pub points: PagedList,

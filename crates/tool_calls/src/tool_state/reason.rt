@@ -3,7 +3,7 @@
 use plain_server::Task;
 
 /// Why all is reverted.
-#[derive(Clone, Copy, Debug, PartialEq, Eq)]
+#[derive(Clone, Copy)]
 pub enum Reason {
     /// A row that the copier had didn't fit its new column.
     CopyUnfit {

@@ -8,7 +8,7 @@ use migration_program::event_applier::Applier;
 use migration_program::tool_setup::{Operator, Setup};
 
 /// The three machines, and the turns at which the chunk, the batch and the attempts failed so far.
-#[derive(Debug, Drop)]
+#[derive(Drop)]
 pub struct Work {
     /// The copier.
     pub copier: Copier,
@@ -25,7 +25,6 @@ pub struct Work {
 }
 
 /// How far the tool is.
-#[derive(Debug)]
 pub struct Tool {
     /// How many turns were taken.
     pub turns: u64,

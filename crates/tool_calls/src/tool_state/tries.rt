@@ -6,7 +6,7 @@ use std::alloc::{AllocError, Global};
 use std::marker::Model;
 
 /// The turns in which a task failed, in order. Contracts see besides for how many it has room in all.
-#[derive(Debug, Drop)]
+#[derive(Drop)]
 pub struct Tries {
     turns: Vec<u64>,
 }

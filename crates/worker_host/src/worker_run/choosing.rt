@@ -12,7 +12,7 @@ use serving::Serve;
 use whole_run::Run;
 
 /// Whom a worker looks for.
-#[derive(Clone, Copy, Debug, PartialEq, Eq)]
+#[derive(Clone, Copy)]
 pub(crate) enum Sought {
     /// An actor of its own that is ready.
     Own,

@@ -10,7 +10,7 @@ use script_text::Actor;
 use std::marker::Model;
 
 /// A turn of a run: the worker that took it, and whose turn it was.
-#[derive(Debug, Drop)]
+#[derive(Drop)]
 pub struct WorkerTurn {
     worker: u32,
     actor: Actor,

@@ -9,7 +9,7 @@ use serving::Serve;
 use whole_run::Run;
 
 /// A worker's number, from 0, and how many workers there are.
-#[derive(Clone, Copy, Debug, PartialEq, Eq)]
+#[derive(Clone, Copy)]
 pub(crate) struct Member {
     /// How many workers there are.
     pub(crate) workers: u32,
@@ -18,7 +18,7 @@ pub(crate) struct Member {
 }
 
 /// An actor, and its place in the fixed order, from 0.
-#[derive(Clone, Copy, Debug, PartialEq, Eq)]
+#[derive(Clone, Copy)]
 pub(crate) struct Seat {
     /// The place.
     pub(crate) place: usize,
