@@ -31,9 +31,3 @@ impl Duplicate for usize {
         Ok(*self)
     }
 }
-
-impl Duplicate for u64 {
-    fn copy(&self) -> Result<u64, AllocError> {
-        Ok(*self)
-    }
-}

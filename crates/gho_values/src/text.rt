@@ -1,6 +1,6 @@
 //! Texts, which contracts see as the list of their UTF-8 bytes.
 
-ghost use Rattle.std.specs.Prelude.{◌≡◌, nat_eq, [], ◌∷◌, ◌++◌, ◌<◌, IfOk, OnOk, OnErr, string_bytes, encode_utf8};
+ghost use Rattle.std.specs.Prelude.{◌≡◌, nat_eq, [], ◌++◌, ◌<◌, IfOk, OnOk, OnErr, string_bytes, encode_utf8};
 ghost use Rattle.std.specs.Fmt.{signed_decimal};
 ghost use Rattle.std.specs.Cmp.{partial_equiv_from_equiv};
 ghost use Rattle.std.specs.Cmp.Lexicographic.{pointwise};
@@ -124,13 +124,5 @@ impl Text {
     /// The allocator that the text grows by.
     pub fn allocator(&self) -> Global {
         *self.text.allocator()
-    }
-}
-
-impl Duplicate for Text {
-    fn copy(&self) -> Result<Text, AllocError> {
-        Ok(Text {
-            text: self.text.clone()?,
-        })
     }
 }

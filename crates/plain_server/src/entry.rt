@@ -1,12 +1,12 @@
 //! The journal of a run: what was asked in each turn, and the answer.
 
-ghost use Rattle.std.specs.Prelude.{◌≡◌, ◌==◌, ◌≤◌, ◌-◌, length, slice_get, option_map, Some, IfOk, [], ◌∷◌, ◌++◌, OnOk, OnErr};
+ghost use Rattle.std.specs.Prelude.{◌≡◌, ◌==◌, ◌≤◌, ◌-◌, length, slice_get, option_map, Some, []};
 
 use crate::answer::Answer;
 use crate::request::Request;
-use gho_values::{Duplicate, Sequence};
+use gho_values::Sequence;
 use script_text::{Actor, OperatorWord, Side};
-use std::alloc::{AllocError, Global};
+use std::alloc::Global;
 use std::marker::Model;
 
 /// What an actor asks in its turn.
@@ -53,30 +53,6 @@ impl Drop for Entry {
         drop(asked);
         drop(answer);
         drop(missed);
-    }
-}
-
-impl Duplicate for Asked {
-    fn copy(&self) -> Result<Asked, AllocError> {
-        Ok(match self {
-            Asked::Call(request) => Asked::Call(request.copy()?),
-            Asked::Poll => Asked::Poll,
-            Asked::Command(word) => Asked::Command(*word),
-            Asked::Cut => Asked::Cut,
-        })
-    }
-}
-
-impl Duplicate for Entry {
-    fn copy(&self) -> Result<Entry, AllocError> {
-        Ok(Entry {
-            actor: self.actor,
-            session: self.session,
-            asked: self.asked.copy()?,
-            side: self.side,
-            answer: self.answer.copy()?,
-            missed: self.missed.copy()?,
-        })
     }
 }
 
@@ -161,13 +137,5 @@ impl Journal {
         ensures { result.now ≡ self.now }
     {
         self.entries.as_slice()
-    }
-}
-
-impl Duplicate for Journal {
-    fn copy(&self) -> Result<Journal, AllocError> {
-        Ok(Journal {
-            entries: self.entries.copy()?,
-        })
     }
 }

@@ -1,9 +1,6 @@
 //! How a migration ends, and what its tasks make of an answer.
 
-ghost use Rattle.std.specs.Prelude.{◌≡◌, IfOk};
-
-use gho_values::{Duplicate, Key, Name, Sequence};
-use std::alloc::AllocError;
+use gho_values::{Key, Name, Sequence};
 
 /// A task of the tool, which may be tried again where it fails.
 #[derive(Clone, Copy)]
@@ -76,37 +73,4 @@ pub enum Progress {
         /// The refusal's number.
         number: u16,
     },
-}
-
-impl Duplicate for Cause {
-    fn copy(&self) -> Result<Cause, AllocError> {
-        Ok(match self {
-            Cause::Unfit {
-                turn,
-                key,
-                column,
-                number,
-            } => Cause::Unfit {
-                turn: *turn,
-                key: key.copy()?,
-                column: column.copy()?,
-                number: *number,
-            },
-            Cause::Spent { task, turns } => Cause::Spent {
-                task: *task,
-                turns: turns.copy()?,
-            },
-            Cause::Panic { turn } => Cause::Panic { turn: *turn },
-        })
-    }
-}
-
-impl Duplicate for Verdict {
-    fn copy(&self) -> Result<Verdict, AllocError> {
-        Ok(match self {
-            Verdict::Done => Verdict::Done,
-            Verdict::Reverted(cause) => Verdict::Reverted(cause.copy()?),
-            Verdict::Unfinished => Verdict::Unfinished,
-        })
-    }
 }

@@ -1,7 +1,5 @@
 //! Transactions of clients that ended, line by line, and the replies to them.
 
-ghost use Rattle.std.specs.Prelude.{◌≡◌, IfOk};
-
 use gho_values::{Duplicate, Rows, Sequence};
 use script_text::{ScriptWord, Side};
 use std::alloc::AllocError;
@@ -72,25 +70,6 @@ impl Duplicate for TxnLine {
         Ok(TxnLine {
             word: self.word.copy()?,
             mark: self.mark,
-        })
-    }
-}
-
-impl Duplicate for EndedTxn {
-    fn copy(&self) -> Result<EndedTxn, AllocError> {
-        Ok(EndedTxn {
-            lines: self.lines.copy()?,
-            ended: self.ended,
-        })
-    }
-}
-
-impl Duplicate for Reply {
-    fn copy(&self) -> Result<Reply, AllocError> {
-        Ok(match self {
-            Reply::Ok(count) => Reply::Ok(*count),
-            Reply::Error(number) => Reply::Error(*number),
-            Reply::Rows(rows) => Reply::Rows(rows.copy()?),
         })
     }
 }

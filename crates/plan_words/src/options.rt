@@ -1,9 +1,6 @@
 //! The options of a plan.
 
-ghost use Rattle.std.specs.Prelude.{◌≡◌, IfOk};
-
-use gho_values::Duplicate;
-use std::alloc::AllocError;
+ghost use Rattle.std.specs.Prelude.{◌≡◌};
 
 /// The options of a plan: gh-ost's flags where it has them. Ranges and defaults are this project's rule.
 #[derive(Clone, Copy)]
@@ -73,11 +70,5 @@ impl Default for Options {
             show_tables: true,
             show_replies: true,
         }
-    }
-}
-
-impl Duplicate for Options {
-    fn copy(&self) -> Result<Options, AllocError> {
-        Ok(*self)
     }
 }

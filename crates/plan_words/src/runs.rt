@@ -1,10 +1,7 @@
 //! The order of turns that a plan asks for.
 
-ghost use Rattle.std.specs.Prelude.{◌≡◌, IfOk};
-
-use gho_values::{Duplicate, Sequence};
+use gho_values::Sequence;
 use script_text::Actor;
-use std::alloc::AllocError;
 
 /// Turns of one actor, one behind the other, as a word of a plan's `turns` asks for them: `copy*3`.
 #[derive(Clone, Copy)]
@@ -13,12 +10,6 @@ pub struct ActorRun {
     pub actor: Actor,
     /// How many.
     pub times: u32,
-}
-
-impl Duplicate for ActorRun {
-    fn copy(&self) -> Result<ActorRun, AllocError> {
-        Ok(*self)
-    }
 }
 
 /// Runs of turns in order.

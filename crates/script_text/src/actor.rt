@@ -1,10 +1,5 @@
 //! Who takes turns.
 
-ghost use Rattle.std.specs.Prelude.{◌≡◌, IfOk};
-
-use gho_values::Duplicate;
-use std::alloc::AllocError;
-
 /// Who takes a turn: a part of the tool, or a client of the server.
 #[derive(Clone, Copy, PartialEq, Eq)]
 pub enum Actor {
@@ -24,12 +19,6 @@ pub enum Actor {
     Client(u32),
 }
 
-impl Duplicate for Actor {
-    fn copy(&self) -> Result<Actor, AllocError> {
-        Ok(*self)
-    }
-}
-
 /// On which side of a call to the server its session is lost.
 #[derive(Clone, Copy)]
 pub enum Side {
@@ -37,10 +26,4 @@ pub enum Side {
     Before,
     /// After the call: the server has done it, and nobody hears the answer.
     After,
-}
-
-impl Duplicate for Side {
-    fn copy(&self) -> Result<Side, AllocError> {
-        Ok(*self)
-    }
 }

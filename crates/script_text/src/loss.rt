@@ -1,10 +1,6 @@
 //! Lost connections, and waits that end by timeout.
 
-ghost use Rattle.std.specs.Prelude.{◌≡◌, IfOk};
-
 use crate::actor::{Actor, Side};
-use gho_values::Duplicate;
-use std::alloc::AllocError;
 
 /// A turn at which an actor's connection is lost.
 #[derive(Clone, Copy)]
@@ -25,10 +21,4 @@ pub enum Loss {
         /// Whose connection.
         actor: Actor,
     },
-}
-
-impl Duplicate for Loss {
-    fn copy(&self) -> Result<Loss, AllocError> {
-        Ok(*self)
-    }
 }

@@ -1,9 +1,6 @@
 //! What the operator commands.
 
-ghost use Rattle.std.specs.Prelude.{◌≡◌, IfOk};
-
-use gho_values::{Duplicate, Sequence};
-use std::alloc::AllocError;
+use gho_values::Sequence;
 
 /// A command of the operator to the tool.
 #[derive(Clone, Copy)]
@@ -22,12 +19,6 @@ pub enum OperatorWord {
     Wait,
 }
 
-impl Duplicate for OperatorWord {
-    fn copy(&self) -> Result<OperatorWord, AllocError> {
-        Ok(*self)
-    }
-}
-
 /// A command, and how many of the operator's turns it takes.
 #[derive(Clone, Copy)]
 pub struct Command {
@@ -35,12 +26,6 @@ pub struct Command {
     pub word: OperatorWord,
     /// How many turns it takes: one, but for a wait.
     pub units: u32,
-}
-
-impl Duplicate for Command {
-    fn copy(&self) -> Result<Command, AllocError> {
-        Ok(*self)
-    }
 }
 
 /// Commands in order.

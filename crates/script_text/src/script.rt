@@ -1,7 +1,5 @@
 //! Scripts of clients.
 
-ghost use Rattle.std.specs.Prelude.{◌≡◌, IfOk};
-
 use crate::statement::Statement;
 use gho_values::{Duplicate, Sequence};
 use std::alloc::AllocError;
@@ -37,15 +35,6 @@ pub struct ScriptLine {
     pub line: u32,
     /// What it asks for.
     pub word: ScriptWord,
-}
-
-impl Duplicate for ScriptLine {
-    fn copy(&self) -> Result<ScriptLine, AllocError> {
-        Ok(ScriptLine {
-            line: self.line,
-            word: self.word.copy()?,
-        })
-    }
 }
 
 /// The lines of a client's script, in order.

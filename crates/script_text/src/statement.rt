@@ -163,12 +163,6 @@ impl Duplicate for Set {
     }
 }
 
-impl Duplicate for Sign {
-    fn copy(&self) -> Result<Sign, AllocError> {
-        Ok(*self)
-    }
-}
-
 impl Duplicate for Comparison {
     fn copy(&self) -> Result<Comparison, AllocError> {
         Ok(Comparison {

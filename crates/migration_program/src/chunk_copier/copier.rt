@@ -1,10 +1,7 @@
 //! How far the copier is.
 
-ghost use Rattle.std.specs.Prelude.{◌≡◌, IfOk};
-
 use gho_values::alter_image::ColumnMap;
-use gho_values::{Bound, Duplicate, Key, Name};
-use std::alloc::AllocError;
+use gho_values::{Bound, Key, Name};
 
 /// A chunk that was begun.
 #[derive(Clone, Copy)]
@@ -68,13 +65,4 @@ pub struct Copier {
     pub is_copied: bool,
     /// Which call comes next.
     pub step: CopyStep,
-}
-
-impl Duplicate for CopyRange {
-    fn copy(&self) -> Result<CopyRange, AllocError> {
-        Ok(CopyRange {
-            low: self.low.copy()?,
-            top: self.top.copy()?,
-        })
-    }
 }
