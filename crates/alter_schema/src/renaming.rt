@@ -46,17 +46,11 @@ fn rename_reason(
 fn with_name(column: &Column, name: &Name) -> Result<Column, AllocError>
     ensures { IfOk result (λ renamed. renamed ≡ with_name column.now name.now) }
 {
-    let Column {
-        name: _,
-        kind,
-        nullable,
-        default,
-    } = column.copy()?;
     Ok(Column {
         name: name.copy()?,
-        kind,
-        nullable,
-        default,
+        kind: column.kind,
+        nullable: column.nullable,
+        default: column.default.copy()?,
     })
 }
 

@@ -14,9 +14,15 @@ use std::marker::Model;
 use std::slice::Iter;
 
 /// Items in order. Equal lists are equal sequences, whatever room they keep.
-#[derive(Drop)]
 pub struct Sequence<T> {
     items: Vec<T>,
+}
+
+impl<T: Drop> Drop for Sequence<T> {
+    fn drop(self) {
+        let Sequence { items } = self;
+        drop(items);
+    }
 }
 
 impl<T> Model for Sequence<T> {
@@ -48,7 +54,8 @@ impl<T> Sequence<T> {
     pub fn into_vec(self) -> Vec<T>
         ensures { result.items ≡ self }
     {
-        self.items
+        let Sequence { items } = self;
+        items
     }
 
     /// How many items there are.

@@ -12,9 +12,15 @@ use std::alloc::{AllocError, Global};
 use std::marker::Model;
 
 /// The text of a value, of a comment or of a default.
-#[derive(Drop)]
 pub struct Chars {
     text: String,
+}
+
+impl Drop for Chars {
+    fn drop(self) {
+        let Chars { text } = self;
+        drop(text);
+    }
 }
 
 impl Model for Chars {
@@ -67,9 +73,15 @@ impl Eq for Chars {
 }
 
 /// A text that grows: what the program prints is built in one.
-#[derive(Drop)]
 pub struct Text {
     text: String,
+}
+
+impl Drop for Text {
+    fn drop(self) {
+        let Text { text } = self;
+        drop(text);
+    }
 }
 
 impl Model for Text {

@@ -11,7 +11,6 @@ use std::alloc::AllocError;
 pub type Bytes = Sequence<u8>;
 
 /// A literal, or what a column holds.
-#[derive(Drop)]
 pub enum Value {
     /// NULL.
     Null,
@@ -21,6 +20,16 @@ pub enum Value {
     Text(Chars),
     /// Bytes.
     Blob(Bytes),
+}
+
+impl Drop for Value {
+    fn drop(self) {
+        match self {
+            Value::Null | Value::Num(_) => {}
+            Value::Text(chars) => drop(chars),
+            Value::Blob(bytes) => drop(bytes),
+        }
+    }
 }
 
 impl Duplicate for Value {

@@ -6,7 +6,6 @@ use gho_values::{Chars, Duplicate, Name, Names, Sequence};
 use std::alloc::AllocError;
 
 /// A table that stands.
-#[derive(Drop)]
 pub struct TableName {
     /// Its name.
     pub name: Name,
@@ -14,11 +13,18 @@ pub struct TableName {
     pub comment: Chars,
 }
 
+impl Drop for TableName {
+    fn drop(self) {
+        let TableName { name, comment } = self;
+        drop(name);
+        drop(comment);
+    }
+}
+
 /// Tables that stand, in byte order of their names.
 pub type TableNames = Sequence<TableName>;
 
 /// A session that waits for names of tables exclusively.
-#[derive(Drop)]
 pub struct ShownWaiter {
     /// The session.
     pub session: u32,
@@ -26,6 +32,17 @@ pub struct ShownWaiter {
     pub names: Names,
     /// The least session that blocks it, or 0 where none does.
     pub by: u32,
+}
+
+impl Drop for ShownWaiter {
+    fn drop(self) {
+        let ShownWaiter {
+            names,
+            session: _,
+            by: _,
+        } = self;
+        drop(names);
+    }
 }
 
 /// Sessions that wait, by rising number.

@@ -25,7 +25,6 @@ pub struct HeldName {
 }
 
 /// A live session.
-#[derive(Drop)]
 pub struct Session {
     /// Its number; sessions count from 1 in the order of connecting.
     pub number: u32,
@@ -41,6 +40,23 @@ pub struct Session {
     pub names: HeldNames,
     /// How often its waiting request was polled.
     pub polls: u32,
+}
+
+impl Drop for Session {
+    fn drop(self) {
+        let Session {
+            number: _,
+            is_tool: _,
+            in_transaction: _,
+            writes,
+            row_locks,
+            names,
+            polls: _,
+        } = self;
+        drop(writes);
+        drop(row_locks);
+        drop(names);
+    }
 }
 
 /// A request that waits.

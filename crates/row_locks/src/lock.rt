@@ -8,7 +8,6 @@ use gho_values::{Duplicate, Name, Sequence, Span};
 use std::alloc::{AllocError, Global};
 
 /// A lock on the values of one key of a table that lie in a span, whether or not rows have them.
-#[derive(Drop)]
 pub struct Lock {
     /// The table.
     pub table: Name,
@@ -18,6 +17,19 @@ pub struct Lock {
     pub span: Span,
     /// Whether the lock is exclusive (X), or else shared (S).
     pub exclusive: bool,
+}
+
+impl Drop for Lock {
+    fn drop(self) {
+        let Lock {
+            table,
+            key: _,
+            span,
+            exclusive: _,
+        } = self;
+        drop(table);
+        drop(span);
+    }
 }
 
 impl Duplicate for Lock {

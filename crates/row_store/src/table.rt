@@ -17,10 +17,17 @@ use std::marker::Model;
 use std::mem;
 
 /// A table with its rows. Contracts see besides for how many more rows it has room.
-#[derive(Drop)]
 pub struct Table {
     schema: Schema,
     rows: Vec<Row>,
+}
+
+impl Drop for Table {
+    fn drop(self) {
+        let Table { schema, rows } = self;
+        drop(schema);
+        drop(rows);
+    }
 }
 
 impl Model for Table {

@@ -69,9 +69,9 @@ pub fn literal_at(alloc: Global, words: &[Token]) -> Result<(Value, &[Token]), S
 fn unless_null(value: Value, rest: &[Token]) -> Result<(Value, &[Token]), StatementFault>
     ensures { Reads (λ value. (value.0, value.1.now)) result (unless_null value rest.now) }
 {
-    match value {
+    match &value {
         Value::Null => Err(MISTAKE),
-        value => Ok((value, rest)),
+        _ => Ok((value, rest)),
     }
 }
 

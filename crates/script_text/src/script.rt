@@ -5,7 +5,6 @@ use gho_values::{Duplicate, Sequence};
 use std::alloc::AllocError;
 
 /// What a line of a script asks for.
-#[derive(Drop)]
 pub enum ScriptWord {
     /// BEGIN or START TRANSACTION.
     Begin,
@@ -15,6 +14,15 @@ pub enum ScriptWord {
     Rollback,
     /// A statement.
     Do(Statement),
+}
+
+impl Drop for ScriptWord {
+    fn drop(self) {
+        match self {
+            ScriptWord::Begin | ScriptWord::Commit | ScriptWord::Rollback => {}
+            ScriptWord::Do(statement) => drop(statement),
+        }
+    }
 }
 
 impl Duplicate for ScriptWord {
@@ -29,12 +37,18 @@ impl Duplicate for ScriptWord {
 }
 
 /// A line of a script.
-#[derive(Drop)]
 pub struct ScriptLine {
     /// Its number in the script's text, counted from 1.
     pub line: u32,
     /// What it asks for.
     pub word: ScriptWord,
+}
+
+impl Drop for ScriptLine {
+    fn drop(self) {
+        let ScriptLine { word, line: _ } = self;
+        drop(word);
+    }
 }
 
 /// The lines of a client's script, in order.

@@ -62,7 +62,6 @@ pub enum Condition {
 }
 
 /// A column and a value: what it becomes in SET, what it equals in a condition.
-#[derive(Drop)]
 pub struct Set {
     /// The column's name, as it was written.
     pub column: Name,
@@ -70,11 +69,18 @@ pub struct Set {
     pub value: Value,
 }
 
+impl Drop for Set {
+    fn drop(self) {
+        let Set { column, value } = self;
+        drop(column);
+        drop(value);
+    }
+}
+
 /// Columns and values in order.
 pub type Sets = Sequence<Set>;
 
 /// How a column lies to a value.
-#[derive(Drop)]
 pub struct Comparison {
     /// The column's name, as it was written.
     pub column: Name,
@@ -82,6 +88,18 @@ pub struct Comparison {
     pub sign: Sign,
     /// The value.
     pub value: Value,
+}
+
+impl Drop for Comparison {
+    fn drop(self) {
+        let Comparison {
+            column,
+            value,
+            sign: _,
+        } = self;
+        drop(column);
+        drop(value);
+    }
 }
 
 /// Comparisons in order. `c BETWEEN a AND b` is the two of `c >= a` and `c <= b`.

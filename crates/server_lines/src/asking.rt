@@ -7,7 +7,7 @@ ghost use Rattle.plain_server.specs.Conditions.{IsTableName};
 use case_lines::{CallFault, unsigned_of};
 use gho_values::gho_schema::Schema;
 use gho_values::schema_rules::is_column_name;
-use gho_values::{Name, Names, Sequence};
+use gho_values::{Duplicate, Name, Names, Sequence};
 use plain_server::{Answer, Request};
 use schema_text::read_schema;
 use script_reader::{StatementFault, read_statement};
@@ -96,8 +96,10 @@ fn look_at_log<V: Serve>(
 fn statement_of(alloc: Global, text: &str) -> Result<Statement, CallFault> {
     let words = text_words(alloc, text)?;
     match read_statement(alloc, words.words.as_slice()) {
-        Ok(ScriptWord::Do(statement)) => Ok(statement),
-        Ok(_) => Err(CallFault::Unread),
+        Ok(word) => match &word {
+            ScriptWord::Do(statement) => Ok(statement.copy()?),
+            ScriptWord::Begin | ScriptWord::Commit | ScriptWord::Rollback => Err(CallFault::Unread),
+        },
         Err(StatementFault::Refused(_)) => Err(CallFault::Unread),
         Err(StatementFault::Memory) => Err(CallFault::Memory),
     }

@@ -7,12 +7,18 @@ use gho_values::gho_schema::same_name;
 use sql_words::{Word, WordClass};
 
 /// A word that owns its text.
-#[derive(Drop)]
 pub struct Token {
     /// What sort of word it is.
     pub class: WordClass,
     /// The word as it stands in the text, with its quotes.
     pub text: Chars,
+}
+
+impl Drop for Token {
+    fn drop(self) {
+        let Token { text, class: _ } = self;
+        drop(text);
+    }
 }
 
 impl Token {

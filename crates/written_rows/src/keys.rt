@@ -16,9 +16,15 @@ use std::marker::Model;
 
 /// Keys of one table in order, each once. Contracts see besides how many values a key has at most, and for how many more
 /// keys there is room.
-#[derive(Drop)]
 pub struct KeySet {
     table: Table,
+}
+
+impl Drop for KeySet {
+    fn drop(self) {
+        let KeySet { table } = self;
+        drop(table);
+    }
 }
 
 impl Model for KeySet {

@@ -3,7 +3,6 @@
 use crate::{Kind, Name, Names, Sequence, Value};
 
 /// One clause of ALTER TABLE (MySQL's manual, "ALTER TABLE Statement").
-#[derive(Drop)]
 pub enum Clause {
     /// ADD COLUMN.
     Add {
@@ -41,8 +40,32 @@ pub enum Clause {
     DropIndex(Name),
 }
 
+impl Drop for Clause {
+    fn drop(self) {
+        match self {
+            Clause::Add { column, spot } => {
+                drop(column);
+                drop(spot);
+            }
+            Clause::Drop(name) | Clause::DropIndex(name) => drop(name),
+            Clause::Rename { old, new } => {
+                drop(old);
+                drop(new);
+            }
+            Clause::Change { old, column, spot } => {
+                drop(old);
+                drop(column);
+                drop(spot);
+            }
+            Clause::AddIndex { name, columns } => {
+                drop(name);
+                drop(columns);
+            }
+        }
+    }
+}
+
 /// A column as a clause writes it.
-#[derive(Drop)]
 pub struct NewColumn {
     /// Its name.
     pub name: Name,
@@ -52,6 +75,19 @@ pub struct NewColumn {
     pub nullable: Option<bool>,
     /// The DEFAULT, where one is written.
     pub default: Option<Value>,
+}
+
+impl Drop for NewColumn {
+    fn drop(self) {
+        let NewColumn {
+            name,
+            kind: _,
+            nullable: _,
+            default,
+        } = self;
+        drop(name);
+        drop(default);
+    }
 }
 
 /// Where a clause puts its column.

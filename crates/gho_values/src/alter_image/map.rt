@@ -6,7 +6,6 @@ use crate::{Duplicate, Kind, Sequence, Value};
 use std::alloc::AllocError;
 
 /// A new column: what it stores, and of what.
-#[derive(Drop)]
 pub struct MapColumn {
     /// The kind of its values.
     pub kind: Kind,
@@ -16,13 +15,32 @@ pub struct MapColumn {
     pub origin: Origin,
 }
 
+impl Drop for MapColumn {
+    fn drop(self) {
+        let MapColumn {
+            origin,
+            kind: _,
+            nullable: _,
+        } = self;
+        drop(origin);
+    }
+}
+
 /// Where a new column's values come from.
-#[derive(Drop)]
 pub enum Origin {
     /// The old column at this place, from 0.
     Old(usize),
     /// Nowhere: the column was added, and gets this default.
     Added(Value),
+}
+
+impl Drop for Origin {
+    fn drop(self) {
+        match self {
+            Origin::Old(_) => {}
+            Origin::Added(value) => drop(value),
+        }
+    }
 }
 
 /// The new columns in order.

@@ -21,7 +21,6 @@ pub struct Schema {
 }
 
 /// A column of a table.
-#[derive(Drop)]
 pub struct Column {
     /// The column's name, as it was written.
     pub name: Name,
@@ -33,13 +32,33 @@ pub struct Column {
     pub default: Option<Value>,
 }
 
+impl Drop for Column {
+    fn drop(self) {
+        let Column {
+            name,
+            default,
+            kind: _,
+            nullable: _,
+        } = self;
+        drop(name);
+        drop(default);
+    }
+}
+
 /// A key or an index of a table.
-#[derive(Drop)]
 pub struct Index {
     /// The key's name; none exactly for the PRIMARY KEY.
     pub name: Option<Name>,
     /// The places of its columns in the schema, from 0, in the key's order.
     pub places: Places,
+}
+
+impl Drop for Index {
+    fn drop(self) {
+        let Index { name, places } = self;
+        drop(name);
+        drop(places);
+    }
 }
 
 /// Columns in order.
