@@ -2,12 +2,18 @@
 //! the key 0 of the table `t`, or more locks at once, and `each S t.0 1 200` a shared lock on each number from 1 to 200.
 //! `test X t.0 [5,5]` says whether one of those that are held conflicts with the lock.
 
-use crate::lock_words::{lock_of, set_of};
+use crate::lock_words::{lock_in, lock_of, set_in};
 use case_lines::{CallFault, say, unsigned_of};
 use gho_values::{Sequence, Text};
-use row_locks::LockSet;
 use row_locks::held_locks::HeldLocks;
+use row_locks::{Lock, LockSet};
 use std::alloc::Global;
+
+/// A lock on the key of one number.
+fn one(alloc: Global, strength: &str, key: &str, number: u32) -> Result<Lock, CallFault> {
+    let span = format!(in alloc; "[{number},{number}]")?;
+    lock_of(alloc, strength, key, span.as_str())
+}
 
 /// A lock on each number from the first to the last.
 fn each(
@@ -19,30 +25,55 @@ fn each(
 ) -> Result<LockSet, CallFault> {
     let mut set = Sequence::new(alloc);
     for number in first..=last {
-        let span = format!(in alloc; "[{number},{number}]")?;
-        set.push(lock_of(alloc, strength, key, span.as_str())?)?;
+        set.push(one(alloc, strength, key, number)?)?;
     }
     Ok(set)
 }
 
+/// The locks of four words, as `S t.0 1 200`.
+fn each_in(alloc: Global, words: &str) -> Result<LockSet, CallFault> {
+    let (strength, rest) = words.split_once(' ').ok_or(CallFault::Unread)?;
+    let (key, rest) = rest.split_once(' ').ok_or(CallFault::Unread)?;
+    let (first, last) = rest.split_once(' ').ok_or(CallFault::Unread)?;
+    each(
+        alloc,
+        strength,
+        key,
+        unsigned_of(first)?,
+        unsigned_of(last)?,
+    )
+}
+
+fn hold(held: &mut HeldLocks, set: LockSet) -> Result<(), CallFault> {
+    held.append(set)?;
+    Ok(())
+}
+
+fn test(alloc: Global, held: &HeldLocks, words: &str, told: &mut Text) -> Result<(), CallFault> {
+    let lock = lock_in(alloc, words)?;
+    let conflicts = held.any_conflicts(&lock);
+    say(told, if conflicts { "yes" } else { "no" })?;
+    Ok(())
+}
+
 fn take(alloc: Global, held: &mut HeldLocks, call: &str, told: &mut Text) -> Result<(), CallFault> {
-    let words: Vec<&str> = call.split(' ').collect(alloc)?;
-    match words.as_slice() {
-        ["hold", wishes @ ..] => held.append(set_of(alloc, wishes)?)?,
-        ["each", strength, key, first, last] => {
-            held.append(each(
-                alloc,
-                strength,
-                key,
-                unsigned_of(first)?,
-                unsigned_of(last)?,
-            )?)?;
-        }
-        ["test", strength, key, span] => {
-            let conflicts = held.any_conflicts(&lock_of(alloc, strength, key, span)?);
-            say(told, if conflicts { "yes" } else { "no" })?;
-        }
-        _ => return Err(CallFault::Unread),
+    let (word, rest) = call.split_once(' ').ok_or(CallFault::Unread)?;
+    match word {
+        "hold" => hold(held, set_in(alloc, rest)?),
+        "each" => hold(held, each_in(alloc, rest)?),
+        "test" => test(alloc, held, rest, told),
+        _ => Err(CallFault::Unread),
+    }
+}
+
+fn take_each(
+    alloc: Global,
+    held: &mut HeldLocks,
+    calls: &str,
+    told: &mut Text,
+) -> Result<(), CallFault> {
+    for call in calls.split("; ") {
+        take(alloc, held, call, told)?;
     }
     Ok(())
 }
@@ -51,8 +82,6 @@ fn take(alloc: Global, held: &mut HeldLocks, call: &str, told: &mut Text) -> Res
 pub fn answers(alloc: Global, input: &str) -> Result<Text, CallFault> {
     let mut held = HeldLocks::new(alloc);
     let mut told = Text::new(alloc);
-    for call in input.split("; ") {
-        take(alloc, &mut held, call, &mut told)?;
-    }
+    take_each(alloc, &mut held, input, &mut told)?;
     Ok(told)
 }

@@ -18,8 +18,14 @@ pub fn lock_of(alloc: Global, strength: &str, key: &str, span: &str) -> Result<L
     })
 }
 
-/// Locks of three words each.
-pub fn set_of(alloc: Global, words: &[&str]) -> Result<LockSet, CallFault> {
+/// The lock of three words, as `X t.0 [5,5]`.
+pub fn lock_in(alloc: Global, words: &str) -> Result<Lock, CallFault> {
+    let (strength, rest) = words.split_once(' ').ok_or(CallFault::Unread)?;
+    let (key, span) = rest.split_once(' ').ok_or(CallFault::Unread)?;
+    lock_of(alloc, strength, key, span)
+}
+
+fn set_of(alloc: Global, words: &[&str]) -> Result<LockSet, CallFault> {
     let mut set = Sequence::new(alloc);
     let mut rest = words;
     while let [strength, key, span, behind @ ..] = rest {
@@ -27,4 +33,10 @@ pub fn set_of(alloc: Global, words: &[&str]) -> Result<LockSet, CallFault> {
         rest = behind;
     }
     Ok(set)
+}
+
+/// Locks of three words each.
+pub fn set_in(alloc: Global, words: &str) -> Result<LockSet, CallFault> {
+    let words: Vec<&str> = words.split(' ').collect(alloc)?;
+    set_of(alloc, words.as_slice())
 }

@@ -9,12 +9,18 @@ use gho_values::{Name, Names, Sequence, Text};
 use metadata_locks::{LockAnswer, MetaLocks};
 use std::alloc::{AllocError, Global};
 
+/// Adds the name of one letter.
+fn push_name(alloc: Global, names: &mut Names, letter: char) -> Result<(), AllocError> {
+    let mut buffer = [0u8; 4];
+    names.push(Name::new(alloc, letter.encode_utf8(&mut buffer))?)?;
+    Ok(())
+}
+
 fn names_of(alloc: Global, letters: &str) -> Result<Names, AllocError> {
     let mut names = Sequence::new(alloc);
-    let mut buffer = [0u8; 4];
     for letter in letters.chars() {
         if letter != '-' {
-            names.push(Name::new(alloc, letter.encode_utf8(&mut buffer))?)?;
+            push_name(alloc, &mut names, letter)?;
         }
     }
     Ok(names)
@@ -111,6 +117,25 @@ fn end(locks: &mut MetaLocks, session: u32) -> Result<LockAnswer, CallFault> {
     Ok(LockAnswer::Granted)
 }
 
+/// A call about these names.
+fn asked_of(
+    locks: &mut MetaLocks,
+    call: &str,
+    session: u32,
+    names: &Names,
+) -> Result<LockAnswer, CallFault> {
+    match call {
+        "S" => ask(locks, session, names, false),
+        "X" => ask(locks, session, names, true),
+        "test-S" => Ok(locks.test(session, names, false)),
+        "test-X" => Ok(locks.test(session, names, true)),
+        "turn" => turn(locks, session, names),
+        "undo-S" => shared_undone(locks, session, names),
+        "undo-X" => exclusive_undone(locks, session, names),
+        _ => Err(CallFault::Unread),
+    }
+}
+
 /// A call that names locks.
 fn asked(
     alloc: Global,
@@ -120,16 +145,7 @@ fn asked(
     letters: &str,
 ) -> Result<LockAnswer, CallFault> {
     let names = names_of(alloc, letters)?;
-    match call {
-        "S" => ask(locks, session, &names, false),
-        "X" => ask(locks, session, &names, true),
-        "test-S" => Ok(locks.test(session, &names, false)),
-        "test-X" => Ok(locks.test(session, &names, true)),
-        "turn" => turn(locks, session, &names),
-        "undo-S" => shared_undone(locks, session, &names),
-        "undo-X" => exclusive_undone(locks, session, &names),
-        _ => Err(CallFault::Unread),
-    }
+    asked_of(locks, call, session, &names)
 }
 
 /// A call that names a session alone.
@@ -154,10 +170,35 @@ fn say_answer(alloc: Global, told: &mut Text, answer: LockAnswer) -> Result<(), 
     }
 }
 
-fn say_holder(alloc: Global, told: &mut Text, holder: Option<u32>) -> Result<(), AllocError> {
-    match holder {
+fn say_holder(
+    alloc: Global,
+    locks: &MetaLocks,
+    name: &str,
+    told: &mut Text,
+) -> Result<(), AllocError> {
+    let name = Name::new(alloc, name)?;
+    match locks.held_by(&name) {
         Some(session) => say(told, format!(in alloc; "{session} holds")?.as_str()),
         None => say(told, "nobody"),
+    }
+}
+
+fn say_waiting(locks: &MetaLocks, session: &str, told: &mut Text) -> Result<(), CallFault> {
+    let waits = locks.waiting(unsigned_of(session)?);
+    say(told, if waits { "yes" } else { "no" })?;
+    Ok(())
+}
+
+/// The answer to a call of a session, with names or without.
+fn answer_of(
+    alloc: Global,
+    locks: &mut MetaLocks,
+    call: &str,
+    input: &str,
+) -> Result<LockAnswer, CallFault> {
+    match input.split_once(' ') {
+        Some((session, letters)) => asked(alloc, locks, call, unsigned_of(session)?, letters),
+        None => called(locks, call, unsigned_of(input)?),
     }
 }
 
@@ -167,22 +208,23 @@ fn take(
     call: &str,
     told: &mut Text,
 ) -> Result<(), CallFault> {
-    let words: Vec<&str> = call.split(' ').collect(alloc)?;
-    match words.as_slice() {
-        ["holder", name] => say_holder(alloc, told, locks.held_by(&Name::new(alloc, name)?))?,
-        ["waiting", session] => {
-            let waits = locks.waiting(unsigned_of(session)?);
-            say(told, if waits { "yes" } else { "no" })?;
-        }
-        [call, session] => say_answer(alloc, told, called(locks, call, unsigned_of(session)?)?)?,
-        [call, session, names] => {
-            say_answer(
-                alloc,
-                told,
-                asked(alloc, locks, call, unsigned_of(session)?, names)?,
-            )?;
-        }
-        _ => return Err(CallFault::Unread),
+    let (word, input) = call.split_once(' ').ok_or(CallFault::Unread)?;
+    match word {
+        "holder" => say_holder(alloc, locks, input, told)?,
+        "waiting" => say_waiting(locks, input, told)?,
+        _ => say_answer(alloc, told, answer_of(alloc, locks, word, input)?)?,
+    }
+    Ok(())
+}
+
+fn take_each(
+    alloc: Global,
+    locks: &mut MetaLocks,
+    calls: &str,
+    told: &mut Text,
+) -> Result<(), CallFault> {
+    for call in calls.split("; ") {
+        take(alloc, locks, call, told)?;
     }
     Ok(())
 }
@@ -191,8 +233,6 @@ fn take(
 pub fn answers(alloc: Global, input: &str) -> Result<Text, CallFault> {
     let mut locks = MetaLocks::new(alloc);
     let mut told = Text::new(alloc);
-    for call in input.split("; ") {
-        take(alloc, &mut locks, call, &mut told)?;
-    }
+    take_each(alloc, &mut locks, input, &mut told)?;
     Ok(told)
 }

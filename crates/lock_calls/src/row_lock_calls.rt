@@ -2,7 +2,7 @@
 //! key 0 of the table `t`, or for more locks at once; `test`, `undo` of an ask that is granted, and `free 1`. Each says
 //! `granted`, or the session that refuses.
 
-use crate::lock_words::set_of;
+use crate::lock_words::set_in;
 use case_lines::{CallFault, say, unsigned_of};
 use gho_values::Text;
 use row_locks::{LockAnswer, LockSet, RowLocks};
@@ -41,15 +41,35 @@ fn say_answer(alloc: Global, told: &mut Text, answer: LockAnswer) -> Result<(), 
     }
 }
 
+/// The answer to a call of a session with the words of locks.
+fn asked(
+    alloc: Global,
+    locks: &mut RowLocks,
+    call: &str,
+    session: u32,
+    words: &str,
+) -> Result<LockAnswer, CallFault> {
+    let set = set_in(alloc, words)?;
+    answer_of(locks, call, session, &set)
+}
+
 fn take(alloc: Global, locks: &mut RowLocks, call: &str, told: &mut Text) -> Result<(), CallFault> {
-    let words: Vec<&str> = call.split(' ').collect(alloc)?;
-    let [call, session, wishes @ ..] = words.as_slice() else {
-        return Err(CallFault::Unread);
-    };
-    let session = unsigned_of(session)?;
-    let set = set_of(alloc, wishes)?;
-    let answer = answer_of(locks, call, session, &set)?;
+    let (call, rest) = call.split_once(' ').ok_or(CallFault::Unread)?;
+    let (session, words) = rest.split_once(' ').unwrap_or((rest, ""));
+    let answer = asked(alloc, locks, call, unsigned_of(session)?, words)?;
     say_answer(alloc, told, answer)?;
+    Ok(())
+}
+
+fn take_each(
+    alloc: Global,
+    locks: &mut RowLocks,
+    calls: &str,
+    told: &mut Text,
+) -> Result<(), CallFault> {
+    for call in calls.split("; ") {
+        take(alloc, locks, call, told)?;
+    }
     Ok(())
 }
 
@@ -57,8 +77,6 @@ fn take(alloc: Global, locks: &mut RowLocks, call: &str, told: &mut Text) -> Res
 pub fn answers(alloc: Global, input: &str) -> Result<Text, CallFault> {
     let mut locks = RowLocks::new(alloc);
     let mut told = Text::new(alloc);
-    for call in input.split("; ") {
-        take(alloc, &mut locks, call, &mut told)?;
-    }
+    take_each(alloc, &mut locks, input, &mut told)?;
     Ok(told)
 }

@@ -5,19 +5,26 @@ use gho_values::Text;
 use std::alloc::Global;
 use throttle_gate::{Go, Throttle};
 
+/// A load, and whether the word `commanded` stands behind it.
+fn load_of(text: &str) -> Result<(u32, bool), CallFault> {
+    match text.strip_suffix(" commanded") {
+        Some(load) => Ok((unsigned_of(load)?, true)),
+        None => Ok((unsigned_of(text)?, false)),
+    }
+}
+
+fn word_of(go: Go) -> &'static str {
+    match go {
+        Go::Go => "go",
+        Go::Hold { load: true } => "hold by load",
+        Go::Hold { load: false } => "hold by command",
+    }
+}
+
 /// What is answered, of the most load, the load, and the word `commanded` where the operator holds the tool.
 pub fn answer(alloc: Global, input: &str) -> Result<Text, CallFault> {
     let (most, load) = input.split_once(' ').ok_or(CallFault::Unread)?;
-    let (load, commanded) = match load.strip_suffix(" commanded") {
-        Some(load) => (load, true),
-        None => (load, false),
-    };
-    text_of(
-        alloc,
-        match Throttle::new(unsigned_of(most)?).asks(unsigned_of(load)?, commanded) {
-            Go::Go => "go",
-            Go::Hold { load: true } => "hold by load",
-            Go::Hold { load: false } => "hold by command",
-        },
-    )
+    let (load, commanded) = load_of(load)?;
+    let go = Throttle::new(unsigned_of(most)?).asks(load, commanded);
+    text_of(alloc, word_of(go))
 }
