@@ -6,7 +6,7 @@ use std::alloc::{AllocError, Global};
 
 /// Whether one at a time gives what the run of this plan printed.
 fn is_its_own(alloc: Global, plan: &[u8], ran: &Ran) -> Result<bool, AllocError> {
-    is_as_alone(alloc, plan, &ran.ended.journal, ran.sink.held())
+    is_as_alone(alloc, plan, &ran.ended.journal, ran.printed())
 }
 
 /// Whether the run of the case's plan is as one at a time, and the report in the case isn't that of the run.
@@ -33,7 +33,7 @@ pub(crate) fn is_plan_told(
         alloc,
         case.prints.as_slice(),
         &ran.ended.journal,
-        ran.sink.held(),
+        ran.printed(),
     )?;
     Ok(!is_same && is_its_own(alloc, plan, &ran)?)
 }

@@ -4,7 +4,7 @@ use crate::altered::{is_plan_told, is_report_told};
 use crate::edges::{end_at_sinks, end_at_sources};
 use crate::lines::has_lines;
 use alone_reports::is_as_alone;
-use program_runs::{Case, Program, run};
+use program_runs::{Case, Program, Ran, run};
 use std::alloc::{AllocError, Global};
 
 /// What is asked of a case.
@@ -22,17 +22,25 @@ pub enum Asked {
     EndsAtEdges,
 }
 
+/// Whether a run ended with the case's status and printed what stands in the case.
+fn is_written(alloc: Global, case: &Case<'_>, ran: &Ran) -> Result<bool, AllocError> {
+    let status = format!(in alloc; "{}", ran.ended.status)?;
+    Ok(status.as_str() == case.status && case.prints.as_slice() == ran.printed())
+}
+
+/// Whether a run took no turns, or one at a time gives what it printed.
+fn is_run_as_alone(alloc: Global, plan: &[u8], ran: &Ran) -> Result<bool, AllocError> {
+    if ran.ended.journal.is_empty() {
+        return Ok(true);
+    }
+    is_as_alone(alloc, plan, &ran.ended.journal, ran.printed())
+}
+
 /// Whether a case prints what stands in it, with the status that stands there, and what one at a time gives.
 fn is_printed(alloc: Global, program: &Program, case: &Case<'_>) -> Result<bool, AllocError> {
     let plan = case.plan.as_slice();
     let ran = run(alloc, program, case.words, plan)?;
-    let status = format!(in alloc; "{}", ran.ended.status)?;
-    let is_written = status.as_str() == case.status && case.prints.as_slice() == ran.sink.held();
-    let took_turns = !ran.ended.journal.is_empty();
-    Ok(
-        is_written
-            && (!took_turns || is_as_alone(alloc, plan, &ran.ended.journal, ran.sink.held())?),
-    )
+    Ok(is_written(alloc, case, &ran)? && is_run_as_alone(alloc, plan, &ran)?)
 }
 
 /// Whether a case is as expected.

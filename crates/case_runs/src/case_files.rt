@@ -2,6 +2,7 @@
 
 use crate::asked::{Asked, is_as_expected};
 use program_runs::{Case, Program, names_in, text_in};
+use std::alloc::AllocError;
 use std::io;
 use std::rt::Files;
 
@@ -29,6 +30,28 @@ fn run_case<R: Print + AllocGlobal>(
     }
 }
 
+/// Runs a case, where there is one.
+fn run_last<R: Print + AllocGlobal>(
+    rt: &R,
+    program: &Program,
+    asked: Asked,
+    count: &mut Count,
+    case: &Option<Case<'_>>,
+) -> io::Result<()> {
+    match case {
+        Some(case) => run_case(rt, program, asked, count, case),
+        None => Ok(()),
+    }
+}
+
+/// Adds a line to a case, where there is one.
+fn add_line(case: &mut Option<Case<'_>>, line: &str) -> Result<(), AllocError> {
+    match case {
+        Some(case) => case.add(line),
+        None => Ok(()),
+    }
+}
+
 /// Runs the cases of a text, and counts them.
 fn run_cases<R: Print + AllocGlobal>(
     rt: &R,
@@ -42,19 +65,32 @@ fn run_cases<R: Print + AllocGlobal>(
     };
     let mut case: Option<Case<'_>> = None;
     for line in text.lines() {
-        if let Some(head) = line.strip_prefix("#### case ") {
-            if let Some(case) = case {
-                run_case(rt, program, asked, &mut count, &case)?;
+        match line.strip_prefix("#### case ") {
+            Some(head) => {
+                run_last(rt, program, asked, &mut count, &case)?;
+                case = Some(Case::new(rt.alloc(), head));
             }
-            case = Some(Case::new(rt.alloc(), head));
-        } else if let Some(case) = &mut case {
-            case.add(line)?;
+            None => add_line(&mut case, line)?,
         }
     }
-    if let Some(case) = case {
-        run_case(rt, program, asked, &mut count, &case)?;
-    }
+    run_last(rt, program, asked, &mut count, &case)?;
     Ok(count)
+}
+
+/// Runs the cases of a file.
+fn run_case_file<R: Print + AllocGlobal + Files>(
+    rt: &R,
+    program: &Program,
+    folder: &str,
+    name: &str,
+    asked: Asked,
+) -> io::Result<()> {
+    let text = text_in(rt, folder, name)?;
+    let count = run_cases(rt, program, asked, text.as_str())?;
+    println!(rt;
+        "{name}: {} of {} cases are as expected",
+        count.expected, count.cases
+    )
 }
 
 /// Runs the files of cases of this folder.
@@ -66,12 +102,7 @@ pub fn run_case_files<R: Print + AllocGlobal + Files>(
 ) -> io::Result<()> {
     let names = names_in(rt, folder)?;
     for name in names.lines() {
-        let text = text_in(rt, folder, name)?;
-        let count = run_cases(rt, program, asked, text.as_str())?;
-        println!(rt;
-            "{name}: {} of {} cases are as expected",
-            count.expected, count.cases
-        )?;
+        run_case_file(rt, program, folder, name, asked)?;
     }
     Ok(())
 }

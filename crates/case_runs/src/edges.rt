@@ -22,7 +22,7 @@ fn ends_at_source(
         edges,
         &Meeting::new(0),
     )?;
-    let is_told = ran.sink.held() == b"read fault\n".as_slice();
+    let is_told = ran.printed() == b"read fault\n".as_slice();
     Ok(ran.ended.status == 4 && ran.source.faults() == 1 && is_told)
 }
 
@@ -45,7 +45,7 @@ fn ends_at_sink(
         edges,
         &Meeting::new(0),
     )?;
-    let is_front = case.prints.get(..fail_at) == Some(ran.sink.held());
+    let is_front = case.prints.get(..fail_at) == Some(ran.printed());
     Ok(ran.ended.status == 5 && ran.sink.faults() == 1 && is_front)
 }
 

@@ -26,10 +26,10 @@ pub(crate) fn has_lines(
 ) -> Result<bool, AllocError> {
     let plan = case.plan.as_slice();
     let ran = run(alloc, program, case.words, plan)?;
-    let is_same = is_as_alone(alloc, plan, &ran.ended.journal, ran.sink.held())?;
+    let is_same = is_as_alone(alloc, plan, &ran.ended.journal, ran.printed())?;
     match (
         str::from_utf8(case.prints.as_slice()),
-        str::from_utf8(ran.sink.held()),
+        str::from_utf8(ran.printed()),
     ) {
         (Ok(lines), Ok(report)) => Ok(is_same && stand_among(lines, report)),
         _ => Ok(false),

@@ -2,8 +2,32 @@
 
 use alone_reports::is_as_alone;
 use call_endings::Turns;
-use program_runs::{Ended, Program, Ran, run};
+use program_runs::{Program, Ran, run};
 use std::alloc::{AllocError, Global};
+
+/// Whether one transaction at a time gives what a run of this plan printed.
+pub fn is_run_as_alone(alloc: Global, plan: &[u8], ran: &Ran) -> Result<bool, AllocError> {
+    is_as_alone(alloc, plan, &ran.ended.journal, ran.printed())
+}
+
+/// The turns of a run, if it took any and is as one at a time.
+fn taken(ran: Ran, is_so: bool) -> Option<Turns> {
+    if is_so && !ran.ended.turns.is_empty() {
+        Some(ran.into_turns())
+    } else {
+        None
+    }
+}
+
+fn turns_of_plan(
+    alloc: Global,
+    program: &Program,
+    plan: &[u8],
+) -> Result<Option<Turns>, AllocError> {
+    let ran = run(alloc, program, "replay", plan)?;
+    let is_so = is_run_as_alone(alloc, plan, &ran)?;
+    Ok(taken(ran, is_so))
+}
 
 /// Whose turns the run of the plan of these lines took, of which the first comes before all others; none where no turn was
 /// taken, or one at a time gives something else.
@@ -13,23 +37,6 @@ pub fn turns_as_alone(
     first: &str,
     others: &str,
 ) -> Result<Option<Turns>, AllocError> {
-    let text = format!(in alloc; "{first}\n{others}")?;
-    let plan = text.as_str().as_bytes();
-    let ran = run(alloc, program, "replay", plan)?;
-    let is_so = is_as_alone(alloc, plan, &ran.ended.journal, ran.sink.held())?;
-    let Ran {
-        ended,
-        source: _source,
-        sink: _sink,
-    } = ran;
-    let Ended {
-        status: _status,
-        turns,
-        journal: _journal,
-    } = ended;
-    if is_so && !turns.is_empty() {
-        Ok(Some(turns))
-    } else {
-        Ok(None)
-    }
+    let plan = format!(in alloc; "{first}\n{others}")?;
+    turns_of_plan(alloc, program, plan.as_str().as_bytes())
 }

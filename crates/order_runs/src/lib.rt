@@ -5,8 +5,7 @@
 mod as_alone;
 mod losses;
 mod orders;
+mod runs;
 mod workers;
 
-pub use losses::run_loss_files;
-pub use orders::run_order_files;
-pub use workers::{run_meeting_files, run_worker_files};
+pub use runs::{Runs, run_files};

@@ -2,11 +2,10 @@
 
 use crate::as_alone::turns_as_alone;
 use call_endings::Turn;
-use program_runs::{Program, names_in, text_in};
+use program_runs::Program;
 use script_text::Actor;
 use std::alloc::{AllocError, Global};
 use std::io;
-use std::rt::Files;
 
 /// The actors of the plan.
 const ACTORS: [&str; 6] = ["insp", "copy", "apply", "lock", "ren", "c1"];
@@ -36,6 +35,17 @@ fn turns_of(actor: Actor, turns: &[Turn]) -> usize {
     turns.iter().filter(|turn| turn.actor == actor).count()
 }
 
+/// Whether the run of a plan with a loss is as one at a time.
+fn is_lost_as_alone(
+    alloc: Global,
+    program: &Program,
+    plan: &str,
+    loss: &str,
+) -> Result<bool, AllocError> {
+    let faults = format!(in alloc; "faults = [\"{loss}\"]")?;
+    Ok(turns_as_alone(alloc, program, faults.as_str(), plan)?.is_some())
+}
+
 /// Runs a plan with a loss, and counts it.
 fn run_loss<R: Print + AllocGlobal>(
     rt: &R,
@@ -44,13 +54,34 @@ fn run_loss<R: Print + AllocGlobal>(
     loss: &str,
     count: &mut Count,
 ) -> io::Result<()> {
-    let faults = format!(in rt.alloc(); "faults = [\"{loss}\"]")?;
     count.losses = count.losses.saturating_add(1);
-    if turns_as_alone(rt.alloc(), program, faults.as_str(), plan)?.is_some() {
+    if is_lost_as_alone(rt.alloc(), program, plan, loss)? {
         count.as_alone = count.as_alone.saturating_add(1);
         Ok(())
     } else {
         println!(rt; "loss {loss} is not")
+    }
+}
+
+/// Runs a plan with an actor's session lost at its turn of this number, on this side of the call.
+fn run_turn_loss<R: Print + AllocGlobal>(
+    rt: &R,
+    program: &Program,
+    plan: &str,
+    turn: (&str, usize),
+    side: &str,
+    count: &mut Count,
+) -> io::Result<()> {
+    let (word, number) = turn;
+    let loss = format!(in rt.alloc(); "{word} {number} {side}")?;
+    run_loss(rt, program, plan, loss.as_str(), count)
+}
+
+/// How many of the turns up to this place are this actor's.
+fn number_at(actor: Actor, turns: &[Turn], place: usize) -> usize {
+    match turns.get(..place) {
+        Some(so_far) => turns_of(actor, so_far),
+        None => 0,
     }
 }
 
@@ -65,26 +96,9 @@ fn run_turn_losses<R: Print + AllocGlobal>(
     let mut place = 0usize;
     for turn in turns {
         place = place.saturating_add(1);
-        let word = word_of(turn.actor);
-        let number = match turns.get(..place) {
-            Some(so_far) => turns_of(turn.actor, so_far),
-            None => 0,
-        };
-        let alloc = rt.alloc();
-        run_loss(
-            rt,
-            program,
-            plan,
-            format!(in alloc; "{word} {number} before")?.as_str(),
-            count,
-        )?;
-        run_loss(
-            rt,
-            program,
-            plan,
-            format!(in alloc; "{word} {number} after")?.as_str(),
-            count,
-        )?;
+        let lost = (word_of(turn.actor), number_at(turn.actor, turns, place));
+        run_turn_loss(rt, program, plan, lost, "before", count)?;
+        run_turn_loss(rt, program, plan, lost, "after", count)?;
     }
     Ok(())
 }
@@ -123,7 +137,7 @@ fn run_losses<R: Print + AllocGlobal>(
 }
 
 /// Runs a plan, and then with each single loss that its run could meet, and says of how many the run is as one at a time.
-fn run_plan<R: Print + AllocGlobal>(
+pub fn run_with_losses<R: Print + AllocGlobal>(
     rt: &R,
     program: &Program,
     name: &str,
@@ -137,13 +151,4 @@ fn run_plan<R: Print + AllocGlobal>(
         "{name}: {} of {} losses are as one at a time",
         count.as_alone, count.losses
     )
-}
-
-/// Runs each plan of the folder `losses` with its losses.
-pub fn run_loss_files<R: Print + AllocGlobal + Files>(rt: &R, program: &Program) -> io::Result<()> {
-    let names = names_in(rt, "losses")?;
-    for name in names.lines() {
-        run_plan(rt, program, name, text_in(rt, "losses", name)?.as_str())?;
-    }
-    Ok(())
 }

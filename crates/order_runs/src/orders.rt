@@ -4,10 +4,9 @@ ghost use Rattle.std.specs.Prelude.{◌<◌};
 
 use crate::as_alone::turns_as_alone;
 use call_endings::{Turn, Turns};
-use program_runs::{Program, names_in, text_in};
+use program_runs::Program;
 use std::alloc::{AllocError, Global};
 use std::io;
-use std::rt::Files;
 
 /// How many orders each plan is run in.
 const ORDERS: u64 = 200;
@@ -42,14 +41,20 @@ impl Draws {
     }
 }
 
+/// Adds an actor that is drawn, with one to three turns.
+fn push_turns(alloc: Global, draws: &mut Draws, line: &mut String) -> Result<(), AllocError> {
+    let actor = ACTORS[draws.next(8) as usize];
+    let times = draws.next(3) + 1;
+    let turns = format!(in alloc; " {actor}*{times}")?;
+    line.push_str(turns.as_str())
+}
+
 /// The line of a plan that asks for the order of this number: each actor that is drawn has one to three turns.
 fn order_line(alloc: Global, number: u64) -> Result<String, AllocError> {
     let mut draws = Draws::new(number);
     let mut line = format!(in alloc; "turns = \"insp")?;
     for _ in 0..WORDS {
-        let actor = ACTORS[draws.next(8) as usize];
-        let times = draws.next(3) + 1;
-        line.push_str(format!(in alloc; " {actor}*{times}")?.as_str())?;
+        push_turns(alloc, &mut draws, &mut line)?;
     }
     line.push_str("\"")?;
     Ok(line)
@@ -71,8 +76,47 @@ fn is_new(earlier: &[Turns], turns: &[Turn]) -> bool {
         .any(|others| are_the_same(others.as_slice(), turns))
 }
 
+/// The turns of a plan's run in the order of this number, if it is as one at a time.
+fn turns_in_order(
+    alloc: Global,
+    program: &Program,
+    plan: &str,
+    number: u64,
+) -> Result<Option<Turns>, AllocError> {
+    let line = order_line(alloc, number)?;
+    turns_as_alone(alloc, program, line.as_str(), plan)
+}
+
+/// Keeps the turns that are unlike all of the earlier ones; whether they are.
+fn keep_new(earlier: &mut Vec<Turns>, turns: Option<Turns>) -> Result<bool, AllocError> {
+    match turns {
+        Some(turns) if is_new(earlier.as_slice(), turns.as_slice()) => {
+            earlier.push(turns)?;
+            Ok(true)
+        }
+        _ => Ok(false),
+    }
+}
+
+/// Runs a plan in the order of this number, and says so where it isn't as one at a time, or is one of the earlier ones.
+fn run_order<R: Print + AllocGlobal>(
+    rt: &R,
+    program: &Program,
+    name: &str,
+    plan: &str,
+    number: u64,
+    earlier: &mut Vec<Turns>,
+) -> io::Result<()> {
+    let turns = turns_in_order(rt.alloc(), program, plan, number)?;
+    if keep_new(earlier, turns)? {
+        Ok(())
+    } else {
+        println!(rt; "{name}: order {number} is not")
+    }
+}
+
 /// Runs a plan in the orders, and counts those that are as one at a time, each unlike all before it.
-fn run_orders<R: Print + AllocGlobal>(
+fn count_orders<R: Print + AllocGlobal>(
     rt: &R,
     program: &Program,
     name: &str,
@@ -80,29 +124,18 @@ fn run_orders<R: Print + AllocGlobal>(
 ) -> io::Result<u64> {
     let mut earlier: Vec<Turns> = Vec::new(rt.alloc());
     for number in 1..=ORDERS {
-        match turns_as_alone(
-            rt.alloc(),
-            program,
-            order_line(rt.alloc(), number)?.as_str(),
-            plan,
-        )? {
-            Some(turns) if is_new(earlier.as_slice(), turns.as_slice()) => earlier.push(turns)?,
-            _ => println!(rt; "{name}: order {number} is not")?,
-        }
+        run_order(rt, program, name, plan, number, &mut earlier)?;
     }
     Ok(earlier.len() as u64)
 }
 
-/// Runs each plan of the folder `orders` in the orders.
-pub fn run_order_files<R: Print + AllocGlobal + Files>(
+/// Runs a plan in the orders, and says of how many the run is as one at a time.
+pub fn run_in_orders<R: Print + AllocGlobal>(
     rt: &R,
     program: &Program,
+    name: &str,
+    plan: &str,
 ) -> io::Result<()> {
-    let names = names_in(rt, "orders")?;
-    for name in names.lines() {
-        let plan = text_in(rt, "orders", name)?;
-        let count = run_orders(rt, program, name, plan.as_str())?;
-        println!(rt; "{name}: {count} of {ORDERS} orders are as one at a time")?;
-    }
-    Ok(())
+    let count = count_orders(rt, program, name, plan)?;
+    println!(rt; "{name}: {count} of {ORDERS} orders are as one at a time")
 }

@@ -22,7 +22,7 @@
 use case_runs::{Asked, run_case_files};
 use command_words::Line;
 use gho_edges::{BytesSink, BytesSource};
-use order_runs::{run_loss_files, run_meeting_files, run_order_files, run_worker_files};
+use order_runs::{Runs, run_files};
 use program_runs::{Call, Ended, Meeting, Program};
 use std::io;
 use whole_host::ghost_;
@@ -45,10 +45,10 @@ fn main(rt: HostRuntime) -> io::Result<()> {
     )?;
     let program = Program::new(call);
     run_case_files(&rt, &program, "cases", Asked::Prints)?;
-    run_order_files(&rt, &program)?;
-    run_loss_files(&rt, &program)?;
-    run_worker_files(&rt, &program)?;
-    run_meeting_files(&rt, &program)?;
+    run_files(&rt, &program, Runs::Orders)?;
+    run_files(&rt, &program, Runs::Losses)?;
+    run_files(&rt, &program, Runs::Workers)?;
+    run_files(&rt, &program, Runs::Meetings)?;
     run_case_files(&rt, &program, "meeting_clients", Asked::HasLines)?;
     run_case_files(&rt, &program, "altered_reports", Asked::TellsReport)?;
     run_case_files(&rt, &program, "other_plans", Asked::TellsPlan)?;

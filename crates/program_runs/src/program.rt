@@ -7,7 +7,6 @@ use gho_edges::{BytesSink, BytesSource};
 use plain_server::Journal;
 
 /// How a call of the program ended.
-#[derive(Drop)]
 pub struct Ended {
     /// The number of its status.
     pub status: u8,
@@ -15,6 +14,31 @@ pub struct Ended {
     pub turns: Turns,
     /// The turns of its run, as the run kept them.
     pub journal: Journal,
+}
+
+impl Drop for Ended {
+    fn drop(self) {
+        let Ended {
+            status: _,
+            turns,
+            journal,
+        } = self;
+        drop(turns);
+        drop(journal);
+    }
+}
+
+impl Ended {
+    /// Whose turns its run took, in order.
+    pub fn into_turns(self) -> Turns {
+        let Ended {
+            status: _,
+            turns,
+            journal,
+        } = self;
+        drop(journal);
+        turns
+    }
 }
 
 /// Does what words ask for, of a plan that a source has, gives a text to a sink, and says how it ended. The gate is told of each

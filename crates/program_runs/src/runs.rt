@@ -2,6 +2,7 @@
 
 use crate::meeting::Meeting;
 use crate::program::{Ended, Program};
+use call_endings::Turns;
 use command_words::Line;
 use gho_edges::{BytesSink, BytesSource};
 use std::alloc::{AllocError, Global};
@@ -22,7 +23,6 @@ pub const SOUND: Edges = Edges {
 };
 
 /// How a call ended, and what it left.
-#[derive(Drop)]
 pub struct Ran {
     /// How it ended.
     pub ended: Ended,
@@ -30,6 +30,38 @@ pub struct Ran {
     pub source: BytesSource,
     /// The sink, which holds what was printed.
     pub sink: BytesSink,
+}
+
+impl Drop for Ran {
+    fn drop(self) {
+        let Ran {
+            ended,
+            source,
+            sink,
+        } = self;
+        drop(ended);
+        drop(source);
+        drop(sink);
+    }
+}
+
+impl Ran {
+    /// What was printed.
+    pub fn printed(&self) -> &[u8] {
+        self.sink.held()
+    }
+
+    /// Whose turns its run took, in order.
+    pub fn into_turns(self) -> Turns {
+        let Ran {
+            ended,
+            source,
+            sink,
+        } = self;
+        drop(source);
+        drop(sink);
+        ended.into_turns()
+    }
 }
 
 /// The words of a command line, which have one blank between them.
