@@ -48,6 +48,21 @@ impl Book for Score {
     ghost stays_over = { λ limit before after over. Prim.omega (arith, length-append before after) };
 }
 
+// Takes six turns, and says what each was answered.
+fn six_turns<B: Book, R: Wait>(rt: &R, desk: &Desk<B>, pass: &mut Pass<B>) -> [Turned; 6]
+    requires { IsPassOf desk.now pass.old }
+    ensures { IsPassOf desk.now pass.new }
+{
+    [
+        desk.turn(rt, pass),
+        desk.turn(rt, pass),
+        desk.turn(rt, pass),
+        desk.turn(rt, pass),
+        desk.turn(rt, pass),
+        desk.turn(rt, pass),
+    ]
+}
+
 #[test]
 fn memory_is_short_at_the_fifth_turn(rt: HostRuntime) -> Result<(), Fail> {
     let book = Score {
@@ -56,16 +71,19 @@ fn memory_is_short_at_the_fifth_turn(rt: HostRuntime) -> Result<(), Fail> {
         entries: Vec::new(rt.alloc()),
     };
     let (desk, mut passes) = Desk::open(rt.alloc(), book, 1)?;
-    let before = [
-        desk.turn(&rt, &mut passes[0]),
-        desk.turn(&rt, &mut passes[0]),
-        desk.turn(&rt, &mut passes[0]),
-        desk.turn(&rt, &mut passes[0]),
-    ];
-    assert_eq!(rt; before, [Turned::Took; 4]);
-    assert_eq!(rt; desk.turn(&rt, &mut passes[0]), Turned::NoMemory);
-    assert_eq!(rt; desk.turn(&rt, &mut passes[0]), Turned::Took);
+    let turned = six_turns(&rt, &desk, &mut passes[0]);
     let book = desk.close(passes);
+    assert_eq!(rt;
+        turned,
+        [
+            Turned::Took,
+            Turned::Took,
+            Turned::Took,
+            Turned::Took,
+            Turned::NoMemory,
+            Turned::Took,
+        ]
+    );
     assert_eq!(rt; book.entries.len(), 5);
     Ok(())
 }
@@ -108,6 +126,14 @@ fn work_all<B: Book + Send, R: Threads + Wait + Sync>(
     taken.load(Ordering::SeqCst)
 }
 
+// Whether each turn has its own place.
+fn are_in_order(entries: &[Entry<usize>]) -> bool {
+    entries
+        .iter()
+        .enumerate()
+        .all(|(place, entry)| entry.event == place)
+}
+
 #[test]
 fn four_threads_take_a_thousand_turns(rt: HostRuntime) -> Result<(), Fail> {
     let book = Score {
@@ -118,13 +144,8 @@ fn four_threads_take_a_thousand_turns(rt: HostRuntime) -> Result<(), Fail> {
     let (desk, mut passes) = Desk::open(rt.alloc(), book, WORKERS as u32)?;
     assert_eq!(rt; work_all(&rt, &desk, passes.as_mut_slice()), 1000);
     let book = desk.close(passes);
-    let places: Vec<usize> = book
-        .entries
-        .iter()
-        .map(|entry| entry.event)
-        .collect(rt.alloc())?;
-    let all: Vec<usize> = (0..1000).collect(rt.alloc())?;
-    assert_eq!(rt; places.as_slice(), all.as_slice());
+    assert_eq!(rt; book.entries.len(), 1000);
+    assert!(rt; are_in_order(book.entries.as_slice()));
     assert!(rt; book.entries.iter().all(|entry| entry.worker < 4));
     Ok(())
 }

@@ -45,18 +45,30 @@ impl<K: Sink> Sink for OneByte<K> {
     }
 }
 
+/// Whether a source that fails at its third byte is not read, and how often it failed.
+fn failing_source_is_refused(alloc: Global) -> Result<(bool, u64), AllocError> {
+    let mut source = OneByte(text_source(alloc, Some(3))?);
+    let is_refused = matches!(
+        read_whole(alloc, &mut source, LIMIT),
+        Err(ReadFault::Source)
+    );
+    Ok((is_refused, source.0.faults()))
+}
+
 #[test]
 fn a_source_of_single_bytes_is_read_whole(rt: HostRuntime) -> Result<(), Fail> {
     let mut source = OneByte(text_source(rt.alloc(), None)?);
-    assert_eq!(rt;
-        read_whole(rt.alloc(), &mut source, LIMIT)?.as_slice(),
-        TEXT
-    );
-    let mut source = OneByte(text_source(rt.alloc(), Some(3))?);
-    let read = read_whole(rt.alloc(), &mut source, LIMIT);
-    assert!(rt; matches!(read, Err(ReadFault::Source)));
-    assert_eq!(rt; source.0.faults(), 1);
+    let read = read_whole(rt.alloc(), &mut source, LIMIT)?;
+    assert_eq!(rt; read.as_slice(), TEXT);
+    assert_eq!(rt; failing_source_is_refused(rt.alloc())?, (true, 1));
     Ok(())
+}
+
+/// How many bytes are read of a source of so many, and what is left in it.
+fn read_of(alloc: Global, len: usize) -> Result<(usize, Took), ReadFault> {
+    let mut source = BytesSource::new(vec![in alloc; 7u8; len]?, None);
+    let read = read_whole(alloc, &mut source, LIMIT)?.len();
+    Ok((read, source.take(&mut [0; 2])))
 }
 
 #[test]
@@ -66,13 +78,7 @@ fn reading_stops_one_byte_past_the_limit(rt: HostRuntime) -> Result<(), Fail> {
         (20_001, 20_001, Took::End),
         (20_002, 20_001, Took::Some(1)),
     ] {
-        let mut source = BytesSource::new(vec![in rt.alloc(); 7u8; len]?, None);
-        assert_eq!(rt;
-            read_whole(rt.alloc(), &mut source, LIMIT)?.len(),
-            read,
-            "of {len}"
-        );
-        assert_eq!(rt; source.take(&mut [0; 2]), left, "of {len}");
+        assert_eq!(rt; read_of(rt.alloc(), len)?, (read, left), "of {len}");
     }
     Ok(())
 }
@@ -132,47 +138,71 @@ impl Write for Shaky<'_> {
     }
 }
 
-#[test]
-fn readers_of_std_are_sources(rt: HostRuntime) -> Result<(), Fail> {
+/// What a source over the text takes in pieces of four bytes, with what stands in the buffer behind each.
+fn taken_of_text() -> ([Took; 3], [[u8; 4]; 2]) {
     let mut source = StdSource::new(TEXT);
     let mut buffer = [b'-'; 4];
-    assert_eq!(rt; source.take(&mut buffer), Took::Some(4));
-    assert_eq!(rt; buffer.as_slice(), b"plan".as_slice());
-    assert_eq!(rt; source.take(&mut buffer), Took::Some(1));
-    assert_eq!(rt; buffer.as_slice(), b".lan".as_slice());
-    assert_eq!(rt; source.take(&mut buffer), Took::End);
+    let first = source.take(&mut buffer);
+    let full = buffer;
+    let second = source.take(&mut buffer);
+    let last = buffer;
+    ([first, second, source.take(&mut buffer)], [full, last])
+}
+
+/// What a source over a reader that is interrupted and then breaks takes.
+fn taken_of_shaky() -> [Took; 2] {
+    let mut source = StdSource::new(Shaky {
+        bytes: b"p",
+        is_interrupted: false,
+    });
+    let mut buffer = [b'-'; 4];
+    [source.take(&mut buffer), source.take(&mut buffer)]
+}
+
+#[test]
+fn readers_of_std_are_sources(rt: HostRuntime) -> Result<(), Fail> {
+    let (took, stood) = taken_of_text();
+    assert_eq!(rt; took, [Took::Some(4), Took::Some(1), Took::End]);
+    assert_eq!(rt; stood, [*b"plan", *b".lan"]);
+    assert_eq!(rt; taken_of_shaky(), [Took::Some(1), Took::Failed]);
     let mut source = StdSource::new(Cursor::new(TEXT));
     assert_eq!(rt;
         read_whole(rt.alloc(), &mut source, LIMIT)?.as_slice(),
         TEXT
     );
-    let mut source = StdSource::new(Shaky {
-        bytes: b"p",
-        is_interrupted: false,
-    });
-    assert_eq!(rt; source.take(&mut buffer), Took::Some(1));
-    assert_eq!(rt; source.take(&mut buffer), Took::Failed);
     Ok(())
 }
 
-#[test]
-fn writers_of_std_are_sinks(rt: HostRuntime) {
-    let mut written = Vec::new(rt.alloc());
-    let mut sink = StdSink::new(&mut written);
-    assert_eq!(rt; sink.give(b"pl"), Gave::Some(2));
-    assert_eq!(rt; sink.give(b""), Gave::Some(0));
-    assert!(rt; give_whole(&mut sink, b"an.").is_ok());
-    assert_eq!(rt; written.as_slice(), TEXT);
-    // A writer that is full takes nothing.
+/// What a sink over a buffer of two bytes gives of the text, twice, and what stands in it. A writer that is full takes nothing.
+fn given_to_two() -> ([Gave; 2], [u8; 2]) {
     let mut room = [0; 2];
     let mut sink = StdSink::new(room.as_mut_slice());
-    assert_eq!(rt; sink.give(TEXT), Gave::Some(2));
-    assert_eq!(rt; sink.give(TEXT), Gave::Failed);
-    assert_eq!(rt; room.as_slice(), b"pl".as_slice());
+    let gave = [sink.give(TEXT), sink.give(TEXT)];
+    (gave, room)
+}
+
+/// What a sink over a writer that is interrupted and then breaks gives.
+fn given_to_shaky() -> [Gave; 2] {
     let mut sink = StdSink::new(Shaky {
         bytes: b"p",
         is_interrupted: false,
     });
-    assert_eq!(rt; sink.give(TEXT), Gave::Some(1));
-    assert_eq!(rt; sink.give(TEXT), Gave::Failed);
+    [sink.give(TEXT), sink.give(TEXT)]
+}
+
+/// What a sink over a vector gives of two letters and of nothing, and whether it gives the rest of the text.
+fn given_to_vector(written: &mut Vec<u8>) -> ([Gave; 2], bool) {
+    let mut sink = StdSink::new(written);
+    let gave = [sink.give(b"pl"), sink.give(b"")];
+    (gave, give_whole(&mut sink, b"an.").is_ok())
+}
+
+#[test]
+fn writers_of_std_are_sinks(rt: HostRuntime) {
+    assert_eq!(rt; given_to_two(), ([Gave::Some(2), Gave::Failed], *b"pl"));
+    assert_eq!(rt; given_to_shaky(), [Gave::Some(1), Gave::Failed]);
+    let mut written = Vec::new(rt.alloc());
+    let given = given_to_vector(&mut written);
+    assert_eq!(rt; given, ([Gave::Some(2), Gave::Some(0)], true));
+    assert_eq!(rt; written.as_slice(), TEXT);
 }
