@@ -1,6 +1,6 @@
 //! Texts of CREATE TABLE.
 
-use case_lines::CallFault;
+use case_lines::{CallFault, text_of};
 use gho_values::Text;
 use gho_values::gho_schema::Schema;
 use schema_print::print_schema;
@@ -25,24 +25,33 @@ fn items_of(alloc: Global, items: &str) -> Result<Text, AllocError> {
     Ok(text)
 }
 
+fn told_schema(alloc: Global, schema: &Schema) -> Result<Text, CallFault> {
+    let mut told = Text::new(alloc);
+    print_schema(schema, &mut told)?;
+    Ok(told)
+}
+
+fn told_number(alloc: Global, number: u16) -> Result<Text, CallFault> {
+    let mut told = Text::new(alloc);
+    told.push_number(i128::from(number))?;
+    Ok(told)
+}
+
 /// The schema's text, or the refusal's number.
 fn told(alloc: Global, text: &str) -> Result<Text, CallFault> {
-    let mut told = Text::new(alloc);
     match schema_of(alloc, text)? {
-        Ok(schema) => print_schema(&schema, &mut told)?,
-        Err(number) => told.push_number(i128::from(number))?,
+        Ok(schema) => told_schema(alloc, &schema),
+        Err(number) => told_number(alloc, number),
     }
-    Ok(told)
 }
 
 /// Whether the items are taken, or the refusal's number.
 fn taken(alloc: Global, items: &str) -> Result<Text, CallFault> {
-    let mut told = Text::new(alloc);
-    match schema_of(alloc, items_of(alloc, items)?.as_str())? {
-        Ok(_) => told.push_str("taken")?,
-        Err(number) => told.push_number(i128::from(number))?,
+    let text = items_of(alloc, items)?;
+    match schema_of(alloc, text.as_str())? {
+        Ok(_) => text_of(alloc, "taken"),
+        Err(number) => told_number(alloc, number),
     }
-    Ok(told)
 }
 
 /// The answer of a call about schemas.

@@ -4,10 +4,11 @@ use case_lines::CallFault;
 use gho_values::{Name, Text};
 use script_reader::{ScriptFault, ScriptRefusal, read_script};
 use script_text::Script;
-use std::alloc::{AllocError, Global};
+use std::alloc::Global;
+use std::slice;
 
 /// How many lines ask for something, and the number of the last of them.
-fn told_script(alloc: Global, script: &Script) -> Result<Text, AllocError> {
+fn told_script(alloc: Global, script: &Script) -> Result<Text, CallFault> {
     match script.as_slice().last() {
         Some(last) => two_numbers(alloc, script.len(), " lines to line ", last.line),
         None => two_numbers(alloc, script.len(), " lines to line ", 0),
@@ -15,7 +16,7 @@ fn told_script(alloc: Global, script: &Script) -> Result<Text, AllocError> {
 }
 
 /// The refusal's number and its line.
-fn told_refusal(alloc: Global, refusal: ScriptRefusal) -> Result<Text, AllocError> {
+fn told_refusal(alloc: Global, refusal: ScriptRefusal) -> Result<Text, CallFault> {
     two_numbers(
         alloc,
         refusal.code.number() as usize,
@@ -24,7 +25,7 @@ fn told_refusal(alloc: Global, refusal: ScriptRefusal) -> Result<Text, AllocErro
     )
 }
 
-fn two_numbers(alloc: Global, first: usize, between: &str, last: u32) -> Result<Text, AllocError> {
+fn two_numbers(alloc: Global, first: usize, between: &str, last: u32) -> Result<Text, CallFault> {
     let mut told = Text::new(alloc);
     told.push_number(first as i128)?;
     told.push_str(between)?;
@@ -35,9 +36,9 @@ fn two_numbers(alloc: Global, first: usize, between: &str, last: u32) -> Result<
 /// What a script has, or its first refusal.
 pub fn answer(alloc: Global, text: &str) -> Result<Text, CallFault> {
     let tool = Name::new(alloc, "_t_gho")?;
-    match read_script(alloc, text, &[tool]) {
-        Ok(script) => Ok(told_script(alloc, &script)?),
-        Err(ScriptFault::Refused(refusal)) => Ok(told_refusal(alloc, refusal)?),
+    match read_script(alloc, text, slice::from_ref(&tool)) {
+        Ok(script) => told_script(alloc, &script),
+        Err(ScriptFault::Refused(refusal)) => told_refusal(alloc, refusal),
         Err(ScriptFault::Memory) => Err(CallFault::Memory),
     }
 }

@@ -3,10 +3,10 @@
 use case_lines::{CallFault, say, text_of};
 use gho_values::{Sequence, Text, Value, print_value};
 use sql_words::{Word, WordFault, Words, words};
-use std::alloc::{AllocError, Global};
+use std::alloc::Global;
 
 /// The words, each as its class, its place and its text.
-fn told_words(alloc: Global, words: &Words<'_>) -> Result<Text, AllocError> {
+fn told_words(alloc: Global, words: &Words<'_>) -> Result<Text, CallFault> {
     let mut told = Text::new(alloc);
     for word in words.as_slice() {
         let piece = format!(in alloc; "{:?} {} {}", word.class, word.place, word.text)?;
@@ -15,18 +15,25 @@ fn told_words(alloc: Global, words: &Words<'_>) -> Result<Text, AllocError> {
     Ok(told)
 }
 
-/// The words of a text, or its first fault and where it stands.
-fn cut(alloc: Global, text: &str) -> Result<Text, CallFault> {
-    let (fault, place) = match words(alloc, text) {
-        Ok(words) => return Ok(told_words(alloc, &words)?),
-        Err(WordFault::Unclosed { place }) => ("unclosed at ", place),
-        Err(WordFault::Odd { place }) => ("odd at ", place),
-        Err(WordFault::TooLong { place }) => ("too long at ", place),
-        Err(WordFault::Memory) => return Err(CallFault::Memory),
+/// A fault, and where it stands.
+fn told_fault(alloc: Global, fault: &WordFault) -> Result<Text, CallFault> {
+    let (word, place) = match fault {
+        WordFault::Unclosed { place } => ("unclosed at ", *place),
+        WordFault::Odd { place } => ("odd at ", *place),
+        WordFault::TooLong { place } => ("too long at ", *place),
+        WordFault::Memory => return Err(CallFault::Memory),
     };
-    let mut told = text_of(alloc, fault)?;
+    let mut told = text_of(alloc, word)?;
     told.push_number(place as i128)?;
     Ok(told)
+}
+
+/// The words of a text, or its first fault.
+fn cut(alloc: Global, text: &str) -> Result<Text, CallFault> {
+    match words(alloc, text) {
+        Ok(words) => told_words(alloc, &words),
+        Err(fault) => told_fault(alloc, &fault),
+    }
 }
 
 /// The literal of what the word stands for, if it is a text, bytes or a number.
@@ -63,15 +70,23 @@ fn written(alloc: Global, word: &Word<'_>) -> Result<Text, CallFault> {
     Ok(told)
 }
 
+/// The answer of a call about the words, of which there must be one.
+fn answer_of(alloc: Global, call: &str, words: &[Word<'_>]) -> Result<Text, CallFault> {
+    let [word] = words else {
+        return Err(CallFault::Unread);
+    };
+    match call {
+        "value" => value(alloc, word),
+        "written" => written(alloc, word),
+        _ => Err(CallFault::Unread),
+    }
+}
+
 /// The answer of a call about words.
 pub fn answer(alloc: Global, call: &str, input: &str) -> Result<Text, CallFault> {
     if call == "cut" {
         return cut(alloc, input);
     }
     let words = words(alloc, input).map_err(|_| CallFault::Unread)?;
-    match (call, words.as_slice()) {
-        ("value", [word]) => value(alloc, word),
-        ("written", [word]) => written(alloc, word),
-        _ => Err(CallFault::Unread),
-    }
+    answer_of(alloc, call, words.as_slice())
 }
