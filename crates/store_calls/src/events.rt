@@ -36,41 +36,56 @@ fn is_same(reread: &Reencoded, bytes: &[u8]) -> bool {
     reread.taken == bytes.len() && reread.cost == bytes.len() as u64 && encoded == bytes
 }
 
-fn told_event(alloc: Global, event: &RowEvent) -> Result<Text, AllocError> {
-    let mut told = Text::new(alloc);
-    match &event.change {
+fn push_change(told: &mut Text, change: &Change) -> Result<(), AllocError> {
+    match change {
         Change::Write(row) => {
             told.push_str("write ")?;
-            print_row(row.as_slice(), &mut told)?;
+            print_row(row.as_slice(), told)
         }
         Change::Update(before, after) => {
             told.push_str("update ")?;
-            print_row(before.as_slice(), &mut told)?;
-            print_row(after.as_slice(), &mut told)?;
+            print_row(before.as_slice(), told)?;
+            print_row(after.as_slice(), told)
         }
         Change::Delete(row) => {
             told.push_str("delete ")?;
-            print_row(row.as_slice(), &mut told)?;
+            print_row(row.as_slice(), told)
         }
     }
+}
+
+fn told_event(alloc: Global, event: &RowEvent) -> Result<Text, CallFault> {
+    let mut told = Text::new(alloc);
+    push_change(&mut told, &event.change)?;
     told.push_str(" of ")?;
     told.push_str(event.table.as_str())?;
     Ok(told)
 }
 
+/// The event that was read of bytes, if they are its encoding.
+fn told_reread(alloc: Global, reread: &Reencoded, bytes: &[u8]) -> Result<Text, CallFault> {
+    if is_same(reread, bytes) {
+        told_event(alloc, &reread.event)
+    } else {
+        text_of(alloc, "is encoded otherwise")
+    }
+}
+
+fn told_fault(alloc: Global, fault: DecodeFault) -> Result<Text, CallFault> {
+    match fault {
+        DecodeFault::Cut => text_of(alloc, "cut"),
+        DecodeFault::BadTag => text_of(alloc, "bad tag"),
+        DecodeFault::BadLength => text_of(alloc, "bad length"),
+        DecodeFault::BadValue => text_of(alloc, "bad value"),
+        DecodeFault::Memory => Err(CallFault::Memory),
+    }
+}
+
 /// The event of bytes that are its encoding, or the fault of others.
 pub fn decoded(alloc: Global, input: &str) -> Result<Text, CallFault> {
     let bytes = bytes_of(alloc, input)?;
-    let word = match reencode(alloc, bytes.as_slice()) {
-        Ok(event) if is_same(&event, bytes.as_slice()) => {
-            return Ok(told_event(alloc, &event.event)?);
-        }
-        Ok(_) => "is encoded otherwise",
-        Err(DecodeFault::Cut) => "cut",
-        Err(DecodeFault::BadTag) => "bad tag",
-        Err(DecodeFault::BadLength) => "bad length",
-        Err(DecodeFault::BadValue) => "bad value",
-        Err(DecodeFault::Memory) => return Err(CallFault::Memory),
-    };
-    text_of(alloc, word)
+    match reencode(alloc, bytes.as_slice()) {
+        Ok(reread) => told_reread(alloc, &reread, bytes.as_slice()),
+        Err(fault) => told_fault(alloc, fault),
+    }
 }

@@ -29,18 +29,15 @@ fn schema_of(alloc: Global, text: &str) -> Result<Schema, CallFault> {
 }
 
 /// Says the rows that both have.
-fn say_rows(
-    told: &mut Text,
-    paged: SpanRows<'_>,
-    listed: ListedRows<'_>,
-) -> Result<(), AllocError> {
+fn say_rows(told: &mut Text, paged: SpanRows<'_>, listed: ListedRows<'_>) -> Result<(), CallFault> {
     say(told, "")?;
     let mut others = listed;
     for row in paged {
         print_row(row.as_slice(), told)?;
         say_difference(told, are_same(Some(row), others.next()))?;
     }
-    say_difference(told, others.next().is_none())
+    say_difference(told, others.next().is_none())?;
+    Ok(())
 }
 
 /// Puts a row into the list, where none has its key; whether it did.
@@ -75,6 +72,18 @@ fn put(alloc: Global, both: &mut BothTables, row: Row, told: &mut Text) -> Resul
     say_difference(told, is_put == is_listed)
 }
 
+/// Puts the row of a text.
+fn put_read(
+    alloc: Global,
+    both: &mut BothTables,
+    input: &str,
+    told: &mut Text,
+) -> Result<(), CallFault> {
+    let row = row_of(alloc, input)?;
+    put(alloc, both, row, told)?;
+    Ok(())
+}
+
 /// Puts rows of two equal numbers, as `1 65`: from the first to below the last.
 fn put_rising(
     alloc: Global,
@@ -92,6 +101,13 @@ fn put_rising(
     Ok(())
 }
 
+/// Says the row of a key.
+fn get(alloc: Global, both: &BothTables, input: &str, told: &mut Text) -> Result<(), CallFault> {
+    let key = row_of(alloc, input)?;
+    say_found(told, both.paged.get(&key), both.listed.get(&key))?;
+    Ok(())
+}
+
 /// What clashes with a row, as `3, 5`, besides the row of a key, as `3, 5 besides 2`.
 fn clash(alloc: Global, both: &BothTables, input: &str, told: &mut Text) -> Result<(), CallFault> {
     let (row, besides) = match input.split_once(" besides ") {
@@ -105,14 +121,22 @@ fn clash(alloc: Global, both: &BothTables, input: &str, told: &mut Text) -> Resu
     Ok(())
 }
 
-fn say_removed(both: &mut BothTables, key: &Key, told: &mut Text) -> Result<(), AllocError> {
-    let row = both.paged.remove(key);
-    let other = both.listed.remove(key);
-    say_found(told, row.as_ref(), other.as_ref())
+/// Removes the row of a key.
+fn remove(
+    alloc: Global,
+    both: &mut BothTables,
+    input: &str,
+    told: &mut Text,
+) -> Result<(), CallFault> {
+    let key = row_of(alloc, input)?;
+    let row = both.paged.remove(&key);
+    let other = both.listed.remove(&key);
+    say_found(told, row.as_ref(), other.as_ref())?;
+    Ok(())
 }
 
 /// Says how many rows each page has.
-fn say_pages(table: &Table, told: &mut Text) -> Result<(), AllocError> {
+fn say_pages(table: &Table, told: &mut Text) -> Result<(), CallFault> {
     say(told, "")?;
     for n in 0..table.pages() {
         told.push_str(if n == 0 { "" } else { " " })?;
@@ -147,37 +171,57 @@ fn in_span_by(alloc: Global, table: &Table, input: &str, told: &mut Text) -> Res
     Ok(())
 }
 
-fn make_copies(alloc: Global, both: &mut BothTables) -> Result<(), AllocError> {
+/// Says the rows whose keys lie in a span.
+fn in_span(
+    alloc: Global,
+    both: &BothTables,
+    input: &str,
+    told: &mut Text,
+) -> Result<(), CallFault> {
+    let span = span_of(alloc, input)?;
+    say_rows(told, both.paged.in_span(&span), both.listed.in_span(&span))
+}
+
+/// Says how many rows both have.
+fn say_len(both: &BothTables, told: &mut Text) -> Result<(), CallFault> {
+    say(told, if both.paged.is_empty() { "empty " } else { "" })?;
+    told.push_number(both.paged.len() as i128)?;
+    say_difference(told, both.paged.len() == both.listed.len())?;
+    Ok(())
+}
+
+fn make_copies(alloc: Global, both: &mut BothTables) -> Result<(), CallFault> {
     both.paged = both.paged.copy_table(alloc)?;
     both.listed = both.listed.copy_table(alloc)?;
     Ok(())
 }
 
-/// What both tables answer to calls that change nothing.
-fn ask(alloc: Global, both: &BothTables, call: &str, told: &mut Text) -> Result<(), CallFault> {
-    let (word, input) = call.split_once(' ').unwrap_or((call, ""));
-    match word {
-        "get" => {
-            let key = row_of(alloc, input)?;
-            say_found(told, both.paged.get(&key), both.listed.get(&key))?;
-        }
-        "by" => by_key(alloc, &both.paged, input, told)?,
-        "clash" => clash(alloc, both, input, told)?,
-        "in" => {
-            let span = span_of(alloc, input)?;
-            say_rows(told, both.paged.in_span(&span), both.listed.in_span(&span))?;
-        }
-        "in-by" => in_span_by(alloc, &both.paged, input, told)?,
-        "rows" => say_rows(told, both.paged.rows(), both.listed.rows())?,
-        "pages" => say_pages(&both.paged, told)?,
-        "len" => {
-            say(told, if both.paged.is_empty() { "empty " } else { "" })?;
-            told.push_number(both.paged.len() as i128)?;
-            say_difference(told, both.paged.len() == both.listed.len())?;
-        }
-        _ => return Err(CallFault::Unread),
+/// What both tables answer about all their rows.
+fn ask_of_all(both: &BothTables, call: &str, told: &mut Text) -> Result<(), CallFault> {
+    match call {
+        "rows" => say_rows(told, both.paged.rows(), both.listed.rows()),
+        "pages" => say_pages(&both.paged, told),
+        "len" => say_len(both, told),
+        _ => Err(CallFault::Unread),
     }
-    Ok(())
+}
+
+/// What both tables answer to calls that change nothing.
+fn ask(
+    alloc: Global,
+    both: &BothTables,
+    call: &str,
+    input: &str,
+    told: &mut Text,
+) -> Result<(), CallFault> {
+    match call {
+        "get" => get(alloc, both, input, told),
+        "by" => by_key(alloc, &both.paged, input, told),
+        "clash" => clash(alloc, both, input, told),
+        "in" => in_span(alloc, both, input, told),
+        "in-by" => in_span_by(alloc, &both.paged, input, told),
+        _ => ask_of_all(both, call, told),
+    }
 }
 
 fn take(
@@ -188,13 +232,12 @@ fn take(
 ) -> Result<(), CallFault> {
     let (word, input) = call.split_once(' ').unwrap_or((call, ""));
     match word {
-        "put" => put(alloc, both, row_of(alloc, input)?, told)?,
-        "rising" => put_rising(alloc, both, input, told)?,
-        "remove" => say_removed(both, &row_of(alloc, input)?, told)?,
-        "copy" => make_copies(alloc, both)?,
-        _ => ask(alloc, both, call, told)?,
+        "put" => put_read(alloc, both, input, told),
+        "rising" => put_rising(alloc, both, input, told),
+        "remove" => remove(alloc, both, input, told),
+        "copy" => make_copies(alloc, both),
+        _ => ask(alloc, both, word, input, told),
     }
-    Ok(())
 }
 
 /// Both tables with the schema of a text of CREATE TABLE, and no rows.
