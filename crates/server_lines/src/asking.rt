@@ -26,7 +26,7 @@ pub fn names_of(alloc: Global, text: &str) -> Result<Names, AllocError> {
 }
 
 /// BEGIN.
-fn begin<V: Serve>(server: &mut V, session: u32) -> Result<Option<Answer>, AllocError> {
+fn begin<V: Serve>(server: &mut V, session: u32) -> Result<Option<Answer>, CallFault> {
     if !server.live(session)
         || server.waits(session)
         || server.in_transaction(session)
@@ -38,7 +38,7 @@ fn begin<V: Serve>(server: &mut V, session: u32) -> Result<Option<Answer>, Alloc
 }
 
 /// COMMIT.
-fn commit<V: Serve>(server: &mut V, session: u32) -> Result<Option<Answer>, AllocError> {
+fn commit<V: Serve>(server: &mut V, session: u32) -> Result<Option<Answer>, CallFault> {
     if !server.live(session) || server.waits(session) || !server.in_transaction(session) {
         return Ok(None);
     }
@@ -46,7 +46,7 @@ fn commit<V: Serve>(server: &mut V, session: u32) -> Result<Option<Answer>, Allo
 }
 
 /// ROLLBACK.
-fn roll_back<V: Serve>(server: &mut V, session: u32) -> Result<Option<Answer>, AllocError> {
+fn roll_back<V: Serve>(server: &mut V, session: u32) -> Result<Option<Answer>, CallFault> {
     if !server.live(session) || server.waits(session) || !server.in_transaction(session) {
         return Ok(None);
     }
@@ -60,7 +60,7 @@ fn read_log<V: Serve>(
     position: u32,
     limit: u32,
     tables: Names,
-) -> Result<Option<Answer>, AllocError> {
+) -> Result<Option<Answer>, CallFault> {
     if !server.live(session) || server.waits(session) || limit == 0 {
         return Ok(None);
     }
@@ -81,15 +81,9 @@ fn look_at_log<V: Serve>(
 ) -> Result<Option<Answer>, CallFault> {
     let (position, rest) = text.split_once(' ').ok_or(CallFault::Unread)?;
     let (limit, tables) = rest.split_once(' ').ok_or(CallFault::Unread)?;
-    let tables = names_of(alloc, tables)?;
-    let answer = read_log(
-        server,
-        session,
-        unsigned_of(position)?,
-        unsigned_of(limit)?,
-        tables,
-    )?;
-    Ok(answer)
+    let position = unsigned_of(position)?;
+    let limit = unsigned_of(limit)?;
+    read_log(server, session, position, limit, names_of(alloc, tables)?)
 }
 
 /// The statement of a text.
@@ -128,9 +122,9 @@ pub fn ask<V: Serve>(
     text: &str,
 ) -> Result<Option<Answer>, CallFault> {
     match text {
-        "BEGIN" => Ok(begin(server, session)?),
-        "COMMIT" => Ok(commit(server, session)?),
-        "ROLLBACK" => Ok(roll_back(server, session)?),
+        "BEGIN" => begin(server, session),
+        "COMMIT" => commit(server, session),
+        "ROLLBACK" => roll_back(server, session),
         _ => match text.strip_prefix("log ") {
             Some(rest) => look_at_log(alloc, server, session, rest),
             None => do_statement(alloc, server, session, text),

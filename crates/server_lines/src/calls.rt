@@ -9,7 +9,7 @@ use crate::telling::{say_asked, say_number};
 use case_lines::{CallFault, say, unsigned_of};
 use gho_values::{Name, Text, print_row};
 use serving::Serve;
-use std::alloc::{AllocError, Global};
+use std::alloc::Global;
 
 /// Says the committed rows of the table of this name.
 fn say_table<V: Serve>(
@@ -17,9 +17,10 @@ fn say_table<V: Serve>(
     server: &V,
     name: &str,
     told: &mut Text,
-) -> Result<(), AllocError> {
+) -> Result<(), CallFault> {
     let Some(table) = server.tables().find(&Name::new(alloc, name)?) else {
-        return say(told, "missing");
+        say(told, "missing")?;
+        return Ok(());
     };
     say(told, "rows")?;
     for row in table.rows() {
@@ -43,6 +44,18 @@ fn say_unread<V: Serve>(
     Ok(())
 }
 
+/// Says what a session is answered.
+fn say_answer_to<V: Serve>(
+    alloc: Global,
+    server: &mut V,
+    session: &str,
+    text: &str,
+    told: &mut Text,
+) -> Result<(), CallFault> {
+    let answer = ask(alloc, server, unsigned_of(session)?, text)?;
+    say_asked(told, answer.as_ref())
+}
+
 /// Takes one call.
 fn take<V: Serve>(
     alloc: Global,
@@ -52,15 +65,11 @@ fn take<V: Serve>(
 ) -> Result<(), CallFault> {
     let (word, input) = call.split_once(' ').ok_or(CallFault::Unread)?;
     match word {
-        "CREATE" => create(alloc, server, call)?,
-        "rows" => say_table(alloc, server, input, told)?,
-        "unread" => say_unread(alloc, server, input, told)?,
-        _ => {
-            let answer = ask(alloc, server, unsigned_of(word)?, input)?;
-            say_asked(told, answer.as_ref())?;
-        }
+        "CREATE" => create(alloc, server, call),
+        "rows" => say_table(alloc, server, input, told),
+        "unread" => say_unread(alloc, server, input, told),
+        _ => say_answer_to(alloc, server, word, input, told),
     }
-    Ok(())
 }
 
 /// What the calls say, on this server.

@@ -1,6 +1,6 @@
 //! What answers say.
 
-use case_lines::say;
+use case_lines::{CallFault, say};
 use event_codec::{Change, RowEvent};
 use gho_values::{Row, Text, print_row};
 use plain_server::Answer;
@@ -21,22 +21,26 @@ pub fn say_number(told: &mut Text, word: &str, number: i128) -> Result<(), Alloc
     told.push_number(number)
 }
 
-fn push_event(told: &mut Text, event: &RowEvent) -> Result<(), AllocError> {
-    match &event.change {
+fn push_change(told: &mut Text, change: &Change) -> Result<(), AllocError> {
+    match change {
         Change::Write(row) => {
             told.push_str(", write ")?;
-            print_row(row.as_slice(), told)?;
+            print_row(row.as_slice(), told)
         }
         Change::Update(before, after) => {
             told.push_str(", update ")?;
             print_row(before.as_slice(), told)?;
-            print_row(after.as_slice(), told)?;
+            print_row(after.as_slice(), told)
         }
         Change::Delete(row) => {
             told.push_str(", delete ")?;
-            print_row(row.as_slice(), told)?;
+            print_row(row.as_slice(), told)
         }
     }
+}
+
+fn push_event(told: &mut Text, event: &RowEvent) -> Result<(), AllocError> {
+    push_change(told, &event.change)?;
     told.push_str(" of ")?;
     told.push_str(event.table.as_str())
 }
@@ -62,9 +66,10 @@ fn say_answer(told: &mut Text, answer: &Answer) -> Result<(), AllocError> {
 }
 
 /// Says an answer, or that there is none now.
-pub fn say_asked(told: &mut Text, answer: Option<&Answer>) -> Result<(), AllocError> {
+pub fn say_asked(told: &mut Text, answer: Option<&Answer>) -> Result<(), CallFault> {
     match answer {
-        Some(answer) => say_answer(told, answer),
-        None => say(told, "not now"),
+        Some(answer) => say_answer(told, answer)?,
+        None => say(told, "not now")?,
     }
+    Ok(())
 }
