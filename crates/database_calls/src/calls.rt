@@ -126,8 +126,34 @@ fn remove(
     say_found(told, row.as_ref(), other.as_ref())
 }
 
+/// Puts the row of a text.
+fn put_read(
+    alloc: Global,
+    both: &mut BothDatabases,
+    name: &Name,
+    row: &str,
+    told: &mut Text,
+) -> Result<(), CallFault> {
+    let row = row_of(alloc, row)?;
+    put(alloc, both, name, row, told)?;
+    Ok(())
+}
+
+/// Removes the row whose key is that of a text.
+fn remove_read(
+    alloc: Global,
+    both: &mut BothDatabases,
+    name: &Name,
+    key: &str,
+    told: &mut Text,
+) -> Result<(), CallFault> {
+    let key = row_of(alloc, key)?;
+    remove(both, name, &key, told)?;
+    Ok(())
+}
+
 /// Says the tables' names and numbers of rows.
-fn say_names(both: &BothDatabases, told: &mut Text) -> Result<(), AllocError> {
+fn say_names(both: &BothDatabases, told: &mut Text) -> Result<(), CallFault> {
     say(told, if both.paged.is_empty() { "nothing" } else { "" })?;
     for n in 0..both.paged.len() {
         let table = both.paged.at(n);
@@ -141,7 +167,8 @@ fn say_names(both: &BothDatabases, told: &mut Text) -> Result<(), AllocError> {
             say_difference(told, same)?;
         }
     }
-    say_difference(told, both.paged.len() == both.listed.len())
+    say_difference(told, both.paged.len() == both.listed.len())?;
+    Ok(())
 }
 
 /// Pairs of names, as `ta u, v ta`.
@@ -177,30 +204,63 @@ fn rename(both: &mut BothDatabases, pairs: &Pairs, told: &mut Text) -> Result<()
     say_difference(told, paged == listed)
 }
 
+/// Renames the pairs of a text.
+fn rename_read(
+    alloc: Global,
+    both: &mut BothDatabases,
+    input: &str,
+    told: &mut Text,
+) -> Result<(), CallFault> {
+    let pairs = pairs_of(alloc, input)?;
+    rename(both, &pairs, told)?;
+    Ok(())
+}
+
 /// Copies both.
-fn make_copies(alloc: Global, both: &mut BothDatabases) -> Result<(), AllocError> {
+fn make_copies(alloc: Global, both: &mut BothDatabases) -> Result<(), CallFault> {
     both.paged = both.paged.copy_tables(alloc)?;
     both.listed = both.listed.copy_tables(alloc)?;
     Ok(())
 }
 
 /// Makes the database in pages anew of the plain lists.
-fn make_anew(alloc: Global, both: &mut BothDatabases) -> Result<(), AllocError> {
+fn make_anew(alloc: Global, both: &mut BothDatabases) -> Result<(), CallFault> {
     both.paged = Tables::from_plain(alloc, &both.listed)?;
     Ok(())
 }
 
-fn say_taken(both: &mut BothDatabases, name: &Name, told: &mut Text) -> Result<(), AllocError> {
+fn say_taken(both: &mut BothDatabases, name: &Name, told: &mut Text) -> Result<(), CallFault> {
     let paged = both.paged.take(name).is_some();
     let listed = both.listed.take(name).is_some();
     say(told, if paged { "taken" } else { "missing" })?;
-    say_difference(told, paged == listed)
+    say_difference(told, paged == listed)?;
+    Ok(())
 }
 
-fn say_stands(both: &BothDatabases, name: &Name, told: &mut Text) -> Result<(), AllocError> {
+fn say_stands(both: &BothDatabases, name: &Name, told: &mut Text) -> Result<(), CallFault> {
     let paged = both.paged.stands(name);
     say(told, if paged { "yes" } else { "no" })?;
-    say_difference(told, paged == both.listed.stands(name))
+    say_difference(told, paged == both.listed.stands(name))?;
+    Ok(())
+}
+
+/// Calls on the table of a name, behind which a row or a key may stand.
+fn take_on(
+    alloc: Global,
+    both: &mut BothDatabases,
+    call: &str,
+    name: &Name,
+    rest: &str,
+    told: &mut Text,
+) -> Result<(), CallFault> {
+    match call {
+        "add" => add(alloc, both, name.as_str(), told),
+        "put" => put_read(alloc, both, name, rest, told),
+        "remove" => remove_read(alloc, both, name, rest, told),
+        "take" => say_taken(both, name, told),
+        "stands" => say_stands(both, name, told),
+        _ => Err(CallFault::Unread),
+    }
 }
 
 /// Calls that name a table and maybe a row or a key, as `put ta 2, 1`.
@@ -212,16 +272,8 @@ fn take_named(
     told: &mut Text,
 ) -> Result<(), CallFault> {
     let (name, rest) = input.split_once(' ').unwrap_or((input, ""));
-    let table = Name::new(alloc, name)?;
-    match call {
-        "add" => add(alloc, both, name, told)?,
-        "put" => put(alloc, both, &table, row_of(alloc, rest)?, told)?,
-        "remove" => remove(both, &table, &row_of(alloc, rest)?, told)?,
-        "take" => say_taken(both, &table, told)?,
-        "stands" => say_stands(both, &table, told)?,
-        _ => return Err(CallFault::Unread),
-    }
-    Ok(())
+    let name = Name::new(alloc, name)?;
+    take_on(alloc, both, call, &name, rest, told)
 }
 
 fn take(
@@ -232,13 +284,21 @@ fn take(
 ) -> Result<(), CallFault> {
     let (word, input) = call.split_once(' ').unwrap_or((call, ""));
     match word {
-        "names" => say_names(both, told)?,
-        "copy" => make_copies(alloc, both)?,
-        "anew" => make_anew(alloc, both)?,
-        "rename" => rename(both, &pairs_of(alloc, input)?, told)?,
-        _ => take_named(alloc, both, word, input, told)?,
+        "names" => say_names(both, told),
+        "copy" => make_copies(alloc, both),
+        "anew" => make_anew(alloc, both),
+        "rename" => rename_read(alloc, both, input, told),
+        _ => take_named(alloc, both, word, input, told),
     }
-    Ok(())
+}
+
+/// What the calls say, one after another.
+fn take_each(alloc: Global, both: &mut BothDatabases, calls: &str) -> Result<Text, CallFault> {
+    let mut told = Text::new(alloc);
+    for call in calls.split("; ") {
+        take(alloc, both, call, &mut told)?;
+    }
+    Ok(told)
 }
 
 /// What the calls say.
@@ -247,9 +307,5 @@ pub fn answers(alloc: Global, input: &str) -> Result<Text, CallFault> {
         paged: Tables::new(alloc),
         listed: ListedTables::new(alloc),
     };
-    let mut told = Text::new(alloc);
-    for call in input.split("; ") {
-        take(alloc, &mut both, call, &mut told)?;
-    }
-    Ok(told)
+    take_each(alloc, &mut both, input)
 }
