@@ -1,5 +1,5 @@
 -- One row more of an UPDATE.
-use Rattle.std.proofs.Common.{◌≡◌, List, [], ◌∷◌, ◌++◌, Option, Result, Ok, Err, Bool, true, false, cond, refl, sym, ap, ◌∙◌, append_assoc, append-nil}
+use Rattle.std.proofs.Common.{◌≡◌, List, [], ◌∷◌, ◌++◌, Option, Result, Ok, Err, true, false, refl, ap, append_assoc, append-nil}
 use Rattle.gho_values.specs.declared.value.Value.{Value}
 use Rattle.gho_values.specs.declared.gho_schema.schema.Schema.{Schema}
 use Rattle.gho_values.specs.GhoSchema.Rows.{key_places}
@@ -37,3 +37,8 @@ module _ (schema : Schema) (sets : List (Option Value)) (front : List Change) (r
 pub ended : (schema : Schema) (sets : List (Option Value)) (front : List Change) (rows : List Row) → changes_behind front (updates schema sets [] rows) ≡ Ok front
 unfolding updates
 ended schema sets front rows = ap (λ (cs : List Change). Ok cs) (append-nil front)
+
+-- there are no changes so far
+pub behind_nothing : (others : Result (List Change) Answer) → changes_behind [] others ≡ others
+behind_nothing (Ok others) = refl
+behind_nothing (Err refusal) = refl

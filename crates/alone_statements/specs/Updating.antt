@@ -12,7 +12,7 @@ abbrev pub changes_behind : List Change → Result (List Change) Answer → Resu
 changes_behind front (Ok others) = Ok (front ++ others)
 changes_behind front (Err refusal) = Err refusal
 
--- what becomes of it, where these rows are still to be changed
-abbrev pub goes_on : Schema → List (Option Value) → List (List Value) → Result Going Answer → Result (List Change) Answer
-goes_on schema sets met (Ok going) = changes_behind going.changes (updates schema sets met going.rows)
-goes_on schema sets met (Err refusal) = Err refusal
+-- what becomes of it, where these rows are still to be changed, unless there was a refusal
+abbrev pub goes_on : Schema → List (Option Value) → List (List Value) → Going → Result (Unit {0}) Answer → Result (List Change) Answer
+goes_on schema sets met going (Ok done) = changes_behind going.changes (updates schema sets met going.rows)
+goes_on schema sets met going (Err refusal) = Err refusal

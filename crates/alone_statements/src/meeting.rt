@@ -7,8 +7,9 @@ ghost use Rattle.plain_server.specs.Rows.{rows_met, same_row};
 ghost use Rattle.plain_server.specs.Saying.{displaced, clashes_besides};
 
 use crate::keys::{clash, reaches};
+use crate::rows::push_copy;
 use gho_values::gho_schema::Schema;
-use gho_values::{Duplicate, Row, Rows, Sequence};
+use gho_values::{Row, Rows, Sequence};
 use plain_server::Reach;
 use std::alloc::{AllocError, Global};
 
@@ -24,7 +25,7 @@ pub fn rows_met(
     let mut met = Sequence::new(alloc);
     for row in rows {
         if reaches(alloc, schema, reach, row)? {
-            met.push(row.copy()?)?;
+            push_copy(&mut met, row)?;
         }
     }
     Ok(met)
@@ -42,7 +43,7 @@ pub fn displaced(
     let mut found = Sequence::new(alloc);
     for row in rows {
         if clash(alloc, schema.uniques.as_slice(), new, row)? {
-            found.push(row.copy()?)?;
+            push_copy(&mut found, row)?;
         }
     }
     Ok(found)

@@ -1,12 +1,12 @@
 //! What a statement says of a database.
 
-ghost use Rattle.std.specs.Prelude.{◌≡◌, IfOk, option_copied};
+ghost use Rattle.std.specs.Prelude.{◌≡◌, [], ◌∷◌, ◌++◌, IfOk, OnOk, option_copied};
 ghost use Rattle.plain_server.specs.Jobs.{table_of, job_of, events_of, result_of, result_in, says};
 ghost use Rattle.alone_statements.specs.Told.{as_result};
 
 use crate::plain::{PlainTable, find_table};
 use crate::telling::{Changes, Told, tells};
-use event_codec::{Events, RowEvent};
+use event_codec::{Change, Events, RowEvent};
 use gho_values::{Duplicate, Name, Sequence};
 use plain_server::{Answer, StatementResult};
 use script_text::Statement;
@@ -26,16 +26,21 @@ fn table_of(statement: &Statement) -> &Name
     }
 }
 
+/// Adds a change of the table of this name.
+fn push_event(events: &mut Events, table: &Name, change: Change) -> Result<(), AllocError>
+    ensures { OnOk result (events.new ≡ events.old ++ record { table = table.now; change = change } ∷ []) }
+{
+    let table = table.copy()?;
+    events.push(RowEvent { table, change })
+}
+
 /// Changes of the table of this name, as events.
 fn events_of(alloc: Global, table: &Name, changes: Changes) -> Result<Events, AllocError>
     ensures { IfOk result (λ events. events ≡ events_of table.now changes) }
 {
     let mut events = Sequence::new(alloc);
     for change in changes.into_vec() {
-        events.push(RowEvent {
-            table: table.copy()?,
-            change,
-        })?;
+        push_event(&mut events, table, change)?;
     }
     Ok(events)
 }

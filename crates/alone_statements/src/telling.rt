@@ -1,6 +1,6 @@
 //! What a statement says of the rows of its table.
 
-ghost use Rattle.std.specs.Prelude.{◌≡◌, ◌∷◌, [], map, IfOk};
+ghost use Rattle.std.specs.Prelude.{◌≡◌, ◌+◌, ◌∷◌, [], ◌++◌, length, map, IfOk};
 ghost use Rattle.event_codec.specs.declared.event.Change.TheVariants as changes;
 ghost use Rattle.plain_server.specs.declared.answer.Answer.TheVariants as answers;
 ghost use Rattle.plain_server.specs.declared.work.Work.TheVariants as works;
@@ -84,19 +84,25 @@ fn copy(alloc: Global, table: &PlainTable, row: &Row) -> Result<Told, AllocError
     one_written(alloc, row)
 }
 
+/// These rows are removed, counted with the row that is written.
+fn one_replaced(alloc: Global, displaced: &[Row], row: &Row) -> Result<Told, AllocError>
+    ensures { IfOk result (λ told. as_result told ≡ record { answer = answers.Ok (1 + length displaced.now); changes = map changes.Delete displaced.now ++ changes.Write row.now ∷ [] }) }
+{
+    let mut changes = deletes(alloc, displaced)?;
+    changes.push(Change::Write(row.copy()?))?;
+    Ok(Told {
+        answer: Answer::Ok(1 + displaced.len() as u64),
+        changes,
+    })
+}
+
 /// What a REPLACE says: the rows that clash with its row are removed, and counted with it.
 #[tactic(auto, unfolding(plain_server::specs::Saying::tells))]
 fn replace(alloc: Global, table: &PlainTable, row: &Row) -> Result<Told, AllocError>
     ensures { IfOk result (λ told. as_result told ≡ tells table.now.schema table.now.rows (works.Replace row.now)) }
 {
     let displaced = displaced(alloc, &table.schema, row, table.rows.as_slice())?;
-    let count = displaced.len() as u64;
-    let mut changes = deletes(alloc, displaced.as_slice())?;
-    changes.push(Change::Write(row.copy()?))?;
-    Ok(Told {
-        answer: Answer::Ok(1 + count),
-        changes,
-    })
+    one_replaced(alloc, displaced.as_slice(), row)
 }
 
 /// What a DELETE says: the rows that it reaches are removed.
@@ -105,10 +111,10 @@ fn delete(alloc: Global, table: &PlainTable, reach: &Reach) -> Result<Told, Allo
     ensures { IfOk result (λ told. as_result told ≡ tells table.now.schema table.now.rows (works.Delete reach.now)) }
 {
     let met = rows_met(alloc, &table.schema, reach, table.rows.as_slice())?;
-    let count = met.len() as u64;
+    let changes = deletes(alloc, met.as_slice())?;
     Ok(Told {
-        answer: Answer::Ok(count),
-        changes: deletes(alloc, met.as_slice())?,
+        answer: Answer::Ok(met.len() as u64),
+        changes,
     })
 }
 

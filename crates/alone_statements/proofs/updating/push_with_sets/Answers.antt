@@ -3,10 +3,10 @@ use Rattle.std.proofs.lemmas.List.{at_drop_all}
 use Rattle.row_store.proofs.Orders.{Row}
 use Rattle.plain_server.specs.Saying.{with_sets}
 use Rattle.plain_server.proofs.StatementLaws.Sets.{with_sets_none}
-use Rattle.alone_statements.proofs.updating.with_sets.Goals as goal
+use Rattle.alone_statements.proofs.updating.push_with_sets.Goals as goal
 
 pub returns : goal.returns
 returns c =
     let rest = c.loop-value.rest.now in
-    sym (append-nil c.loop-value.new)
-    ∙ ap (λ (vs : Row). c.loop-value.new ++ vs) (sym (at_drop_all (with_sets rest) c.args.row.now c.loop-value.value-index c.loop-value-test.false ∙ with_sets_none rest)) ∙ c.loop-value.invariant
+    sym (append-nil c.loop-value.into)
+    ∙ ap (λ (vs : Row). c.loop-value.into ++ vs) (sym (at_drop_all (with_sets rest) c.args.row.now c.loop-value.value-index c.loop-value-test.false ∙ with_sets_none rest)) ∙ c.loop-value.invariant
