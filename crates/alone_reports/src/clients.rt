@@ -83,6 +83,20 @@ fn push_ended(
     Ok(())
 }
 
+/// Adds the client of this number with what it got, in ended transactions and in its open one.
+fn push_client(
+    text: &mut Text,
+    client: u32,
+    items: &[PastItem],
+    replies: &[Replies],
+    reached: &Reached<'_>,
+    own: &[Reply],
+) -> Result<(), AllocError> {
+    push_number_line(text, "client c", u64::from(client))?;
+    push_ended(text, client, items, replies)?;
+    push_lines(text, reached.begun(), reached.lines(), own)
+}
+
 /// Adds each client with what it got, in the transactions that it ended and in the one that is open.
 pub(crate) fn push_clients(
     text: &mut Text,
@@ -90,12 +104,11 @@ pub(crate) fn push_clients(
     replies: &[Replies],
     open: &[Replies],
 ) -> Result<(), AllocError> {
+    let items = walked.items.as_slice();
     let mut client = 0u32;
     for (reached, own) in walked.clients.as_slice().iter().zip(open) {
         client = client.saturating_add(1);
-        push_number_line(text, "client c", u64::from(client))?;
-        push_ended(text, client, walked.items.as_slice(), replies)?;
-        push_lines(text, reached.begun(), reached.lines(), own.as_slice())?;
+        push_client(text, client, items, replies, reached, own.as_slice())?;
     }
     Ok(())
 }
