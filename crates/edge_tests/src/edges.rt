@@ -45,7 +45,7 @@ impl<K: Sink> Sink for OneByte<K> {
     }
 }
 
-/// Whether a source that fails at its third byte is not read, and how often it failed.
+/// Whether a source that fails behind its third byte is refused, and how often it failed.
 fn failing_source_is_refused(alloc: Global) -> Result<(bool, u64), AllocError> {
     let mut source = OneByte(text_source(alloc, Some(3))?);
     let is_refused = matches!(
@@ -64,7 +64,7 @@ fn a_source_of_single_bytes_is_read_whole(rt: HostRuntime) -> Result<(), Fail> {
     Ok(())
 }
 
-/// How many bytes are read of a source of so many, and what is left in it.
+/// How many bytes are read of a source of so many, and what it gives next.
 fn read_of(alloc: Global, len: usize) -> Result<(usize, Took), ReadFault> {
     let mut source = BytesSource::new(vec![in alloc; 7u8; len]?, None);
     let read = read_whole(alloc, &mut source, LIMIT)?.len();
