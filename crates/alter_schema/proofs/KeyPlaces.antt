@@ -1,7 +1,6 @@
 -- The places of keys are places of columns after a change as before.
-use Rattle.std.proofs.Common.{◌≡◌, ℕ, zero, suc, ◌+◌, ◌-◌, ◌<◌, ◌≤◌, Bool, true, false, cond, eqb, ltb, List, [], ◌∷◌, ◌++◌, length, take, drop, Option, Some, None, ◌≢◌, refl, sym, subst, map, arith, false-eqb}
-use Rattle.std.specs.Prelude.{filter, position}
-use Rattle.std.specs.List.{cons_option, filter_map, remove, AllByRecursion, position_or_len}
+use Rattle.std.proofs.Common.{◌≡◌, ℕ, ◌+◌, ◌-◌, ◌<◌, ◌≤◌, Bool, true, false, cond, eqb, ltb, List, Some, None, ◌≢◌, refl, sym, subst, arith, false-eqb}
+use Rattle.std.specs.List.{AllByRecursion}
 use Rattle.std.proofs.lemmas.Bool.{ltb-true, ltb-false}
 use Rattle.gho_values.specs.declared.gho_schema.schema.Index.{Index}
 use Rattle.alter_schema.specs.declared.places.PlaceChange.{PlaceChange}

@@ -33,8 +33,6 @@ use Rattle.alter_schema.specs.Standing.{places_from, start, with_columns, put_in
 use Rattle.gho_values.proofs.SchemaRules.Lists.{All-filter_map, All-append, All-remove, position-within}
 use Rattle.alter_schema.proofs.KeyPlaces.{keys_after-within, indexes_after-within}
 use Rattle.gho_values.proofs.SchemaRules.Steps.{bind_ok, unless_ok, none_first, ok_is, let_through, kept_out}
-use Rattle.gho_values.specs.declared.fault.Unfit.{Unfit}
-use Rattle.gho_values.specs.declared.value.Value.{Value}
 
 -- ---- found columns
 

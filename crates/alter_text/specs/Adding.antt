@@ -1,5 +1,5 @@
 -- Clauses that write a column or an index: ADD, CHANGE and MODIFY ("ALTER TABLE Statement").
-use Rattle.std.specs.Prelude.{codes, ℕ, if◌then◌else◌, List, [], ◌∷◌, Option, Some, None, Result, Ok, Err}
+use Rattle.std.specs.Prelude.{codes, if◌then◌else◌, List, [], ◌∷◌, Ok, Err}
 use Rattle.gho_values.specs.declared.alter_image.clause.Clause.{Clause}
 use Rattle.gho_values.specs.declared.alter_image.clause.Clause.TheVariants.{Add, Change, AddIndex}
 use Rattle.table_words.specs.declared.token.Token.{Token}

@@ -1,5 +1,5 @@
 -- A column as a clause writes it, and where it is to stand ("ALTER TABLE Statement").
-use Rattle.std.specs.Prelude.{codes, ℕ, if◌then◌else◌, List, [], ◌∷◌, length, Option, Some, None, Result, Ok, Err}
+use Rattle.std.specs.Prelude.{codes, if◌then◌else◌, List, [], ◌∷◌, length, Option, Some, None, Result, Ok, Err}
 use Rattle.gho_values.specs.declared.alter_image.clause.NewColumn.{NewColumn}
 use Rattle.gho_values.specs.declared.alter_image.clause.Spot.{Spot}
 use Rattle.gho_values.specs.declared.alter_image.clause.Spot.TheVariants.{Unsaid, First, After}

@@ -1,5 +1,5 @@
 -- The pieces of ALTER TABLE's text, each refused as a mistake where it doesn't fit.
-use Rattle.std.specs.Prelude.{codes, ℕ, Bool, ◌||◌, List, Option, Some, None, Result, Ok, Err}
+use Rattle.std.specs.Prelude.{codes, Bool, ◌||◌, List, Option, Some, None, Result, Ok, Err}
 use Rattle.table_words.specs.declared.code.SchemaCode.{SchemaCode}
 use Rattle.table_words.specs.declared.token.Token.{Token}
 use Rattle.table_words.specs.Pieces.{behind_keyword}

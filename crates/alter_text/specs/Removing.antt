@@ -1,5 +1,5 @@
 -- Clauses that take something away or give it another name: DROP and RENAME ("ALTER TABLE Statement").
-use Rattle.std.specs.Prelude.{codes, ℕ, ◌||◌, if◌then◌else◌, List, [], ◌∷◌, Option, Some, None, Result, Ok, Err}
+use Rattle.std.specs.Prelude.{codes, ◌||◌, if◌then◌else◌, List, [], ◌∷◌, Ok, Err}
 use Rattle.gho_values.specs.declared.alter_image.clause.Clause.{Clause}
 use Rattle.gho_values.specs.declared.alter_image.clause.Clause.TheVariants.{Drop, Rename, DropIndex}
 use Rattle.table_words.specs.declared.token.Token.{Token}

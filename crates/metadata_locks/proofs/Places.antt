@@ -1,5 +1,5 @@
 -- Where a session's request stands.
-use Rattle.std.proofs.Common.{◌≡◌, ◌≢◌, ℕ, ◌<◌, zero, suc, false, nat_eq, Option, Some, None, List, [], ◌∷◌, length, get_or, take, drop, refl, ap, arith, add-one}
+use Rattle.std.proofs.Common.{◌≡◌, ◌≢◌, ℕ, ◌<◌, zero, suc, Option, Some, None, List, [], ◌∷◌, length, get_or, take, drop, refl, ap, arith, add-one}
 use Rattle.std.specs.Option.{option_map}
 use Rattle.std.proofs.lemmas.Bool.{eq-eqb, ne_eqb}
 use Rattle.metadata_locks.specs.declared.request.Waiter.{Waiter}

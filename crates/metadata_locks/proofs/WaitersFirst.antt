@@ -1,9 +1,8 @@
 -- A waiting request refuses shared locks that are asked for later.
-use Rattle.std.proofs.Common.{◌≡◌, ◌≢◌, ℕ, Bool, true, false, not, nat_eq, ◌&&◌, cond, List, [], ◌∷◌, ◌++◌, Option, Some, None, refl, sym, ap, ◌∙◌}
+use Rattle.std.proofs.Common.{◌≡◌, ◌≢◌, ℕ, Bool, true, false, not, nat_eq, ◌&&◌, cond, List, [], ◌∷◌, ◌++◌, Some, None, sym, ap, ◌∙◌}
 use Rattle.std.proofs.lemmas.Bool.{ne_eqb}
 use Rattle.metadata_locks.specs.declared.request.Waiter.{Waiter}
 use Rattle.metadata_locks.specs.Granting.{has_name, holds, waiting_session, least_holder, least_waiter, refuser_of_name}
-use Rattle.least_session.specs.Least.{least}
 use Rattle.least_session.proofs.Sessions.{none_of}
 use Rattle.metadata_locks.specs.Laws.{WaitersGoFirst}
 

@@ -5,7 +5,6 @@ use Rattle.gho_values.specs.GhoSchema.Tables.{IsRow, IsTable}
 use Rattle.row_store.specs.ClusteredKeys.{HasClusteredKey}
 use Rattle.row_store.specs.Databases.{TableRows, clashing, IsNewIn}
 use Rattle.row_store.specs.Laws.{PutKeepsTables}
-use Rattle.plan_tables.specs.Rows.{with_put}
 
 none_there : (clash : Option (List Value)) → is_some clash ≡ false → clash ≡ None
 none_there None none = refl

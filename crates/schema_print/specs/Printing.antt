@@ -1,5 +1,5 @@
 -- *The text of a schema*, as SHOW CREATE TABLE has it, but for options and kinds that this program doesn't have (MySQL's manual, "SHOW CREATE TABLE Statement").
-use Rattle.std.specs.Prelude.{codes, ℕ, Bool, ◌==◌, if◌then◌else◌, List, [], ◌∷◌, ◌++◌, map, length, Option, Some, None}
+use Rattle.std.specs.Prelude.{codes, ℕ, ◌==◌, if◌then◌else◌, List, [], ◌∷◌, ◌++◌, map, Option, Some, None}
 use Rattle.std.specs.Fmt.{decimal}
 use Rattle.std.specs.List.{flat_map, slice_get}
 use Rattle.gho_values.specs.declared.kind.Kind.{Kind}

@@ -1,5 +1,5 @@
 -- Columns as CREATE TABLE writes them ("CREATE TABLE Statement").
-use Rattle.std.specs.Prelude.{codes, ℕ, true, false, if◌then◌else◌, List, [], ◌∷◌, length, Option, Some, None, Result, Ok, Err}
+use Rattle.std.specs.Prelude.{codes, true, false, if◌then◌else◌, List, [], ◌∷◌, length, Option, Some, None, Result, Ok}
 use Rattle.table_words.specs.declared.attributes.Attribute.{Attribute}
 use Rattle.table_words.specs.declared.code.SchemaCode.{SchemaCode}
 use Rattle.table_words.specs.declared.token.Token.{Token}

@@ -1,8 +1,6 @@
 -- The schema that a table as it is written declares, or the first reason to refuse it.
-use Rattle.std.specs.Prelude.{ℕ, ◌+◌, Bool, true, false, not, ◌&&◌, ◌||◌, nat_lt, if◌then◌else◌, List, [], ◌∷◌, ◌++◌, length, map, filter, count_by, is_none, unwrap_or, Option, Some, None, Result, Ok, Err}
+use Rattle.std.specs.Prelude.{ℕ, ◌+◌, Bool, true, not, ◌&&◌, ◌||◌, nat_lt, List, [], ◌∷◌, ◌++◌, length, map, filter, count_by, is_none, unwrap_or, None, Result, Ok}
 use Rattle.std.specs.List.{list_all, list_any}
-use Rattle.gho_values.specs.declared.fault.Unfit.{Unfit}
-use Rattle.gho_values.specs.declared.value.Value.{Value}
 use Rattle.gho_values.specs.declared.gho_schema.schema.Schema.{Schema}
 use Rattle.gho_values.specs.declared.gho_schema.schema.Column.{Column}
 use Rattle.gho_values.specs.declared.gho_schema.schema.Index.{Index}

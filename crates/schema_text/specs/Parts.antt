@@ -1,5 +1,5 @@
 -- A table's columns and keys, sorted out of the items in which they are written.
-use Rattle.std.specs.Prelude.{ℕ, Bool, true, if◌then◌else◌, List, [], ◌∷◌, ◌++◌, fold, None}
+use Rattle.std.specs.Prelude.{ℕ, true, if◌then◌else◌, List, [], ◌∷◌, ◌++◌, fold, None}
 use Rattle.schema_text.specs.declared.parts.Parts.{Parts}
 use Rattle.schema_text.specs.declared.written.Item.{Item}
 use Rattle.schema_text.specs.declared.written.Item.TheVariants.{Column, Primary, Key}

@@ -1,5 +1,5 @@
 -- Which texts are CREATE TABLE as this program reads it, and what each writes ("CREATE TABLE Statement").
-use Rattle.std.specs.Prelude.{codes, ℕ, Bool, true, false, ◌||◌, if◌then◌else◌, List, [], ◌∷◌, length, Option, Some, None, Result, Ok, Err}
+use Rattle.std.specs.Prelude.{codes, Bool, true, false, ◌||◌, if◌then◌else◌, List, [], ◌∷◌, length, Option, Some, None, Result, Ok, Err}
 use Rattle.table_words.specs.declared.code.SchemaCode.{SchemaCode}
 use Rattle.table_words.specs.declared.code.SchemaCode.TheVariants.{Syntax, Scope}
 use Rattle.table_words.specs.declared.token.Token.{Token}

@@ -1,5 +1,5 @@
 -- The conditions of statements ("WHERE Clause Optimization" has many more; that there are these three forms is this project's rule).
-use Rattle.std.specs.Prelude.{codes, ℕ, if◌then◌else◌, List, [], ◌∷◌, ◌++◌, length, Option, Some, None, Result, Ok, Err}
+use Rattle.std.specs.Prelude.{codes, if◌then◌else◌, List, [], ◌∷◌, ◌++◌, length, Option, Some, None, Result, Ok, Err}
 use Rattle.gho_values.specs.GhoSchema.Names.{same_name}
 use Rattle.table_words.specs.declared.token.Token.{Token}
 use Rattle.table_words.specs.Listed.{gathered}

@@ -1,6 +1,6 @@
 -- Single words of a statement, at the front of what is left of its line. (None of CREATE TABLE's words that this program
 -- doesn't take means anything in a statement.)
-use Rattle.std.specs.Prelude.{codes, ℕ, List, [], ◌∷◌, Option, Some, None, Result, Ok, Err}
+use Rattle.std.specs.Prelude.{ℕ, List, Result, Ok, Err}
 use Rattle.gho_values.specs.declared.value.Value.{Value}
 use Rattle.gho_values.specs.declared.value.Value.TheVariants as values
 use Rattle.table_words.specs.declared.code.SchemaCode.{SchemaCode}

@@ -1,5 +1,5 @@
 -- The lists of INSERT, REPLACE, UPDATE and SELECT.
-use Rattle.std.specs.Prelude.{codes, ℕ, List, length, Option, Some, None, Result, Ok, Err}
+use Rattle.std.specs.Prelude.{codes, ℕ, List, length, Option, Some, None, Ok}
 use Rattle.gho_values.specs.declared.value.Value.{Value}
 use Rattle.script_text.specs.declared.statement.Set.{Set}
 use Rattle.table_words.specs.declared.token.Token.{Token}

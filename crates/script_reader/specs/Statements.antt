@@ -1,11 +1,10 @@
 -- What a line asks for, by its words: a statement, or where a transaction begins or ends (MySQL's manual, "Data Manipulation
 -- Statements" and "START TRANSACTION, COMMIT, and ROLLBACK Statements").
-use Rattle.std.specs.Prelude.{codes, ℕ, Bool, true, false, if◌then◌else◌, List, [], ◌∷◌, Option, Some, None, Result, Ok, Err}
+use Rattle.std.specs.Prelude.{codes, if◌then◌else◌, List, [], ◌∷◌, Option, Some, None, Result, Ok, Err}
 use Rattle.script_text.specs.declared.script.ScriptWord.{ScriptWord}
 use Rattle.script_text.specs.declared.script.ScriptWord.TheVariants.{Begin, Commit, Rollback, Do}
 use Rattle.script_text.specs.declared.statement.Shown.{Shown}
 use Rattle.script_text.specs.declared.statement.Shown.TheVariants as shown
-use Rattle.script_text.specs.declared.statement.Statement.{Statement}
 use Rattle.script_text.specs.declared.statement.Statement.TheVariants.{Insert, Replace, Delete, Update, Select}
 use Rattle.table_words.specs.declared.token.Token.{Token}
 use Rattle.table_words.specs.Pieces.{behind_keyword, behind_sign}

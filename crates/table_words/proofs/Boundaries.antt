@@ -1,5 +1,5 @@
 -- The first fault of a text stands between two characters.
-use Rattle.std.proofs.Common.{◌≡◌, ℕ, zero, suc, ◌+◌, ◌-◌, ◌<◌, ◌≤◌, Bool, true, false, cond, nat_eq, nat_lt, List, [], ◌∷◌, length, drop, get_or, Option, Some, None, Result, Ok, Err, IsUtf8, refl, sym, ap, ◌∙◌, subst, arith, length-drop}
+use Rattle.std.proofs.Common.{◌≡◌, ℕ, zero, suc, ◌+◌, ◌<◌, ◌≤◌, Bool, true, false, cond, nat_eq, nat_lt, List, [], ◌∷◌, length, drop, get_or, Option, Some, None, Result, Ok, Err, IsUtf8, refl, sym, ◌∙◌, subst, arith}
 use Rattle.std.specs.Str.{IsCharBoundary}
 use Rattle.std.proofs.lemmas.Str.{IsCharBoundary-start, IsCharBoundary-from_rest, IsUtf8-drop}
 use Rattle.sql_words.specs.declared.word.WordClass.{WordClass}
@@ -10,9 +10,9 @@ use Rattle.sql_words.specs.declared.front.Front.TheVariants.{Gap, Found}
 use Rattle.sql_words.specs.declared.word.WordClass.TheVariants as class
 use Rattle.sql_words.specs.Characters.{is_white, is_name_start, is_quote, is_sign}
 use Rattle.sql_words.specs.Quoted.{length_of, text_inside, name_inside}
-use Rattle.sql_words.specs.Front.{size_of, line_length, begins_comment, bytes_length, bytes_or_name, name_length, quoted, most_digits, sign_width, digit_count, begins_number, sign_length, front_at}
+use Rattle.sql_words.specs.Front.{line_length, begins_comment, bytes_length, bytes_or_name, name_length, quoted, most_digits, sign_width, digit_count, begins_number, sign_length, front_at}
 use Rattle.sql_words.specs.Reading.{Reading, with_word, words_behind, words_of}
-use Rattle.sql_words.proofs.Ends.{Cuts, front_cuts}
+use Rattle.sql_words.proofs.Ends.{front_cuts}
 use Rattle.sql_words.proofs.Behind.{words_behind-gap, words_behind-found, words_behind-fault, words_behind-end, length-drop-cuts}
 
 -- a fault of a text stands at this place

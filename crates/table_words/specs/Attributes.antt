@@ -1,6 +1,5 @@
 -- What stands behind a column's kind, but for its keys ("CREATE TABLE Statement").
-use Rattle.std.specs.Prelude.{codes, ℕ, Bool, true, false, if◌then◌else◌, List, [], ◌∷◌, Option, Some, None, Result, Ok, Err}
-use Rattle.gho_values.specs.declared.value.Value.{Value}
+use Rattle.std.specs.Prelude.{codes, true, false, if◌then◌else◌, List, [], ◌∷◌, Option, Some, None, Result, Ok}
 use Rattle.table_words.specs.declared.attributes.Attribute.{Attribute}
 use Rattle.table_words.specs.declared.attributes.Attribute.TheVariants.{Nullable, Default, Passed}
 use Rattle.table_words.specs.declared.attributes.Attributes.{Attributes}
@@ -8,7 +7,6 @@ use Rattle.table_words.specs.declared.code.SchemaCode.{SchemaCode}
 use Rattle.table_words.specs.declared.token.Token.{Token}
 use Rattle.table_words.specs.Pieces.{keyword_at, any_word_at, literal_at, text_at}
 use Rattle.gho_values.specs.SchemaRules.Results.{◌>>=◌}
-use Rattle.table_words.specs.Reads.{Read}
 use Rattle.table_words.specs.Tokens.{is_keyword}
 
 -- nothing is written

@@ -1,5 +1,5 @@
 -- The kinds of columns as they are written.
-use Rattle.std.specs.Prelude.{codes, ℕ, ℤ, pos, int_le, unsigned_abs, Bool, true, false, ◌&&◌, ◌||◌, if◌then◌else◌, List, [], ◌∷◌, Option, Some, None, Result, Ok, Err}
+use Rattle.std.specs.Prelude.{codes, ℕ, ℤ, pos, int_le, unsigned_abs, true, false, ◌&&◌, ◌||◌, if◌then◌else◌, List, [], ◌∷◌, Option, Some, None, Result, Ok, Err}
 use Rattle.gho_values.specs.declared.kind.Kind.{Kind}
 use Rattle.gho_values.specs.declared.kind.Kind.TheVariants.{Int, VarChar, VarBinary}
 use Rattle.table_words.specs.declared.code.SchemaCode.{SchemaCode}

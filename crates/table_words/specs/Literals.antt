@@ -1,5 +1,5 @@
 -- Which words are literals, and how each is written (MySQL's manual, "Literal Values").
-use Rattle.std.specs.Prelude.{codes, ℕ, ℤ, Bool, List, Option, Some, None, if◌then◌else◌}
+use Rattle.std.specs.Prelude.{codes, ℕ, ℤ, List, Option, Some, None, if◌then◌else◌}
 use Rattle.std.specs.Option.{option_map}
 use Rattle.sql_words.specs.declared.word.WordClass.{WordClass}
 use Rattle.sql_words.specs.declared.word.WordClass.TheVariants as class

@@ -1,5 +1,5 @@
 -- Single words at the front of what is left of a text.
-use Rattle.std.specs.Prelude.{codes, ℕ, ℤ, Bool, true, false, if◌then◌else◌, List, [], ◌∷◌, Option, Some, None, Result, Ok, Err}
+use Rattle.std.specs.Prelude.{codes, ℕ, ℤ, if◌then◌else◌, List, [], ◌∷◌, Option, Some, None, Result, Ok, Err}
 use Rattle.gho_values.specs.declared.value.Value.{Value}
 use Rattle.gho_values.specs.declared.value.Value.TheVariants.{Null}
 use Rattle.sql_words.specs.declared.word.WordClass.{WordClass}

@@ -1,19 +1,18 @@
 -- A statement leaves a table.
-use Rattle.std.proofs.Common.{◌≡◌, ℕ, Bool, true, false, not, ◌&&◌, ◌||◌, List, [], ◌∷◌, ◌++◌, map, filter, cond, Option, Some, None, Result, Ok, Err, refl, sym, ap, ◌∙◌}
+use Rattle.std.proofs.Common.{◌≡◌, ℕ, Bool, true, false, not, ◌&&◌, ◌||◌, List, [], ◌∷◌, ◌++◌, map, cond, Option, Some, None, Result, Ok, Err, refl, sym, ap, ◌∙◌}
 use Rattle.std.proofs.lemmas.Bool.{true≢false, and_parts, false_from_ne_true}
 use Rattle.std.specs.List.{AllByRecursion, list_any}
 use Rattle.gho_values.specs.declared.value.Value.{Value}
 use Rattle.gho_values.specs.declared.gho_schema.schema.Schema.{Schema}
-use Rattle.gho_values.specs.declared.gho_schema.schema.Index.{Index}
 use Rattle.gho_values.specs.GhoSchema.Rows.{key_places, with_row}
-use Rattle.gho_values.specs.GhoSchema.Tables.{clash, IsRow, Apart, IsTable}
+use Rattle.gho_values.specs.GhoSchema.Tables.{clash, IsRow, IsTable}
 use Rattle.event_codec.specs.declared.event.Change.{Change}
 use Rattle.event_codec.specs.declared.event.Change.TheVariants as changes
 use Rattle.plain_server.specs.declared.answer.Answer.{Answer}
 use Rattle.plain_server.specs.declared.answer.Answer.TheVariants as answers
 use Rattle.plain_server.specs.Answers.{refuses}
 use Rattle.row_store.proofs.Orders.{Row}
-use Rattle.row_store.proofs.Ascending.{all-filter, ascends-filter}
+use Rattle.row_store.proofs.Ascending.{all-filter}
 use Rattle.plain_server.specs.Rows.{reaches, rows_met, same_row, stands, without_row, change_rows, change_all}
 use Rattle.plain_server.specs.declared.work.Work.{Work}
 use Rattle.plain_server.specs.declared.work.Work.TheVariants.{Refuse, Insert, Copy, Replace, Delete, Update, Select}
@@ -23,7 +22,7 @@ use Rattle.gho_values.specs.Laws.{StoresNullWhereNullable}
 use Rattle.gho_values.specs.declared.gho_schema.schema.Column.{Column}
 use Rattle.row_store.specs.ClusteredKeys.{HasClusteredKey}
 use Rattle.row_store.specs.Databases.{clashing}
-use Rattle.row_store.proofs.TableLaws.{put_keeps, apart-filter, some_rows}
+use Rattle.row_store.proofs.TableLaws.{put_keeps, some_rows}
 use Rattle.gho_values.proofs.StoredValues.{keeps}
 use Rattle.gho_values.specs.declared.value.Value.TheVariants.{Null}
 use Rattle.plain_server.proofs.StatementLaws.Standing.{one_row, same_itself, stands-filter, some_row, found_by}

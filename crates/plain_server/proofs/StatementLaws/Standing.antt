@@ -12,7 +12,7 @@ use Rattle.gho_values.specs.GhoSchema.Rows.{key_of, with_row}
 use Rattle.gho_values.specs.GhoSchema.Tables.{Ascends}
 use Rattle.event_codec.specs.declared.event.Change.{Change}
 use Rattle.event_codec.specs.declared.event.Change.TheVariants.{Write, Update, Delete}
-use Rattle.row_store.proofs.Orders.{Row, not_greater, turned, is_Equal}
+use Rattle.row_store.proofs.Orders.{Row, turned, is_Equal}
 use Rattle.row_store.proofs.Ascending.{ascends-filter, before_all}
 use Rattle.plain_server.specs.Rows.{same_row, stands, without_row, change_rows}
 use Rattle.plain_server.specs.StatementLaws.Agreeing.{SameWhere}

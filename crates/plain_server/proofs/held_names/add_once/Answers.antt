@@ -1,6 +1,6 @@
 use Rattle.std.proofs.Common.{ap, sym, ◌∙◌}
 use Rattle.std.specs.List.{list_any}
-use Rattle.plain_server.specs.HeldNames.{held, is_held_so}
+use Rattle.plain_server.specs.HeldNames.{is_held_so}
 use Rattle.plain_server.proofs.DifferentNames.{already, same_as}
 use Rattle.plain_server.proofs.held_names.add_once.Goals as goal
 

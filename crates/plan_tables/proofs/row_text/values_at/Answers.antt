@@ -1,6 +1,5 @@
 use Rattle.std.proofs.Common.{sym}
 use Rattle.std.proofs.lemmas.Result.{err_from_is_err_and}
-use Rattle.plan_tables.specs.RowTexts.{values_at}
 use Rattle.plan_tables.proofs.RowValues.{goes_on, no_sign, fails, is_full}
 use Rattle.plan_tables.proofs.row_text.values_at.Goals as goal
 

@@ -1,4 +1,4 @@
-use Rattle.std.proofs.Common.{length, sym}
+use Rattle.std.proofs.Common.{length}
 use Rattle.std.proofs.lemmas.Result.{err_from_is_err_and}
 use Rattle.table_words.proofs.Gathering.{one_more, no_more, one_fails, all_read}
 use Rattle.schema_text.specs.Columns.{with_column_attribute, column_attribute_at, column_attributes_at}

@@ -1,5 +1,4 @@
 use Rattle.std.proofs.Common.{◌&&◌, ◌||◌, not, sym}
-use Rattle.std.specs.List.{list_any}
 use Rattle.std.specs.Str.{bytes_eq}
 use Rattle.plain_server.specs.declared.session.HeldName.{HeldName}
 use Rattle.plain_server.proofs.DifferentNames.{looked_up}

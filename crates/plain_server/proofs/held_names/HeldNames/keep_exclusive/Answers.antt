@@ -1,6 +1,4 @@
-use Rattle.std.proofs.Common.{subst}
 use Rattle.plain_server.specs.declared.session.HeldName.{HeldName}
-use Rattle.plain_server.specs.HeldNames.{SayTheSame}
 use Rattle.plain_server.proofs.DifferentNames.{filtered}
 use Rattle.plain_server.proofs.held_names.HeldNames.keep_exclusive.Goals as goal
 
