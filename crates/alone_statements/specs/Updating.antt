@@ -12,7 +12,7 @@ abbrev pub changes_behind : List Change → Result (List Change) Answer → Resu
 changes_behind front (Ok others) = Ok (front ++ others)
 changes_behind front (Err refusal) = Err refusal
 
--- what becomes of it, where these rows are still to be changed, unless there was a refusal
+-- the changes so far and those of the rows that are left, unless the UPDATE was refused
 abbrev pub goes_on : Schema → List (Option Value) → List (List Value) → Going → Result (Unit {0}) Answer → Result (List Change) Answer
 goes_on schema sets met going (Ok done) = changes_behind going.changes (updates schema sets met going.rows)
 goes_on schema sets met going (Err refusal) = Err refusal

@@ -5,7 +5,7 @@ use program_runs::{Case, Program, Ran, run};
 use std::alloc::{AllocError, Global};
 
 /// Whether one at a time gives what the run of this plan printed.
-fn is_its_own(alloc: Global, plan: &[u8], ran: &Ran) -> Result<bool, AllocError> {
+pub(crate) fn is_run_as_alone(alloc: Global, plan: &[u8], ran: &Ran) -> Result<bool, AllocError> {
     is_as_alone(alloc, plan, &ran.ended.journal, ran.printed())
 }
 
@@ -18,7 +18,7 @@ pub(crate) fn is_report_told(
     let plan = case.plan.as_slice();
     let ran = run(alloc, program, case.words, plan)?;
     let is_same = is_as_alone(alloc, plan, &ran.ended.journal, case.prints.as_slice())?;
-    Ok(!is_same && is_its_own(alloc, plan, &ran)?)
+    Ok(!is_same && is_run_as_alone(alloc, plan, &ran)?)
 }
 
 /// Whether the run of the case's plan is as one at a time, and isn't one of the plan that stands in place of a report.
@@ -35,5 +35,5 @@ pub(crate) fn is_plan_told(
         &ran.ended.journal,
         ran.printed(),
     )?;
-    Ok(!is_same && is_its_own(alloc, plan, &ran)?)
+    Ok(!is_same && is_run_as_alone(alloc, plan, &ran)?)
 }

@@ -1,9 +1,8 @@
 //! What is asked of a case.
 
-use crate::altered::{is_plan_told, is_report_told};
+use crate::altered::{is_plan_told, is_report_told, is_run_as_alone};
 use crate::edges::{end_at_sinks, end_at_sources};
 use crate::lines::has_lines;
-use alone_reports::is_as_alone;
 use program_runs::{Case, Program, Ran, run};
 use std::alloc::{AllocError, Global};
 
@@ -29,18 +28,15 @@ fn is_written(alloc: Global, case: &Case<'_>, ran: &Ran) -> Result<bool, AllocEr
 }
 
 /// Whether a run took no turns, or one at a time gives what it printed.
-fn is_run_as_alone(alloc: Global, plan: &[u8], ran: &Ran) -> Result<bool, AllocError> {
-    if ran.ended.journal.is_empty() {
-        return Ok(true);
-    }
-    is_as_alone(alloc, plan, &ran.ended.journal, ran.printed())
+fn is_alone_where_run(alloc: Global, plan: &[u8], ran: &Ran) -> Result<bool, AllocError> {
+    Ok(ran.ended.journal.is_empty() || is_run_as_alone(alloc, plan, ran)?)
 }
 
 /// Whether a case prints what stands in it, with the status that stands there, and what one at a time gives.
 fn is_printed(alloc: Global, program: &Program, case: &Case<'_>) -> Result<bool, AllocError> {
     let plan = case.plan.as_slice();
     let ran = run(alloc, program, case.words, plan)?;
-    Ok(is_written(alloc, case, &ran)? && is_run_as_alone(alloc, plan, &ran)?)
+    Ok(is_written(alloc, case, &ran)? && is_alone_where_run(alloc, plan, &ran)?)
 }
 
 /// Whether a case is as expected.

@@ -68,12 +68,12 @@ fn run_turn_loss<R: Print + AllocGlobal>(
     rt: &R,
     program: &Program,
     plan: &str,
-    turn: (&str, usize),
+    actor: Actor,
+    number: usize,
     side: &str,
     count: &mut Count,
 ) -> io::Result<()> {
-    let (word, number) = turn;
-    let loss = format!(in rt.alloc(); "{word} {number} {side}")?;
+    let loss = format!(in rt.alloc(); "{} {number} {side}", word_of(actor))?;
     run_loss(rt, program, plan, loss.as_str(), count)
 }
 
@@ -96,9 +96,9 @@ fn run_turn_losses<R: Print + AllocGlobal>(
     let mut place = 0usize;
     for turn in turns {
         place = place.saturating_add(1);
-        let lost = (word_of(turn.actor), number_at(turn.actor, turns, place));
-        run_turn_loss(rt, program, plan, lost, "before", count)?;
-        run_turn_loss(rt, program, plan, lost, "after", count)?;
+        let number = number_at(turn.actor, turns, place);
+        run_turn_loss(rt, program, plan, turn.actor, number, "before", count)?;
+        run_turn_loss(rt, program, plan, turn.actor, number, "after", count)?;
     }
     Ok(())
 }
