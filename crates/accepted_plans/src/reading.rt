@@ -2,7 +2,7 @@
 
 ghost use Rattle.std.specs.Prelude.{◌≡◌, Some, IfOk};
 ghost use Rattle.plan_document.specs.Plans.{read};
-ghost use Rattle.plan_document.specs.Refusals.{Reads};
+ghost use Rattle.gho_values.specs.Faults.{Answers};
 ghost use Rattle.accepted_plans.specs.AcceptedLaws.Laws.{WasRead};
 
 use plan_document::{PlanFault, read_plan};
@@ -11,7 +11,7 @@ use std::alloc::Global;
 
 /// The plan that these bytes are: so the laws over journals speak of it.
 pub fn read_accepted_plan(alloc: Global, bytes: &[u8]) -> Result<Plan, PlanFault>
-    ensures plan { Reads (λ plan. plan) result (read bytes.now) }
+    ensures plan { Answers (λ plan. plan) result (read bytes.now) }
     ensures was_read { IfOk result WasRead }
 {
     let plan = read_plan(alloc, bytes)?;

@@ -26,7 +26,7 @@ fn images(alloc: Global, map: &[MapColumn], rows: &[Row]) -> Result<Option<Rows>
     for row in rows {
         match image(alloc, map, row.as_slice()) {
             Ok(one) => made.push(one)?,
-            Err(ImageFault::Unfit(_)) => return Ok(None),
+            Err(ImageFault::Refused(_)) => return Ok(None),
             Err(ImageFault::Memory) => return Err(AllocError),
         }
     }

@@ -4,11 +4,11 @@ use Rattle.std.proofs.lemmas.List.{drop_all}
 use Rattle.gho_values.specs.declared.alter_image.clause.Clause.{Clause}
 use Rattle.gho_values.proofs.GhoSchema.Loops.{from_here}
 use Rattle.alter_schema.specs.declared.code.AlterCode.{AlterCode}
-use Rattle.alter_schema.specs.declared.code.AlterFault.{AlterFault}
-use Rattle.alter_schema.specs.declared.code.AlterFault.TheVariants as faults
+use Rattle.gho_values.specs.declared.fault.Fault.{Fault}
+use Rattle.gho_values.specs.declared.fault.Fault.TheVariants as faults
 use Rattle.alter_schema.specs.declared.standing.Standing.{Standing}
 use Rattle.alter_schema.specs.Altering.{step, steps}
-use Rattle.alter_schema.specs.Codes.{Refuses}
+use Rattle.gho_values.specs.Faults.{Refuses}
 
 module _ (approve : Bool) (standing : Standing) (clauses : List Clause) (i : ℕ) (clause : Clause) (total : Result Standing AlterCode) where
   pub goes_on : (next : Standing) → i < length clauses → clause ≡ get_or clauses i clause → step approve standing clause ≡ Ok next → steps approve standing (drop i clauses) ≡ total → steps approve next (drop (i + 1) clauses) ≡ total
@@ -23,7 +23,7 @@ module _ (approve : Bool) (standing : Standing) (clauses : List Clause) (i : ℕ
       let one : steps approve standing (drop i clauses) ≡ Err code = rw (from_here clauses i clause lt is, taken) refl in
       sym so_far ∙ one
 
-  pub fails : (fault : AlterFault) → i < length clauses → clause ≡ get_or clauses i clause → Refuses fault (step approve standing clause) → steps approve standing (drop i clauses) ≡ total → Refuses fault total
+  pub fails : (fault : Fault AlterCode) → i < length clauses → clause ≡ get_or clauses i clause → Refuses fault (step approve standing clause) → steps approve standing (drop i clauses) ≡ total → Refuses fault total
   fails faults.Memory lt is taken so_far = tt
   fails (faults.Refused code) lt is taken so_far = refused code lt is taken so_far
 

@@ -1,9 +1,7 @@
--- The numbers and the names of the refusals of ALTER TABLE (this project's rule), and what the code answers of them.
-use Rattle.std.specs.Prelude.{◌≡◌, codes, ℕ, List, Result, Ok, Err}
+-- The numbers and the names of the refusals of ALTER TABLE (this project's rule).
+use Rattle.std.specs.Prelude.{codes, ℕ, List}
 use Rattle.alter_schema.specs.declared.code.AlterCode.{AlterCode}
 use Rattle.alter_schema.specs.declared.code.AlterCode.TheVariants.{Syntax, UnknownName, RepeatedName, KeyColumnDropped, KeyColumnConverted, AddUnique, ClusteredKeyChange, Default, RenameNotApproved, RenameTable, AllColumnsDropped, Scope}
-use Rattle.alter_schema.specs.declared.code.AlterFault.{AlterFault}
-use Rattle.alter_schema.specs.declared.code.AlterFault.TheVariants as faults
 
 -- a refusal's number and its name
 abbrev pub alter_code : AlterCode → ℕ × List ℕ
@@ -25,12 +23,3 @@ alter_number code = (alter_code code).0
 
 abbrev pub alter_name : AlterCode → List ℕ
 alter_name code = (alter_code code).1
-
--- What the code answers, seen by view, is what the definition says, unless memory ran out.
-abbrev pub Refuses : {Y : Type 0} → AlterFault → Result Y AlterCode → Type 0
-Refuses faults.Memory said = Unit {0}
-Refuses (faults.Refused code) said = said ≡ Err code
-
-abbrev pub Answers : {X Y : Type 0} → (X → Y) → Result X AlterFault → Result Y AlterCode → Type 0
-Answers view (Ok x) said = said ≡ Ok (view x)
-Answers view (Err fault) said = Refuses fault said

@@ -3,7 +3,7 @@
 ghost use Rattle.std.specs.Prelude.{◌≡◌, ◌<◌, length, IfOk};
 ghost use Rattle.gho_values.specs.SchemaRules.Reasons.{first_reason};
 ghost use Rattle.alter_schema.specs.Changing.{change_reasons, changed_nullable, changed_in, unless_unapproved, changed_column, changed};
-ghost use Rattle.alter_schema.specs.Codes.{Answers};
+ghost use Rattle.gho_values.specs.Faults.{Answers};
 ghost use Rattle.alter_schema.specs.Standing.{Stands};
 
 use crate::code::{AlterCode, AlterFault};

@@ -1,10 +1,8 @@
 //! Why an ALTER is refused.
 
 ghost use Rattle.std.specs.Prelude.{◌≡◌};
-ghost use Rattle.alter_schema.specs.declared.code.AlterFault.TheVariants.{Memory};
 
-use std::alloc::{AllocError, AllocFailed};
-use thiserror::Error;
+use gho_values::Fault;
 
 /// Why an ALTER is refused, each with its number.
 #[derive(Clone, Copy, Debug)]
@@ -73,29 +71,5 @@ impl AlterCode {
     }
 }
 
-/// Why an ALTER isn't read or taken.
-#[derive(Debug, Drop, Error)]
-pub enum AlterFault {
-    /// It is refused.
-    #[error("the ALTER is refused: {0:?}")]
-    Refused(AlterCode),
-    /// There is no memory for what it gives.
-    #[error("out of memory")]
-    Memory,
-}
-
-impl From<AllocError> for AlterFault {
-    ghost from_gives = { λ _ e. e ≡ Memory };
-
-    fn from(_error: AllocError) -> AlterFault {
-        AlterFault::Memory
-    }
-}
-
-impl<T: Drop> From<AllocFailed<T>> for AlterFault {
-    ghost from_gives = { λ _ e. e ≡ Memory };
-
-    fn from(_error: AllocFailed<T>) -> AlterFault {
-        AlterFault::Memory
-    }
-}
+/// Why an ALTER isn't read or taken: it is refused, or there is no memory.
+pub type AlterFault = Fault<AlterCode>;

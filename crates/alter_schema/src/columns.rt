@@ -1,7 +1,7 @@
 //! Columns by their names, where clauses put them, and what they store of their defaults.
 
 ghost use Rattle.std.specs.Prelude.{◌≡◌, ◌<◌, ◌≤◌, length, option_map, IfSome};
-ghost use Rattle.alter_schema.specs.Codes.{Answers};
+ghost use Rattle.gho_values.specs.Faults.{Answers};
 ghost use Rattle.alter_schema.specs.Columns.{column_place, has_column, column_named, has_place, is_in_keys, is_in_primary, is_spot, spot_place, lacks_default, column_of, fitting};
 
 use crate::code::{AlterCode, AlterFault};
@@ -114,7 +114,7 @@ pub fn column_of(
     ensures { Answers (λ column. column) result (column_of origin written.now nullable) }
 {
     match stored_default(alloc, written.kind, nullable, &written.default) {
-        Err(StoreFault::Unfit(_)) => Err(AlterFault::Refused(AlterCode::Default)),
+        Err(StoreFault::Refused(_)) => Err(AlterFault::Refused(AlterCode::Default)),
         Err(StoreFault::Memory) => Err(AlterFault::Memory),
         Ok(default) => {
             if lacks_default(origin, nullable, &default) {

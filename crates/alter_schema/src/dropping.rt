@@ -1,7 +1,7 @@
 //! DROP COLUMN.
 
 ghost use Rattle.alter_schema.specs.Changing.{dropped};
-ghost use Rattle.alter_schema.specs.Codes.{Answers};
+ghost use Rattle.gho_values.specs.Faults.{Answers};
 ghost use Rattle.alter_schema.specs.Standing.{Stands};
 
 use crate::code::{AlterCode, AlterFault};

@@ -3,7 +3,7 @@
 ghost use Rattle.std.specs.Prelude.{◌≡◌, ◌<◌, ◌++◌, length, option_to_list, IfOk, IfSome, OnOk};
 ghost use Rattle.std.specs.List.{filter_map, list_all};
 ghost use Rattle.gho_values.specs.SchemaRules.Reasons.{first_reason};
-ghost use Rattle.alter_schema.specs.Codes.{Answers};
+ghost use Rattle.gho_values.specs.Faults.{Answers};
 ghost use Rattle.alter_schema.specs.Columns.{column_place, has_column};
 ghost use Rattle.alter_schema.specs.Indexing.{key_names, first_column, index_name, are_columns, index_reasons, index_of, with_index, indexed_as, indexed, is_named, index_place, is_clustered, without_unique, without_index, unindexed};
 

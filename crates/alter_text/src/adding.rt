@@ -1,6 +1,6 @@
 //! Clauses that write a column or an index: ADD, CHANGE and MODIFY.
 
-ghost use Rattle.alter_schema.specs.Codes.{Answers};
+ghost use Rattle.gho_values.specs.Faults.{Answers};
 ghost use Rattle.alter_text.specs.Adding.{add_column_at, add_index_at, add_at, change_at, modify_at};
 
 use crate::column::{new_column_at, spot_at};

@@ -1,7 +1,7 @@
 //! The clauses of an ALTER, and the ALTER TABLE that may stand in front of them.
 
 ghost use Rattle.std.specs.Prelude.{codes};
-ghost use Rattle.alter_schema.specs.Codes.{Answers};
+ghost use Rattle.gho_values.specs.Faults.{Answers};
 ghost use Rattle.alter_text.specs.Clauses.{clause_at, list_at, clauses_at, behind_table, front_at};
 ghost use Rattle.table_words.specs.Pieces.{behind_keyword};
 

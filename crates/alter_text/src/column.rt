@@ -1,7 +1,7 @@
 //! A column as a clause writes it, and where it is to stand.
 
 ghost use Rattle.std.specs.Prelude.{option_map};
-ghost use Rattle.alter_schema.specs.Codes.{Answers};
+ghost use Rattle.gho_values.specs.Faults.{Answers};
 ghost use Rattle.alter_text.specs.Column.{new_attribute_at, new_attributes_at, new_column_at, after_at, spot_at};
 
 use crate::pieces::{attribute_at, keyword_at, kind_at, name_at};

@@ -5,7 +5,7 @@ ghost use Rattle.table_words.specs.Attributes.{attribute_at};
 ghost use Rattle.table_words.specs.Keys.{key_at};
 ghost use Rattle.table_words.specs.Kinds.{kind_at};
 ghost use Rattle.table_words.specs.Pieces.{keyword_at, name_at};
-ghost use Rattle.alter_schema.specs.Codes.{Answers};
+ghost use Rattle.gho_values.specs.Faults.{Answers};
 ghost use Rattle.alter_text.specs.Pieces.{in_alter, behind_column, is_index_word, is_out_of_scope};
 
 use alter_schema::{AlterCode, AlterFault};

@@ -1,6 +1,6 @@
 //! The reader of ALTER TABLE.
 
-ghost use Rattle.alter_schema.specs.Codes.{Answers};
+ghost use Rattle.gho_values.specs.Faults.{Answers};
 ghost use Rattle.alter_text.specs.Reading.{alter_at};
 
 use crate::clauses::{clauses_at, front_at};

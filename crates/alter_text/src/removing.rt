@@ -1,6 +1,6 @@
 //! Clauses that take something away or give it another name: DROP and RENAME.
 
-ghost use Rattle.alter_schema.specs.Codes.{Answers};
+ghost use Rattle.gho_values.specs.Faults.{Answers};
 ghost use Rattle.alter_text.specs.Removing.{drop_column_at, drop_index_at, drop_at, rename_column_at, rename_at};
 
 use crate::pieces::{behind_column, is_index_word, is_out_of_scope, keyword_at, name_at};

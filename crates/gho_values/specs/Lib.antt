@@ -1,4 +1,5 @@
 pub mod Comparing
+pub mod Faults
 pub mod Laws
 pub mod Printing
 pub mod Spans

@@ -5,4 +5,3 @@ pub mod Limits
 pub mod Names
 pub mod Reasons
 pub mod Results
-pub mod Storing

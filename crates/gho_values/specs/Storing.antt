@@ -1,7 +1,7 @@
 -- What a column stores of a value, and what a condition seeks in it.
 -- Ranges and lengths are those of MySQL's manual: "Integer Types (Exact Value)", "The CHAR and VARCHAR Types", "The BINARY and VARBINARY Types".
 -- Which values a column converts, and the number of each refusal, is this project's rule.
-use Rattle.std.specs.Prelude.{◌≡◌, ℕ, ◌-◌, ◌*◌, ◌^◌, ℤ, pos, neg_ℤ, int_le, Bool, true, false, ◌&&◌, ◌||◌, if◌then◌else◌, ◌==◌, nat_lt, nat_le, List, [], ◌∷◌, length, count_by, Option, Some, None, Result, Ok, Err}
+use Rattle.std.specs.Prelude.{ℕ, ◌-◌, ◌*◌, ◌^◌, ℤ, pos, neg_ℤ, int_le, Bool, true, false, ◌&&◌, ◌||◌, if◌then◌else◌, ◌==◌, nat_lt, nat_le, List, [], ◌∷◌, length, count_by, Option, Some, None, Result, Ok, Err}
 use Rattle.std.specs.Char.{is_ascii_digit}
 use Rattle.std.specs.Fmt.{signed_decimal}
 use Rattle.std.specs.List.{list_all}
@@ -11,10 +11,8 @@ use Rattle.gho_values.specs.declared.kind.Kind.{Kind}
 use Rattle.gho_values.specs.declared.kind.Kind.TheVariants.{Int, VarChar, VarBinary}
 use Rattle.gho_values.specs.declared.value.Value.{Value}
 use Rattle.gho_values.specs.declared.value.Value.TheVariants.{Null, Num, Text, Blob}
-use Rattle.gho_values.specs.declared.fault.Unfit.{Unfit}
-use Rattle.gho_values.specs.declared.fault.Unfit.TheVariants as unfit
-use Rattle.gho_values.specs.declared.fault.StoreFault.{StoreFault}
-use Rattle.gho_values.specs.declared.fault.StoreFault.TheVariants as faults
+use Rattle.gho_values.specs.declared.unfit.Unfit.{Unfit}
+use Rattle.gho_values.specs.declared.unfit.Unfit.TheVariants as unfit
 
 -- The number of a refusal (MySQL's manual, "Server Error Message Reference").
 abbrev pub error_number : Unfit → ℕ
@@ -92,12 +90,6 @@ seeks (Blob blob) (VarChar limit) = Err unfit.Kind
 seeks (Num n) (VarBinary limit) = Ok (Blob (signed_decimal n))
 seeks (Text text) (VarBinary limit) = Ok (Blob text)
 seeks (Blob blob) (VarBinary limit) = Ok (Blob blob)
-
--- A call's answer is what the table says, unless memory ran out.
-abbrev pub Stored : Result Value StoreFault → Result Value Unfit → Type 0
-Stored (Ok value) said = said ≡ Ok value
-Stored (Err faults.Memory) said = Unit {0}
-Stored (Err (faults.Unfit reason)) said = said ≡ Err reason
 
 -- The value is one of the kind, in its range or its length; a null is one of each.
 unfoldable pub fits : Value → Kind → Bool

@@ -1,63 +1,35 @@
-//! Why a value isn't stored.
+//! Why a call gives nothing.
 
 ghost use Rattle.std.specs.Prelude.{◌≡◌};
-ghost use Rattle.gho_values.specs.declared.fault.StoreFault.TheVariants.{Memory};
+ghost use Rattle.gho_values.specs.declared.fault.Fault.TheVariants.{Memory};
 
 use std::alloc::{AllocError, AllocFailed};
+use std::fmt::Debug;
 use thiserror::Error;
 
-/// Why a column refuses a value, each with its number in MySQL's manual, "Server Error Message Reference".
-#[derive(Clone, Copy, Debug)]
-pub enum Unfit {
-    /// 1048: the column can't be null.
-    Null,
-    /// 1264: the number is out of the column's range.
-    Range,
-    /// 1406: the text or the bytes are longer than the column's length.
-    Length,
-    /// 1366: the value isn't one of the column's kind, nor converted to it.
-    Kind,
-}
-
-impl Unfit {
-    ghost use Rattle.gho_values.specs.Storing.{error_number};
-
-    /// The refusal's number.
-    pub fn number(self) -> u16
-        ensures { result ≡ error_number self }
-    {
-        match self {
-            Unfit::Null => 1048,
-            Unfit::Range => 1264,
-            Unfit::Length => 1406,
-            Unfit::Kind => 1366,
-        }
-    }
-}
-
-/// Why `store` or `seek` gives no value.
+/// Why a call gives nothing: what it was given is refused, or memory ran out.
 #[derive(Debug, Drop, Error)]
-pub enum StoreFault {
-    /// The column refuses the value.
-    #[error("the value doesn't fit its column: {0:?}")]
-    Unfit(Unfit),
-    /// There is no memory for the stored value.
+pub enum Fault<R: Debug> {
+    /// It is refused, and why.
+    #[error("refused: {0:?}")]
+    Refused(R),
+    /// There is no memory for the result.
     #[error("out of memory")]
     Memory,
 }
 
-impl From<AllocError> for StoreFault {
+impl<R: Debug> From<AllocError> for Fault<R> {
     ghost from_gives = { λ _ e. e ≡ Memory };
 
-    fn from(_error: AllocError) -> StoreFault {
-        StoreFault::Memory
+    fn from(_error: AllocError) -> Fault<R> {
+        Fault::Memory
     }
 }
 
-impl<T: Drop> From<AllocFailed<T>> for StoreFault {
+impl<T: Drop, R: Debug> From<AllocFailed<T>> for Fault<R> {
     ghost from_gives = { λ _ e. e ≡ Memory };
 
-    fn from(_error: AllocFailed<T>) -> StoreFault {
-        StoreFault::Memory
+    fn from(_error: AllocFailed<T>) -> Fault<R> {
+        Fault::Memory
     }
 }

@@ -3,13 +3,14 @@
 ghost use Rattle.std.specs.Prelude.{◌≡◌, ◌<◌, ◌≤◌, ◌^◌, is_some, IfOk};
 ghost use Rattle.std.specs.Char.{is_ascii_digit};
 ghost use Rattle.std.specs.List.{list_all};
-ghost use Rattle.gho_values.specs.Storing.{half, lowest, highest, character_count, digits_number, text_number, in_range, text_within, bytes_within, stores, seeks, Stored};
+ghost use Rattle.gho_values.specs.Storing.{half, lowest, highest, character_count, digits_number, text_number, in_range, text_within, bytes_within, stores, seeks};
+ghost use Rattle.gho_values.specs.Faults.{Answers};
 
-use crate::fault::{StoreFault, Unfit};
 use crate::kind::Kind;
 use crate::sequence::Sequence;
 use crate::text::Chars;
 use crate::value::Value;
+use crate::{StoreFault, Unfit};
 use itoa::Buffer;
 use std::alloc::{AllocError, Global};
 
@@ -17,11 +18,11 @@ use std::alloc::{AllocError, Global};
 /// may be null. A text becomes a number in an integer column, and a number a text or bytes in the others.
 #[tactic(auto, unfolding(crate::specs::Storing::stores))]
 pub fn store(alloc: Global, value: &Value, kind: Kind, nullable: bool) -> Result<Value, StoreFault>
-    ensures { Stored result (stores value.now kind nullable) }
+    ensures { Answers (λ value. value) result (stores value.now kind nullable) }
 {
     match value {
         Value::Null if nullable => Ok(Value::Null),
-        Value::Null => Err(StoreFault::Unfit(Unfit::Null)),
+        Value::Null => Err(StoreFault::Refused(Unfit::Null)),
         Value::Num(number) => match kind {
             Kind::Int { bytes, unsigned } => number_in_range(*number, bytes, unsigned),
             Kind::VarChar(limit) => short_text(alloc, Buffer::new().format(*number), limit),
@@ -32,13 +33,13 @@ pub fn store(alloc: Global, value: &Value, kind: Kind, nullable: bool) -> Result
         Value::Text(chars) => match kind {
             Kind::Int { bytes, unsigned } => match number_of(chars.as_str()) {
                 Some(number) => number_in_range(number, bytes, unsigned),
-                None => Err(StoreFault::Unfit(Unfit::Kind)),
+                None => Err(StoreFault::Refused(Unfit::Kind)),
             },
             Kind::VarChar(limit) => short_text(alloc, chars.as_str(), limit),
             Kind::VarBinary(limit) => short_bytes(alloc, chars.as_str().as_bytes(), limit),
         },
         Value::Blob(blob) => match kind {
-            Kind::Int { .. } | Kind::VarChar(_) => Err(StoreFault::Unfit(Unfit::Kind)),
+            Kind::Int { .. } | Kind::VarChar(_) => Err(StoreFault::Refused(Unfit::Kind)),
             Kind::VarBinary(limit) => short_bytes(alloc, blob.as_slice(), limit),
         },
     }
@@ -48,10 +49,10 @@ pub fn store(alloc: Global, value: &Value, kind: Kind, nullable: bool) -> Result
 /// would store if the column had room for it. A null is refused, as nothing equals it.
 #[tactic(auto, unfolding(crate::specs::Storing::seeks))]
 pub fn seek(alloc: Global, value: &Value, kind: Kind) -> Result<Value, StoreFault>
-    ensures { Stored result (seeks value.now kind) }
+    ensures { Answers (λ value. value) result (seeks value.now kind) }
 {
     match value {
-        Value::Null => Err(StoreFault::Unfit(Unfit::Kind)),
+        Value::Null => Err(StoreFault::Refused(Unfit::Kind)),
         Value::Num(number) => match kind {
             Kind::Int { .. } => Ok(Value::Num(*number)),
             Kind::VarChar(_) => Ok(text_value(alloc, Buffer::new().format(*number))?),
@@ -62,13 +63,13 @@ pub fn seek(alloc: Global, value: &Value, kind: Kind) -> Result<Value, StoreFaul
         Value::Text(chars) => match kind {
             Kind::Int { .. } => match number_of(chars.as_str()) {
                 Some(number) => Ok(Value::Num(number)),
-                None => Err(StoreFault::Unfit(Unfit::Kind)),
+                None => Err(StoreFault::Refused(Unfit::Kind)),
             },
             Kind::VarChar(_) => Ok(text_value(alloc, chars.as_str())?),
             Kind::VarBinary(_) => Ok(bytes_value(alloc, chars.as_str().as_bytes())?),
         },
         Value::Blob(blob) => match kind {
-            Kind::Int { .. } | Kind::VarChar(_) => Err(StoreFault::Unfit(Unfit::Kind)),
+            Kind::Int { .. } | Kind::VarChar(_) => Err(StoreFault::Refused(Unfit::Kind)),
             Kind::VarBinary(_) => Ok(bytes_value(alloc, blob.as_slice())?),
         },
     }
@@ -76,21 +77,21 @@ pub fn seek(alloc: Global, value: &Value, kind: Kind) -> Result<Value, StoreFaul
 
 #[tactic(auto, unfolding(crate::specs::Storing::in_range))]
 fn number_in_range(number: i128, bytes: u8, unsigned: bool) -> Result<Value, StoreFault>
-    ensures { Stored result (in_range bytes unsigned number) }
+    ensures { Answers (λ value. value) result (in_range bytes unsigned number) }
 {
     if lowest(bytes, unsigned) <= number && number <= highest(bytes, unsigned) {
         Ok(Value::Num(number))
     } else {
-        Err(StoreFault::Unfit(Unfit::Range))
+        Err(StoreFault::Refused(Unfit::Range))
     }
 }
 
 #[tactic(auto, unfolding(crate::specs::Storing::text_within))]
 fn short_text(alloc: Global, text: &str, limit: u16) -> Result<Value, StoreFault>
-    ensures { Stored result (text_within limit text.now) }
+    ensures { Answers (λ value. value) result (text_within limit text.now) }
 {
     if character_count(text) > usize::from(limit) {
-        return Err(StoreFault::Unfit(Unfit::Length));
+        return Err(StoreFault::Refused(Unfit::Length));
     }
     Ok(text_value(alloc, text)?)
 }
@@ -103,10 +104,10 @@ fn text_value(alloc: Global, text: &str) -> Result<Value, AllocError>
 
 #[tactic(auto, unfolding(crate::specs::Storing::bytes_within))]
 fn short_bytes(alloc: Global, bytes: &[u8], limit: u16) -> Result<Value, StoreFault>
-    ensures { Stored result (bytes_within limit bytes.now) }
+    ensures { Answers (λ value. value) result (bytes_within limit bytes.now) }
 {
     if bytes.len() > usize::from(limit) {
-        return Err(StoreFault::Unfit(Unfit::Length));
+        return Err(StoreFault::Refused(Unfit::Length));
     }
     Ok(bytes_value(alloc, bytes)?)
 }

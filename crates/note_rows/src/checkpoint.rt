@@ -50,7 +50,7 @@ fn short_text(alloc: Global, text: &str) -> Result<Option<Value>, AllocError>
     let text = Value::Text(Chars::new(alloc, text)?);
     match store(alloc, &text, Kind::VarChar(MOST_CHARACTERS), false) {
         Ok(value) => Ok(Some(value)),
-        Err(StoreFault::Unfit(_)) => Ok(None),
+        Err(StoreFault::Refused(_)) => Ok(None),
         Err(StoreFault::Memory) => Err(AllocError),
     }
 }

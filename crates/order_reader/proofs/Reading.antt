@@ -3,11 +3,11 @@ use Rattle.std.proofs.Common.{◌≡◌, ℕ, ◌+◌, ◌<◌, ◌≤◌, List,
 use Rattle.std.proofs.lemmas.List.{append-nil, drop_all, drop_more}
 use Rattle.gho_values.specs.SchemaRules.Results.{◌>>=◌}
 use Rattle.script_text.specs.declared.operator.Command.{Command}
-use Rattle.order_reader.specs.declared.fault.OrderFault.{OrderFault}
-use Rattle.order_reader.specs.declared.fault.OrderFault.TheVariants as faults
+use Rattle.gho_values.specs.declared.fault.Fault.{Fault}
+use Rattle.gho_values.specs.declared.fault.Fault.TheVariants as faults
 use Rattle.order_reader.specs.declared.fault.OrderRefusal.{OrderRefusal}
 use Rattle.order_reader.specs.Operators.{line_command, next_line, commands_from}
-use Rattle.order_reader.specs.Refusals.{Refuses}
+use Rattle.gho_values.specs.Faults.{Refuses}
 use Rattle.order_reader.specs.Spacing.{spaced_words}
 
 -- the commands so far, and those that are still read
@@ -42,7 +42,7 @@ module _ (line : ℕ) (front : List Command) (lines : List (Bor (List ℕ))) (i 
       let one : with_front front (commands_from line (texts (drop i lines))) ≡ Err refusal = rw (drop_more lines i default lt, e) refl in
       sym so_far ∙ one
 
-  pub fails : (fault : OrderFault) → Refuses fault command_here → Lines → Refuses fault total
+  pub fails : (fault : Fault OrderRefusal) → Refuses fault command_here → Lines → Refuses fault total
   fails faults.Memory e so_far = tt
   fails (faults.Refused refusal) e so_far = refuses refusal e so_far
 

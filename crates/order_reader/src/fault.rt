@@ -2,8 +2,7 @@
 
 ghost use Rattle.std.specs.Prelude.{◌≡◌};
 
-use std::alloc::{AllocError, AllocFailed};
-use thiserror::Error;
+use gho_values::Fault;
 
 /// Why a text is refused.
 #[derive(Clone, Copy, Debug)]
@@ -34,33 +33,5 @@ impl OrderRefusal {
     }
 }
 
-/// Why a text isn't read.
-#[derive(Debug, Drop, Error)]
-pub enum OrderFault {
-    /// It is refused.
-    #[error("the text is refused: {0:?}")]
-    Refused(OrderRefusal),
-    /// There is no memory for what is read.
-    #[error("out of memory")]
-    Memory,
-}
-
-impl From<AllocError> for OrderFault {
-    ghost use Rattle.order_reader.specs.declared.fault.OrderFault.TheVariants.{Memory};
-
-    ghost from_gives = { λ _ e. e ≡ Memory };
-
-    fn from(_error: AllocError) -> OrderFault {
-        OrderFault::Memory
-    }
-}
-
-impl<T: Drop> From<AllocFailed<T>> for OrderFault {
-    ghost use Rattle.order_reader.specs.declared.fault.OrderFault.TheVariants.{Memory};
-
-    ghost from_gives = { λ _ e. e ≡ Memory };
-
-    fn from(_error: AllocFailed<T>) -> OrderFault {
-        OrderFault::Memory
-    }
-}
+/// Why a text isn't read: it is refused, or there is no memory.
+pub type OrderFault = Fault<OrderRefusal>;

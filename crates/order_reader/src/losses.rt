@@ -2,7 +2,8 @@
 
 ghost use Rattle.std.specs.Prelude.{◌≡◌, map};
 ghost use Rattle.order_reader.specs.Losses.{side_of, count_of, lost_actor, loss_at_turn, loss_at_call, loss_of_words, loss_of};
-ghost use Rattle.order_reader.specs.Refusals.{Reads, or_refused};
+ghost use Rattle.order_reader.specs.Refusals.{or_refused};
+ghost use Rattle.gho_values.specs.Faults.{Answers};
 
 use crate::actors::actor_among;
 use crate::fault::{OrderFault, OrderRefusal};
@@ -29,13 +30,13 @@ fn side_of(word: &[u8]) -> Option<Side>
 }
 
 fn count_of(word: &[u8]) -> Result<u32, OrderFault>
-    ensures { Reads (λ count. count) result (count_of word.now) }
+    ensures { Answers (λ count. count) result (count_of word.now) }
 {
     number_up_to(LOSS_LIMIT, word).ok_or(NO_LOSS)
 }
 
 fn lost_actor(clients: u32, word: &[u8]) -> Result<Actor, OrderFault>
-    ensures { Reads (λ actor. actor) result (lost_actor clients word.now) }
+    ensures { Answers (λ actor. actor) result (lost_actor clients word.now) }
 {
     actor_among(clients, word).ok_or(OrderFault::Refused(OrderRefusal::LossActor))
 }
@@ -43,7 +44,7 @@ fn lost_actor(clients: u32, word: &[u8]) -> Result<Actor, OrderFault>
 /// `turn N A`.
 #[tactic(auto, unfolding(crate::specs::Losses::loss_at_turn))]
 fn loss_at_turn(clients: u32, turn: &[u8], actor: &[u8]) -> Result<Loss, OrderFault>
-    ensures { Reads (λ loss. loss) result (loss_at_turn clients turn.now actor.now) }
+    ensures { Answers (λ loss. loss) result (loss_at_turn clients turn.now actor.now) }
 {
     let turn = count_of(turn)?;
     let actor = lost_actor(clients, actor)?;
@@ -53,7 +54,7 @@ fn loss_at_turn(clients: u32, turn: &[u8], actor: &[u8]) -> Result<Loss, OrderFa
 /// `A N before` and `A N after`.
 #[tactic(auto, unfolding(crate::specs::Losses::loss_at_call))]
 fn loss_at_call(clients: u32, actor: &[u8], n: &[u8], side: &[u8]) -> Result<Loss, OrderFault>
-    ensures { Reads (λ loss. loss) result (loss_at_call clients actor.now n.now side.now) }
+    ensures { Answers (λ loss. loss) result (loss_at_call clients actor.now n.now side.now) }
 {
     let n = count_of(n)?;
     let side = side_of(side).ok_or(NO_LOSS)?;
@@ -62,7 +63,7 @@ fn loss_at_call(clients: u32, actor: &[u8], n: &[u8], side: &[u8]) -> Result<Los
 }
 
 fn loss_of_words(clients: u32, words: &[&[u8]]) -> Result<Loss, OrderFault>
-    ensures { Reads (λ loss. loss) result (loss_of_words clients (map (λ word. word.now) words.now)) }
+    ensures { Answers (λ loss. loss) result (loss_of_words clients (map (λ word. word.now) words.now)) }
 {
     match words {
         [] => Err(NO_LOSS),
@@ -81,7 +82,7 @@ fn loss_of_words(clients: u32, words: &[&[u8]]) -> Result<Loss, OrderFault>
 
 /// Reads a loss of a session of a plan with so many clients.
 pub fn read_fault(alloc: Global, text: &str, clients: u32) -> Result<Loss, OrderFault>
-    ensures { Reads (λ loss. loss) result (loss_of clients text.now) }
+    ensures { Answers (λ loss. loss) result (loss_of clients text.now) }
 {
     let words = spaced_words(alloc, text)?;
     loss_of_words(clients, words.as_slice())

@@ -4,7 +4,7 @@ ghost use Rattle.std.specs.Prelude.{◌≡◌, ◌++◌, IfOk, OnOk, map, option
 ghost use Rattle.std.specs.List.{count_by};
 ghost use Rattle.std.specs.Str.Lines.{lines};
 ghost use Rattle.order_reader.specs.Operators.{chunk_size_of, operator_word, wait_of, command_of, line_command, has_words, command_count, commands_from, operator_of};
-ghost use Rattle.order_reader.specs.Refusals.{Reads};
+ghost use Rattle.gho_values.specs.Faults.{Answers};
 ghost use Rattle.order_reader.specs.Spacing.{spaced_words, parts_at};
 
 use crate::fault::{OrderFault, OrderRefusal};
@@ -81,7 +81,7 @@ fn command_of(words: &[&[u8]]) -> Option<Command>
 
 /// What a line of this number commands: nothing where it has no words.
 fn line_command(alloc: Global, line: u32, text: &str) -> Result<Option<Command>, OrderFault>
-    ensures { Reads (λ command. command) result (line_command line (spaced_words text.now)) }
+    ensures { Answers (λ command. command) result (line_command line (spaced_words text.now)) }
 {
     let words = spaced_words(alloc, text)?;
     if words.is_empty() {
@@ -103,7 +103,7 @@ fn push_command(commands: &mut Commands, command: Option<Command>) -> Result<(),
 }
 
 fn commands_from(alloc: Global, texts: &[&str]) -> Result<Commands, OrderFault>
-    ensures { Reads (λ commands. commands) result (commands_from 1 (map (λ text. text.now) texts.now)) }
+    ensures { Answers (λ commands. commands) result (commands_from 1 (map (λ text. text.now) texts.now)) }
 {
     let mut commands = Sequence::new(alloc);
     let mut line: u32 = 1;
@@ -153,7 +153,7 @@ pub fn has_more_commands(alloc: Global, limit: u64, text: &str) -> Result<bool, 
 
 /// Reads the operator's commands, one a line. A line without words commands nothing, and is counted.
 pub fn read_operator(alloc: Global, text: &str) -> Result<Commands, OrderFault>
-    ensures { Reads (λ commands. commands) result (operator_of text.now) }
+    ensures { Answers (λ commands. commands) result (operator_of text.now) }
 {
     let lines = lines_of(alloc, text)?;
     commands_from(alloc, lines.as_slice())

@@ -2,8 +2,9 @@
 
 ghost use Rattle.std.specs.Prelude.{◌≡◌, ◌≤◌, ◌<◌, ◌+◌, ◌*◌, false, length, slice_get, slice_set, IfOk, IfSome, IfErr, OnOk, OnErr, Ok};
 ghost use Rattle.std.specs.String.{string_bytes};
-ghost use Rattle.row_store.specs.Databases.{database, has_table, rename_tables, IsRenameFault, name_stored, spares};
-ghost use Rattle.row_store.specs.declared.renaming.RenameFault.TheVariants.{Memory};
+ghost use Rattle.row_store.specs.Databases.{database, has_table, rename_tables, name_stored, spares};
+ghost use Rattle.gho_values.specs.Faults.{Refuses};
+ghost use Rattle.gho_values.specs.declared.fault.Fault.TheVariants.{Memory};
 ghost use Rattle.paged_tables.specs.PagedDatabases.{stored, table_names, AreNamed};
 
 use crate::finding::{has_name, place_of};
@@ -59,7 +60,7 @@ pub fn rename_from(tables: &mut NameMap<Table>, pairs: &[Pair]) -> Result<(), Re
     requires named { AreNamed tables.old }
     requires room { 2 * length pairs.now ≤ tables.old.spare }
     ensures ok { OnOk result (rename_tables pairs.now (database (stored tables.old.values)) ≡ Ok (database (stored tables.new.values))) }
-    ensures fault { IfErr result (IsRenameFault (rename_tables pairs.now (database (stored tables.old.values)))) }
+    ensures fault { IfErr result (λ fault. Refuses fault (rename_tables pairs.now (database (stored tables.old.values)))) }
     ensures err { OnErr result (stored tables.new.values ≡ stored tables.old.values) }
     ensures named { AreNamed tables.new }
     ensures spares { spares (stored tables.new.values) ≡ spares (stored tables.old.values) }

@@ -4,10 +4,10 @@ use Rattle.std.proofs.lemmas.List.{append-nil, drop_all, drop_more, length-map}
 use Rattle.gho_values.proofs.SchemaRules.Steps.{bind_ok, ok_is}
 use Rattle.gho_values.specs.SchemaRules.Results.{◌>>=◌}
 use Rattle.plan_tables.specs.Rows.{next_number}
-use Rattle.plan_document.specs.declared.fault.PlanFault.{PlanFault}
-use Rattle.plan_document.specs.declared.fault.PlanFault.TheVariants as faults
+use Rattle.gho_values.specs.declared.fault.Fault.{Fault}
+use Rattle.gho_values.specs.declared.fault.Fault.TheVariants as faults
 use Rattle.plan_document.specs.declared.fault.PlanRefusal.{PlanRefusal}
-use Rattle.plan_document.specs.Refusals.{Refuses}
+use Rattle.gho_values.specs.Faults.{Refuses}
 use Rattle.plan_document.specs.Walks.{each_from}
 
 -- what was read so far, and what is still read
@@ -42,7 +42,7 @@ module _ {A : Type 0} (read : ℕ → List ℕ → Result A PlanRefusal) (number
       let same : with_front front (each_from read number (texts (drop i all))) ≡ Err refusal = rw (drop_more all i default lt, e) refl in
       sym so_far ∙ same
 
-  pub fails : (fault : PlanFault) → Refuses fault here → Here → Refuses fault total
+  pub fails : (fault : Fault PlanRefusal) → Refuses fault here → Here → Refuses fault total
   fails faults.Memory e so_far = tt
   fails (faults.Refused refusal) e so_far = refuses refusal e so_far
 

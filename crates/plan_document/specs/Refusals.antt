@@ -1,5 +1,5 @@
--- The number, the name and the place of each refusal of a plan (this project's), and what the code answers beside them.
-use Rattle.std.specs.Prelude.{◌≡◌, codes, ℕ, List, Option, Some, None, Result, Ok, Err}
+-- The number, the name and the place of each refusal of a plan (this project's).
+use Rattle.std.specs.Prelude.{codes, ℕ, List, Option, Some, None, Result, Ok, Err}
 use Rattle.alter_schema.specs.declared.code.AlterCode.{AlterCode}
 use Rattle.alter_schema.specs.Codes.{alter_code}
 use Rattle.order_reader.specs.declared.fault.OrderRefusal.{OrderRefusal}
@@ -19,8 +19,6 @@ use Rattle.plan_document.specs.declared.fault.Place.{Place}
 use Rattle.plan_document.specs.declared.fault.Place.TheVariants as places
 use Rattle.plan_document.specs.declared.fault.PlanRefusal.{PlanRefusal}
 use Rattle.plan_document.specs.declared.fault.PlanRefusal.TheVariants.{TooLong, NotToml, Keys, Tables, NoTable, Leftover, Alter, Script, Operator, Fault, Turn}
-use Rattle.plan_document.specs.declared.fault.PlanFault.{PlanFault}
-use Rattle.plan_document.specs.declared.fault.PlanFault.TheVariants as faults
 
 -- ---- numbers and names
 
@@ -117,14 +115,3 @@ of_turns (Err refusal) = Err (Turn refusal)
 abbrev pub or_refused : {A : Type 0} → PlanRefusal → Option A → Result A PlanRefusal
 or_refused refusal (Some found) = Ok found
 or_refused refusal None = Err refusal
-
--- ---- what the code answers
-
-abbrev pub Refuses : {Y : Type 0} → PlanFault → Result Y PlanRefusal → Type 0
-Refuses faults.Memory read = Unit {0}
-Refuses (faults.Refused refusal) read = read ≡ Err refusal
-
--- What the code answers, seen by view, is what the definition reads, unless memory ran out.
-abbrev pub Reads : {X Y : Type 0} → (X → Y) → Result X PlanFault → Result Y PlanRefusal → Type 0
-Reads view (Ok x) read = read ≡ Ok (view x)
-Reads view (Err fault) read = Refuses fault read

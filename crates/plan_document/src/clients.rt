@@ -3,7 +3,7 @@
 ghost use Rattle.std.specs.Prelude.{◌≡◌, nat_lt, length, map, IfOk};
 ghost use Rattle.std.specs.List.{count_by};
 ghost use Rattle.plan_document.specs.Clients.{is_statement, is_equality, shows_rows, is_open, is_open_select, line_count, has_many_statements, few_statements, client_script, scripts_of, tool_names, clients_of};
-ghost use Rattle.plan_document.specs.Refusals.{Reads};
+ghost use Rattle.gho_values.specs.Faults.{Answers};
 
 use crate::fault::{PlanFault, PlanRefusal};
 use crate::limits::{OPEN_SELECT_LIMIT, STATEMENT_LIMIT};
@@ -131,7 +131,7 @@ fn have_more_open_selects(limit: usize, scripts: &[Script]) -> bool
 }
 
 fn few_statements(scripts: Scripts) -> Result<Scripts, PlanFault>
-    ensures few { Reads (λ scripts. scripts) result (few_statements scripts) }
+    ensures few { Answers (λ scripts. scripts) result (few_statements scripts) }
     ensures same { IfOk result (λ read. length read ≡ length scripts) }
 {
     if have_more_statements(STATEMENT_LIMIT, scripts.as_slice())
@@ -145,7 +145,7 @@ fn few_statements(scripts: Scripts) -> Result<Scripts, PlanFault>
 
 /// The script of the client of this number.
 fn script_of(alloc: Global, tools: &[Name], client: u32, text: &str) -> Result<Script, PlanFault>
-    ensures { Reads (λ script. script) result (client_script tools.now client text.now) }
+    ensures { Answers (λ script. script) result (client_script tools.now client text.now) }
 {
     match read_script(alloc, text, tools) {
         Ok(script) => Ok(script),
@@ -157,7 +157,7 @@ fn script_of(alloc: Global, tools: &[Name], client: u32, text: &str) -> Result<S
 }
 
 fn scripts_of(alloc: Global, tools: &[Name], texts: &[&str]) -> Result<Scripts, PlanFault>
-    ensures scripts { Reads (λ scripts. scripts) result (scripts_of tools.now (map (λ text. text.now) texts.now)) }
+    ensures scripts { Answers (λ scripts. scripts) result (scripts_of tools.now (map (λ text. text.now) texts.now)) }
     ensures each { IfOk result (λ scripts. length scripts ≡ length texts.now) }
 {
     let mut scripts = Sequence::new(alloc);
@@ -184,7 +184,7 @@ fn tool_names(alloc: Global, migrated: &Name) -> Result<Names, AllocError>
 /// of this name.
 #[tactic(auto, unfolding(crate::specs::Clients::clients_of))]
 pub fn clients_of(alloc: Global, migrated: &Name, texts: &[&str]) -> Result<Scripts, PlanFault>
-    ensures clients { Reads (λ scripts. scripts) result (clients_of migrated.now (map (λ text. text.now) texts.now)) }
+    ensures clients { Answers (λ scripts. scripts) result (clients_of migrated.now (map (λ text. text.now) texts.now)) }
     ensures each { IfOk result (λ scripts. length scripts ≡ length texts.now) }
 {
     let tools = tool_names(alloc, migrated)?;

@@ -4,12 +4,11 @@ ghost use Rattle.std.specs.Prelude.{◌≡◌};
 ghost use Rattle.plan_document.specs.Refusals.{script_code, order_code, table_place, operator_place};
 
 use alter_schema::AlterCode;
+use gho_values::Fault;
 use order_reader::OrderRefusal;
 use plan_keys::KeyRefusal;
 use plan_tables::TableRefusal;
 use script_reader::{ScriptCode, ScriptRefusal, StatementCode};
-use std::alloc::{AllocError, AllocFailed};
-use thiserror::Error;
 use turn_reader::TurnRefusal;
 
 /// Where in a plan a refusal stands. Everything is counted from 1.
@@ -166,33 +165,5 @@ impl PlanRefusal {
     }
 }
 
-/// Why a plan isn't read.
-#[derive(Debug, Drop, Error)]
-pub enum PlanFault {
-    /// The bytes are refused.
-    #[error("the plan is refused: {0:?}")]
-    Refused(PlanRefusal),
-    /// There is no memory for the plan.
-    #[error("out of memory")]
-    Memory,
-}
-
-impl From<AllocError> for PlanFault {
-    ghost use Rattle.plan_document.specs.declared.fault.PlanFault.TheVariants.{Memory};
-
-    ghost from_gives = { λ _ e. e ≡ Memory };
-
-    fn from(_error: AllocError) -> PlanFault {
-        PlanFault::Memory
-    }
-}
-
-impl<T: Drop> From<AllocFailed<T>> for PlanFault {
-    ghost use Rattle.plan_document.specs.declared.fault.PlanFault.TheVariants.{Memory};
-
-    ghost from_gives = { λ _ e. e ≡ Memory };
-
-    fn from(_error: AllocFailed<T>) -> PlanFault {
-        PlanFault::Memory
-    }
-}
+/// Why a plan isn't read: it is refused, or there is no memory.
+pub type PlanFault = Fault<PlanRefusal>;

@@ -10,7 +10,8 @@ ghost use Rattle.schema_text.specs.Laws.{ReadSchemasAreLawful};
 ghost use Rattle.plan_keys.specs.PlanKeys.{table_data, key_data};
 ghost use Rattle.plan_tables.specs.Tables.{tables_of, IsSound};
 ghost use Rattle.plan_document.specs.Openings.{has_left_ghost, is_no_sentry, has_left_old, without_leftovers, migrated_in, opening_of, opening_data};
-ghost use Rattle.plan_document.specs.Refusals.{Reads, of_tables, of_alter};
+ghost use Rattle.plan_document.specs.Refusals.{of_tables, of_alter};
+ghost use Rattle.gho_values.specs.Faults.{Answers};
 
 use crate::fault::{PlanFault, PlanRefusal};
 use alter_schema::{AlterFault, altered};
@@ -40,7 +41,7 @@ pub struct Opening {
 /// The tables, with their rows.
 fn tables_of(alloc: Global, keys: &PlanKeys<'_>) -> Result<Tables, PlanFault>
     requires { ReadSchemasAreLawful }
-    ensures tables { Reads database result (of_tables (tables_of keys.now.texts.table.now (map table_data keys.now.texts.tables.items))) }
+    ensures tables { Answers database result (of_tables (tables_of keys.now.texts.table.now (map table_data keys.now.texts.tables.items))) }
     ensures sound { IfOk result (λ tables. AllByRecursion IsSound (database tables)) }
 {
     match read_tables(alloc, keys.texts.table, keys.texts.tables.as_slice()) {
@@ -52,7 +53,7 @@ fn tables_of(alloc: Global, keys: &PlanKeys<'_>) -> Result<Tables, PlanFault>
 
 /// The table to migrate.
 fn migrated_in<'a>(migrated: &Name, tables: &'a Tables) -> Result<&'a Table, PlanFault>
-    ensures table { Reads (λ table. table.now.table) result (migrated_in migrated.now (database tables.now)) }
+    ensures table { Answers (λ table. table.now.table) result (migrated_in migrated.now (database tables.now)) }
     ensures found { IfOk result (λ table. find_table migrated.now (database tables.now) ≡ Some table.now.table) }
 {
     match tables.find(migrated) {
@@ -105,7 +106,7 @@ fn without_leftovers(
     options: Options,
     tables: &Tables,
 ) -> Result<(), PlanFault>
-    ensures { Reads (λ _. database tables.now) result (without_leftovers migrated.now options (database tables.now)) }
+    ensures { Answers (λ _. database tables.now) result (without_leftovers migrated.now options (database tables.now)) }
 {
     if has_left_ghost(alloc, migrated, options, tables)?
         || has_left_old(alloc, migrated, options, tables)?
@@ -117,7 +118,7 @@ fn without_leftovers(
 
 /// The clauses of the ALTER.
 fn clauses_of(alloc: Global, migrated: &Name, text: &str) -> Result<Clauses, PlanFault>
-    ensures { Reads (λ clauses. clauses) result (of_alter (alter_at migrated.now text.now)) }
+    ensures { Answers (λ clauses. clauses) result (of_alter (alter_at migrated.now text.now)) }
 {
     match read_alter(alloc, text, migrated) {
         Ok(clauses) => Ok(clauses),
@@ -134,7 +135,7 @@ fn altered_of(
     clauses: &Clauses,
 ) -> Result<AlteredSchema, PlanFault>
     requires { IsLawful schema.now }
-    ensures { Reads (λ new. (new.schema, new.map)) result (of_alter (altered options.approve_renamed_columns schema.now clauses.now)) }
+    ensures { Answers (λ new. (new.schema, new.map)) result (of_alter (altered options.approve_renamed_columns schema.now clauses.now)) }
 {
     match altered(alloc, schema, clauses, options.approve_renamed_columns) {
         Ok((schema, map)) => Ok(AlteredSchema { schema, map }),
@@ -148,7 +149,7 @@ fn altered_of(
 pub fn opening_of(alloc: Global, migrated: &Name, keys: &PlanKeys<'_>) -> Result<Opening, PlanFault>
     requires lawful { ReadSchemasAreLawful }
     requires named { migrated.now ≡ keys.now.texts.table.now }
-    ensures opening { Reads opening_data result (opening_of (key_data keys.now)) }
+    ensures opening { Answers opening_data result (opening_of (key_data keys.now)) }
     ensures sound { IfOk result (λ opening. AllByRecursion IsSound (database opening.tables)) }
 {
     let tables = tables_of(alloc, keys)?;

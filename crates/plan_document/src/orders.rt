@@ -6,7 +6,8 @@ ghost use Rattle.turn_reader.specs.Turns.{turns_of};
 ghost use Rattle.plan_words.specs.declared.plan.TheConstants.{CLIENT_LIMIT};
 ghost use Rattle.plan_keys.specs.PlanKeys.{text_data, key_data};
 ghost use Rattle.plan_document.specs.Orders.{has_many_orders, few_orders, numbered_loss, faults_of, orders_of, order_data};
-ghost use Rattle.plan_document.specs.Refusals.{Reads, of_operator, of_turns};
+ghost use Rattle.plan_document.specs.Refusals.{of_operator, of_turns};
+ghost use Rattle.gho_values.specs.Faults.{Answers};
 
 use crate::fault::{PlanFault, PlanRefusal};
 use crate::limits::{COMMAND_LIMIT, ORDER_LIMIT};
@@ -42,7 +43,7 @@ fn has_many_orders(alloc: Global, texts: &PlanTexts<'_>) -> Result<bool, AllocEr
 /// The keys, where there are no more commands and turns than a plan may have.
 pub fn few_orders<'a>(alloc: Global, keys: PlanKeys<'a>) -> Result<PlanKeys<'a>, PlanFault>
     requires { length keys.texts.clients.items ≤ CLIENT_LIMIT }
-    ensures keys { Reads key_data result (few_orders (key_data keys.entry)) }
+    ensures keys { Answers key_data result (few_orders (key_data keys.entry)) }
     ensures few { IfOk result (λ keys. length keys.texts.clients.items ≤ CLIENT_LIMIT) }
 {
     if has_many_orders(alloc, &keys.texts)? {
@@ -52,7 +53,7 @@ pub fn few_orders<'a>(alloc: Global, keys: PlanKeys<'a>) -> Result<PlanKeys<'a>,
 }
 
 fn operator_of(alloc: Global, text: &str) -> Result<Commands, PlanFault>
-    ensures { Reads (λ commands. commands) result (of_operator (operator_of text.now)) }
+    ensures { Answers (λ commands. commands) result (of_operator (operator_of text.now)) }
 {
     match read_operator(alloc, text) {
         Ok(commands) => Ok(commands),
@@ -65,7 +66,7 @@ fn operator_of(alloc: Global, text: &str) -> Result<Commands, PlanFault>
 
 /// The loss of this number.
 fn loss_of(alloc: Global, clients: u32, fault: u32, text: &str) -> Result<Loss, PlanFault>
-    ensures { Reads (λ loss. loss) result (numbered_loss clients fault text.now) }
+    ensures { Answers (λ loss. loss) result (numbered_loss clients fault text.now) }
 {
     match read_fault(alloc, text, clients) {
         Ok(loss) => Ok(loss),
@@ -77,7 +78,7 @@ fn loss_of(alloc: Global, clients: u32, fault: u32, text: &str) -> Result<Loss, 
 }
 
 fn faults_of(alloc: Global, clients: u32, texts: &[&str]) -> Result<Losses, PlanFault>
-    ensures { Reads (λ losses. losses) result (faults_of clients (map (λ text. text.now) texts.now)) }
+    ensures { Answers (λ losses. losses) result (faults_of clients (map (λ text. text.now) texts.now)) }
 {
     let mut losses = Sequence::new(alloc);
     let mut fault: u32 = 1;
@@ -90,7 +91,7 @@ fn faults_of(alloc: Global, clients: u32, texts: &[&str]) -> Result<Losses, Plan
 }
 
 fn turns_of(alloc: Global, clients: u32, text: &str) -> Result<ActorRuns, PlanFault>
-    ensures { Reads (λ runs. runs) result (of_turns (turns_of clients text.now)) }
+    ensures { Answers (λ runs. runs) result (of_turns (turns_of clients text.now)) }
 {
     match read_turns(alloc, text, clients) {
         Ok(runs) => Ok(runs),
@@ -102,7 +103,7 @@ fn turns_of(alloc: Global, clients: u32, text: &str) -> Result<ActorRuns, PlanFa
 /// The orders of a plan with so many clients.
 #[tactic(auto, unfolding(crate::specs::Orders::orders_of))]
 pub fn orders_of(alloc: Global, clients: u32, texts: &PlanTexts<'_>) -> Result<Orders, PlanFault>
-    ensures { Reads order_data result (orders_of clients (text_data texts.now)) }
+    ensures { Answers order_data result (orders_of clients (text_data texts.now)) }
 {
     let operator = operator_of(alloc, texts.operator)?;
     let faults = faults_of(alloc, clients, texts.faults.as_slice())?;

@@ -12,7 +12,8 @@ ghost use Rattle.plan_tables.specs.Tables.{IsSound};
 ghost use Rattle.plan_document.specs.Openings.{opening_data};
 ghost use Rattle.plan_document.specs.Orders.{order_data};
 ghost use Rattle.plan_document.specs.Plans.{plan_of, keys_in, plan_at, document, read};
-ghost use Rattle.plan_document.specs.Refusals.{Reads, of_keys, or_refused};
+ghost use Rattle.plan_document.specs.Refusals.{of_keys, or_refused};
+ghost use Rattle.gho_values.specs.Faults.{Answers};
 ghost use Rattle.plan_document.specs.declared.fault.PlanRefusal.TheVariants.{NotToml};
 
 use crate::clients::clients_of;
@@ -28,7 +29,7 @@ use toml::Table;
 
 /// What the keys say.
 fn said_keys<'a>(alloc: Global, document: &'a Table) -> Result<PlanKeys<'a>, PlanFault>
-    ensures keys { Reads key_data result (of_keys (keys_of (table_view document.now))) }
+    ensures keys { Answers key_data result (of_keys (keys_of (table_view document.now))) }
     ensures few { IfOk result (λ keys. length keys.texts.clients.items ≤ CLIENT_LIMIT) }
 {
     match keys_of(alloc, document) {
@@ -41,7 +42,7 @@ fn said_keys<'a>(alloc: Global, document: &'a Table) -> Result<PlanKeys<'a>, Pla
 /// What the keys say, and how many of each there are.
 #[tactic(auto, unfolding(crate::specs::Plans::keys_in))]
 fn keys_in<'a>(alloc: Global, document: &'a Table) -> Result<PlanKeys<'a>, PlanFault>
-    ensures keys { Reads key_data result (keys_in (table_view document.now)) }
+    ensures keys { Answers key_data result (keys_in (table_view document.now)) }
     ensures few { IfOk result (λ keys. length keys.texts.clients.items ≤ CLIENT_LIMIT) }
 {
     let keys = said_keys(alloc, document)?;
@@ -52,7 +53,7 @@ fn keys_in<'a>(alloc: Global, document: &'a Table) -> Result<PlanKeys<'a>, PlanF
 #[tactic(auto, unfolding(crate::specs::Plans::plan_at))]
 fn plan_at(alloc: Global, document: &Table) -> Result<Plan, PlanFault>
     requires { ReadSchemasAreLawful }
-    ensures plan { Reads (λ plan. plan) result (plan_at (table_view document.now)) }
+    ensures plan { Answers (λ plan. plan) result (plan_at (table_view document.now)) }
     ensures sound { IfOk result (λ plan. AllByRecursion IsSound plan.tables) }
 {
     let keys = keys_in(alloc, document)?;
@@ -75,7 +76,7 @@ fn plan_at(alloc: Global, document: &Table) -> Result<Plan, PlanFault>
 
 #[tactic(auto, unfolding(crate::specs::Plans::document))]
 fn document_of(alloc: Global, bytes: &[u8]) -> Result<Table, PlanFault>
-    ensures { Reads (λ table. table_view table) result (or_refused NotToml (document bytes.now)) }
+    ensures { Answers (λ table. table_view table) result (or_refused NotToml (document bytes.now)) }
 {
     match toml::table_from_slice(alloc, bytes) {
         Ok(table) => Ok(table),
@@ -94,7 +95,7 @@ fn document_of(alloc: Global, bytes: &[u8]) -> Result<Table, PlanFault>
 #[tactic(auto, unfolding(crate::specs::Plans::read))]
 pub fn read_plan(alloc: Global, bytes: &[u8]) -> Result<Plan, PlanFault>
     requires { ReadSchemasAreLawful }
-    ensures plan { Reads (λ plan. plan) result (read bytes.now) }
+    ensures plan { Answers (λ plan. plan) result (read bytes.now) }
     ensures sound { IfOk result (λ plan. AllByRecursion IsSound plan.tables) }
 {
     if bytes.len() > PLAN_LIMIT {

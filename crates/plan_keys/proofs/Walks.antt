@@ -10,9 +10,9 @@ use Rattle.toml.specs.Data.{Data, item}
 use Rattle.toml.specs.View.{view, items_view, members_view}
 use Rattle.gho_values.specs.SchemaRules.Results.{◌>>=◌}
 use Rattle.plan_keys.specs.declared.fault.KeyRefusal.{KeyRefusal}
-use Rattle.plan_keys.specs.declared.fault.KeyFault.{KeyFault}
-use Rattle.plan_keys.specs.declared.fault.KeyFault.TheVariants as faults
-use Rattle.plan_keys.specs.Refusals.{Refuses}
+use Rattle.gho_values.specs.declared.fault.Fault.{Fault}
+use Rattle.gho_values.specs.declared.fault.Fault.TheVariants as faults
+use Rattle.gho_values.specs.Faults.{Refuses}
 use Rattle.plan_keys.specs.Walks.{all_keys, all_items, each_item}
 
 pub all_items-view : (test : Data → Bool) (values : List Value) → all_items test (items_view values) ≡ list_all (λ (value : Value). test (view value)) values
@@ -51,7 +51,7 @@ refuses read front values i value refusal total lt is e so_far =
     let one : with_front front (each_item read (items_view (drop i values))) ≡ Err refusal = rw (from_here values i value lt is, e) refl in
     sym so_far ∙ one
 
-pub fails : {A : Type 0} (read : Data → Result A KeyRefusal) (front : List A) (values : List Value) (i : ℕ) (value : Value) (fault : KeyFault) (total : Result (List A) KeyRefusal) → i < length values → value ≡ get_or values i value
+pub fails : {A : Type 0} (read : Data → Result A KeyRefusal) (front : List A) (values : List Value) (i : ℕ) (value : Value) (fault : Fault KeyRefusal) (total : Result (List A) KeyRefusal) → i < length values → value ≡ get_or values i value
     → Refuses fault (read (view value)) → with_front front (each_item read (items_view (drop i values))) ≡ total → Refuses fault total
 fails read front values i value faults.Memory total lt is e so_far = tt
 fails read front values i value (faults.Refused refusal) total lt is e so_far = refuses read front values i value refusal total lt is e so_far

@@ -4,7 +4,7 @@ ghost use Rattle.std.specs.Prelude.{◌≡◌, map, option_map, option_copied};
 ghost use Rattle.toml.specs.Data.{get_member, as_array};
 ghost use Rattle.toml.specs.View.{view, table_view, items_view};
 ghost use Rattle.plan_keys.specs.Documents.{text_in, needed_text, text_or_empty, texts_in, texts_or_none, table_or_none, needed_number, number_or, truth_or};
-ghost use Rattle.plan_keys.specs.Refusals.{Reads};
+ghost use Rattle.gho_values.specs.Faults.{Answers};
 ghost use Rattle.plan_keys.specs.Walks.{each_item};
 
 use crate::fault::{KeyFault, KeyRefusal, WRONG_TYPE};
@@ -21,7 +21,7 @@ pub fn member_at<'a>(table: &'a Table, key: &str) -> Option<&'a Value>
 }
 
 fn text_in(value: &Value) -> Result<&str, KeyFault>
-    ensures { Reads (λ text. text.now) result (text_in (view value.now)) }
+    ensures { Answers (λ text. text.now) result (text_in (view value.now)) }
 {
     match value.as_str() {
         Some(text) => Ok(text),
@@ -31,7 +31,7 @@ fn text_in(value: &Value) -> Result<&str, KeyFault>
 
 /// The text at a key that has to be there.
 pub fn needed_text<'a>(value: Option<&'a Value>) -> Result<&'a str, KeyFault>
-    ensures { Reads (λ text. text.now) result (needed_text (option_map (λ value. view value.now) value.entry)) }
+    ensures { Answers (λ text. text.now) result (needed_text (option_map (λ value. view value.now) value.entry)) }
 {
     match value {
         None => Err(MISSING_KEY),
@@ -41,7 +41,7 @@ pub fn needed_text<'a>(value: Option<&'a Value>) -> Result<&'a str, KeyFault>
 
 /// The text at a key; the empty one where it isn't there.
 pub fn text_or_empty<'a>(value: Option<&'a Value>) -> Result<&'a str, KeyFault>
-    ensures { Reads (λ text. text.now) result (text_or_empty (option_map (λ value. view value.now) value.entry)) }
+    ensures { Answers (λ text. text.now) result (text_or_empty (option_map (λ value. view value.now) value.entry)) }
 {
     match value {
         None => Ok(""),
@@ -51,7 +51,7 @@ pub fn text_or_empty<'a>(value: Option<&'a Value>) -> Result<&'a str, KeyFault>
 
 /// The texts that the items are.
 fn texts_of<'a>(alloc: Global, items: &'a [Value]) -> Result<Vec<&'a str>, KeyFault>
-    ensures { Reads (λ texts. map (λ text. text.now) texts.items) result (each_item text_in (items_view items.now)) }
+    ensures { Answers (λ texts. map (λ text. text.now) texts.items) result (each_item text_in (items_view items.now)) }
 {
     let mut texts = Vec::new(alloc);
     for item in items {
@@ -62,7 +62,7 @@ fn texts_of<'a>(alloc: Global, items: &'a [Value]) -> Result<Vec<&'a str>, KeyFa
 }
 
 fn texts_in<'a>(alloc: Global, value: &'a Value) -> Result<Vec<&'a str>, KeyFault>
-    ensures { Reads (λ texts. map (λ text. text.now) texts.items) result (texts_in (as_array (view value.now))) }
+    ensures { Answers (λ texts. map (λ text. text.now) texts.items) result (texts_in (as_array (view value.now))) }
 {
     match value.as_array() {
         Some(items) => texts_of(alloc, items.as_slice()),
@@ -72,7 +72,7 @@ fn texts_in<'a>(alloc: Global, value: &'a Value) -> Result<Vec<&'a str>, KeyFaul
 
 /// The texts at a key; none where it isn't there.
 pub fn texts_or_none<'a>(alloc: Global, value: Option<&'a Value>) -> Result<Vec<&'a str>, KeyFault>
-    ensures { Reads (λ texts. map (λ text. text.now) texts.items) result (texts_or_none (option_map (λ value. view value.now) value.entry)) }
+    ensures { Answers (λ texts. map (λ text. text.now) texts.items) result (texts_or_none (option_map (λ value. view value.now) value.entry)) }
 {
     match value {
         None => Ok(Vec::new(alloc)),
@@ -82,7 +82,7 @@ pub fn texts_or_none<'a>(alloc: Global, value: Option<&'a Value>) -> Result<Vec<
 
 /// The table at a key, where it is there.
 pub fn table_or_none<'a>(value: Option<&'a Value>) -> Result<Option<&'a Table>, KeyFault>
-    ensures { Reads (λ found. option_map (λ table. table_view table.now) found) result (table_or_none (option_map (λ value. view value.now) value.entry)) }
+    ensures { Answers (λ found. option_map (λ table. table_view table.now) found) result (table_or_none (option_map (λ value. view value.now) value.entry)) }
 {
     match value {
         None => Ok(None),
@@ -95,7 +95,7 @@ pub fn table_or_none<'a>(value: Option<&'a Value>) -> Result<Option<&'a Table>, 
 
 /// The number at a key that has to be there.
 pub fn needed_number(value: Option<&Value>) -> Result<i64, KeyFault>
-    ensures { Reads (λ number. number) result (needed_number (option_map (λ value. view value.now) value.entry)) }
+    ensures { Answers (λ number. number) result (needed_number (option_map (λ value. view value.now) value.entry)) }
 {
     match value {
         None => Err(MISSING_KEY),
@@ -105,7 +105,7 @@ pub fn needed_number(value: Option<&Value>) -> Result<i64, KeyFault>
 
 /// The number at a key; the default where it isn't there.
 pub fn number_or(default: u32, value: Option<&Value>) -> Result<i64, KeyFault>
-    ensures { Reads (λ number. number) result (number_or default (option_map (λ value. view value.now) value.entry)) }
+    ensures { Answers (λ number. number) result (number_or default (option_map (λ value. view value.now) value.entry)) }
 {
     match value {
         None => Ok(i64::from(default)),
@@ -115,7 +115,7 @@ pub fn number_or(default: u32, value: Option<&Value>) -> Result<i64, KeyFault>
 
 /// The truth value at a key; the default where it isn't there.
 pub fn truth_or(default: bool, value: Option<&Value>) -> Result<bool, KeyFault>
-    ensures { Reads (λ truth. truth) result (truth_or default (option_map (λ value. view value.now) value.entry)) }
+    ensures { Answers (λ truth. truth) result (truth_or default (option_map (λ value. view value.now) value.entry)) }
 {
     match value {
         None => Ok(default),

@@ -2,8 +2,7 @@
 
 ghost use Rattle.std.specs.Prelude.{◌≡◌};
 
-use std::alloc::{AllocError, AllocFailed};
-use thiserror::Error;
+use gho_values::Fault;
 
 /// Why a plan's keys are refused, each with its number.
 #[derive(Clone, Copy, Debug)]
@@ -37,36 +36,8 @@ impl KeyRefusal {
     }
 }
 
-/// Why a plan's keys aren't read.
-#[derive(Debug, Drop, Error)]
-pub enum KeyFault {
-    /// They are refused.
-    #[error("the keys are refused: {0:?}")]
-    Refused(KeyRefusal),
-    /// There is no memory for what is read.
-    #[error("out of memory")]
-    Memory,
-}
+/// Why a plan's keys aren't read: it is refused, or there is no memory.
+pub type KeyFault = Fault<KeyRefusal>;
 
 /// What has another type than it has to.
 pub(crate) const WRONG_TYPE: KeyFault = KeyFault::Refused(KeyRefusal::WrongType);
-
-impl From<AllocError> for KeyFault {
-    ghost use Rattle.plan_keys.specs.declared.fault.KeyFault.TheVariants.{Memory};
-
-    ghost from_gives = { λ _ e. e ≡ Memory };
-
-    fn from(_error: AllocError) -> KeyFault {
-        KeyFault::Memory
-    }
-}
-
-impl<T: Drop> From<AllocFailed<T>> for KeyFault {
-    ghost use Rattle.plan_keys.specs.declared.fault.KeyFault.TheVariants.{Memory};
-
-    ghost from_gives = { λ _ e. e ≡ Memory };
-
-    fn from(_error: AllocFailed<T>) -> KeyFault {
-        KeyFault::Memory
-    }
-}

@@ -4,7 +4,7 @@ ghost use Rattle.std.specs.Prelude.{◌≡◌, ◌≤◌, length, IfOk};
 ghost use Rattle.toml.specs.View.{table_view};
 ghost use Rattle.plan_words.specs.declared.plan.TheConstants.{CLIENT_LIMIT};
 ghost use Rattle.plan_keys.specs.PlanKeys.{typed_of, in_range, few, keys_of, text_data, typed_data, key_data};
-ghost use Rattle.plan_keys.specs.Refusals.{Reads};
+ghost use Rattle.gho_values.specs.Faults.{Answers};
 
 use crate::documents::{member_at, needed_number, table_or_none};
 use crate::fault::{KeyFault, KeyRefusal};
@@ -40,7 +40,7 @@ pub struct TypedKeys<'a> {
 
 #[tactic(auto, unfolding(crate::specs::PlanKeys::typed_of))]
 fn typed_of<'a>(alloc: Global, document: &'a Table) -> Result<TypedKeys<'a>, KeyFault>
-    ensures { Reads typed_data result (typed_of (table_view document.now)) }
+    ensures { Answers typed_data result (typed_of (table_view document.now)) }
 {
     let version = needed_number(member_at(document, "version"))?;
     let texts = texts_of(alloc, document)?;
@@ -57,7 +57,7 @@ fn typed_of<'a>(alloc: Global, document: &'a Table) -> Result<TypedKeys<'a>, Key
 
 #[tactic(auto, unfolding(crate::specs::PlanKeys::in_range))]
 fn in_range(keys: TypedKeys<'_>) -> Result<PlanKeys<'_>, KeyFault>
-    ensures { Reads key_data result (in_range (typed_data keys.entry)) }
+    ensures { Answers key_data result (in_range (typed_data keys.entry)) }
 {
     let _ = within(1, 1, keys.version)?;
     let options = options_within(keys.numbers, keys.truths)?;
@@ -68,7 +68,7 @@ fn in_range(keys: TypedKeys<'_>) -> Result<PlanKeys<'_>, KeyFault>
 }
 
 fn few(keys: PlanKeys<'_>) -> Result<PlanKeys<'_>, KeyFault>
-    ensures keys { Reads key_data result (few (key_data keys.entry)) }
+    ensures keys { Answers key_data result (few (key_data keys.entry)) }
     ensures clients { IfOk result (λ keys. length keys.texts.clients.items ≤ CLIENT_LIMIT) }
 {
     if has_too_many(&keys.texts) {
@@ -81,7 +81,7 @@ fn few(keys: PlanKeys<'_>) -> Result<PlanKeys<'_>, KeyFault>
 /// What the keys of a plan's document say. The plan has at most 64 clients.
 #[tactic(auto, unfolding(crate::specs::PlanKeys::keys_of))]
 pub fn keys_of<'a>(alloc: Global, document: &'a Table) -> Result<PlanKeys<'a>, KeyFault>
-    ensures keys { Reads key_data result (keys_of (table_view document.now)) }
+    ensures keys { Answers key_data result (keys_of (table_view document.now)) }
     ensures few { IfOk result (λ keys. length keys.texts.clients.items ≤ CLIENT_LIMIT) }
 {
     if !knows_keys(document) {

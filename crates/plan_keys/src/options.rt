@@ -3,7 +3,7 @@
 ghost use Rattle.std.specs.Prelude.{◌≡◌, ◌<◌, ◌^◌, option_map};
 ghost use Rattle.toml.specs.View.{view, table_view};
 ghost use Rattle.plan_keys.specs.Options.{option_at, numbers_in, truths_in, within, options_within};
-ghost use Rattle.plan_keys.specs.Refusals.{Reads};
+ghost use Rattle.gho_values.specs.Faults.{Answers};
 
 use crate::documents::{member_at, number_or, truth_or};
 use crate::fault::{KeyFault, KeyRefusal};
@@ -69,7 +69,7 @@ fn option_at<'a>(options: Option<&'a Table>, key: &str) -> Option<&'a Value>
 /// The options that are numbers.
 #[tactic(auto, unfolding(crate::specs::Options::numbers_in))]
 pub fn numbers_in(options: Option<&Table>) -> Result<NumberKeys, KeyFault>
-    ensures { Reads (λ numbers. numbers) result (numbers_in (option_map (λ table. table_view table.now) options.entry)) }
+    ensures { Answers (λ numbers. numbers) result (numbers_in (option_map (λ table. table_view table.now) options.entry)) }
 {
     let default = Options::default();
     let chunk_size = number_or(default.chunk_size, option_at(options, "chunk_size"))?;
@@ -100,7 +100,7 @@ pub fn numbers_in(options: Option<&Table>) -> Result<NumberKeys, KeyFault>
 /// The options that are true or false.
 #[tactic(auto, unfolding(crate::specs::Options::truths_in))]
 pub fn truths_in(options: Option<&Table>) -> Result<TruthKeys, KeyFault>
-    ensures { Reads (λ truths. truths) result (truths_in (option_map (λ table. table_view table.now) options.entry)) }
+    ensures { Answers (λ truths. truths) result (truths_in (option_map (λ table. table_view table.now) options.entry)) }
 {
     let default = Options::default();
     let approve_renamed_columns = truth_or(
@@ -140,7 +140,7 @@ pub fn truths_in(options: Option<&Table>) -> Result<TruthKeys, KeyFault>
 /// A number from low to high.
 #[tactic(auto, unfolding(crate::specs::Options::within))]
 pub fn within(low: u32, high: u32, number: i64) -> Result<u32, KeyFault>
-    ensures { Reads (λ number. number) result (within low high number) }
+    ensures { Answers (λ number. number) result (within low high number) }
 {
     if number < i64::from(low) || i64::from(high) < number {
         Err(KeyFault::Refused(KeyRefusal::OutOfRange))
@@ -152,7 +152,7 @@ pub fn within(low: u32, high: u32, number: i64) -> Result<u32, KeyFault>
 /// The options, where each number is in its range.
 #[tactic(auto, unfolding(crate::specs::Options::options_within))]
 pub fn options_within(numbers: NumberKeys, truths: TruthKeys) -> Result<Options, KeyFault>
-    ensures { Reads (λ options. options) result (options_within numbers truths) }
+    ensures { Answers (λ options. options) result (options_within numbers truths) }
 {
     let chunk_size = within(1, 100_000, numbers.chunk_size)?;
     let dml_batch_size = within(1, 1_000, numbers.dml_batch_size)?;

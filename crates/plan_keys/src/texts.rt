@@ -4,7 +4,7 @@ ghost use Rattle.std.specs.Prelude.{◌≡◌, map, option_map};
 ghost use Rattle.toml.specs.Data.{as_array, as_table};
 ghost use Rattle.toml.specs.View.{view, table_view, items_view};
 ghost use Rattle.plan_keys.specs.PlanKeys.{table_of, table_in, tables_in, needed_tables, texts_of, table_data, text_data};
-ghost use Rattle.plan_keys.specs.Refusals.{Reads};
+ghost use Rattle.gho_values.specs.Faults.{Answers};
 ghost use Rattle.plan_keys.specs.Walks.{each_item};
 
 use crate::documents::{member_at, needed_text, text_or_empty, texts_or_none};
@@ -43,7 +43,7 @@ pub struct PlanTexts<'a> {
 /// The texts of a table.
 #[tactic(auto, unfolding(crate::specs::PlanKeys::table_of))]
 fn table_of<'a>(alloc: Global, table: &'a Table) -> Result<TableKeys<'a>, KeyFault>
-    ensures { Reads table_data result (table_of (table_view table.now)) }
+    ensures { Answers table_data result (table_of (table_view table.now)) }
 {
     let create = needed_text(member_at(table, "create"))?;
     let rows = texts_or_none(alloc, member_at(table, "rows"))?;
@@ -51,7 +51,7 @@ fn table_of<'a>(alloc: Global, table: &'a Table) -> Result<TableKeys<'a>, KeyFau
 }
 
 fn table_in<'a>(alloc: Global, value: &'a Value) -> Result<TableKeys<'a>, KeyFault>
-    ensures { Reads table_data result (table_in (as_table (view value.now))) }
+    ensures { Answers table_data result (table_in (as_table (view value.now))) }
 {
     match value.as_table() {
         Some(table) => table_of(alloc, table),
@@ -61,7 +61,7 @@ fn table_in<'a>(alloc: Global, value: &'a Value) -> Result<TableKeys<'a>, KeyFau
 
 /// The texts of the tables that the items are.
 fn tables_of<'a>(alloc: Global, items: &'a [Value]) -> Result<Vec<TableKeys<'a>>, KeyFault>
-    ensures { Reads (λ tables. map table_data tables.items) result (each_item (λ value. table_in (as_table value)) (items_view items.now)) }
+    ensures { Answers (λ tables. map table_data tables.items) result (each_item (λ value. table_in (as_table value)) (items_view items.now)) }
 {
     let mut tables = Vec::new(alloc);
     for item in items {
@@ -72,7 +72,7 @@ fn tables_of<'a>(alloc: Global, items: &'a [Value]) -> Result<Vec<TableKeys<'a>>
 }
 
 fn tables_in<'a>(alloc: Global, value: &'a Value) -> Result<Vec<TableKeys<'a>>, KeyFault>
-    ensures { Reads (λ tables. map table_data tables.items) result (tables_in (as_array (view value.now))) }
+    ensures { Answers (λ tables. map table_data tables.items) result (tables_in (as_array (view value.now))) }
 {
     match value.as_array() {
         Some(items) => tables_of(alloc, items.as_slice()),
@@ -84,7 +84,7 @@ fn needed_tables<'a>(
     alloc: Global,
     value: Option<&'a Value>,
 ) -> Result<Vec<TableKeys<'a>>, KeyFault>
-    ensures { Reads (λ tables. map table_data tables.items) result (needed_tables (option_map (λ value. view value.now) value.entry)) }
+    ensures { Answers (λ tables. map table_data tables.items) result (needed_tables (option_map (λ value. view value.now) value.entry)) }
 {
     match value {
         None => Err(KeyFault::Refused(KeyRefusal::MissingKey)),
@@ -95,7 +95,7 @@ fn needed_tables<'a>(
 /// The texts of a plan.
 #[tactic(auto, unfolding(crate::specs::PlanKeys::texts_of))]
 pub fn texts_of<'a>(alloc: Global, document: &'a Table) -> Result<PlanTexts<'a>, KeyFault>
-    ensures { Reads text_data result (texts_of (table_view document.now)) }
+    ensures { Answers text_data result (texts_of (table_view document.now)) }
 {
     let table = needed_text(member_at(document, "table"))?;
     let alter = needed_text(member_at(document, "alter"))?;

@@ -1,15 +1,14 @@
 -- Reading rows and tables one after the other, as loops do.
-use Rattle.std.proofs.Common.{◌≡◌, ℕ, ◌+◌, ◌<◌, ◌≤◌, List, [], ◌∷◌, ◌++◌, length, drop, map, get_or, Option, Some, None, Result, Ok, Err, Bor, refl, sym, ap, ◌∙◌}
+use Rattle.std.proofs.Common.{◌≡◌, ℕ, ◌+◌, ◌<◌, ◌≤◌, List, [], ◌∷◌, ◌++◌, length, drop, map, get_or, Option, Some, None, Result, Ok, Err, Bor, refl, sym, ◌∙◌}
 use Rattle.std.proofs.lemmas.List.{drop_all, drop_more}
 use Rattle.row_store.specs.Databases.{TableRows, Database}
-use Rattle.gho_values.specs.SchemaRules.Results.{◌>>=◌}
 use Rattle.plan_keys.specs.declared.texts.TableKeys as code_table
 use Rattle.plan_keys.specs.PlanKeys.{table_data}
 use Rattle.gho_values.proofs.GhoSchema.Loops.{from_here}
-use Rattle.plan_tables.specs.declared.fault.TableFault.{TableFault}
-use Rattle.plan_tables.specs.declared.fault.TableFault.TheVariants as faults
+use Rattle.gho_values.specs.declared.fault.Fault.{Fault}
+use Rattle.gho_values.specs.declared.fault.Fault.TheVariants as faults
 use Rattle.plan_tables.specs.declared.fault.TableRefusal.{TableRefusal}
-use Rattle.plan_tables.specs.Refusals.{Refuses}
+use Rattle.gho_values.specs.Faults.{Refuses}
 use Rattle.plan_tables.specs.Rows.{put_text, or_bad, next_number, put_texts}
 use Rattle.plan_tables.specs.Tables.{of_rows, table_at, tables_from}
 
@@ -43,7 +42,7 @@ module _ (number row : ℕ) (table : TableRows) (rows : List (Bor (List ℕ))) (
       let one : of_rows number (put_texts row table (texts (drop i rows))) ≡ Err refusal = rw (drop_more rows i default lt, is) e in
       sym so_far ∙ one
 
-  pub row_fails : (fault : TableFault) → Refuses fault (of_rows number (or_bad row here)) → Here → Refuses fault total
+  pub row_fails : (fault : Fault TableRefusal) → Refuses fault (of_rows number (or_bad row here)) → Here → Refuses fault total
   row_fails faults.Memory e so_far = tt
   row_fails (faults.Refused refusal) e so_far = row_refuses here refusal refl e so_far
 
@@ -71,7 +70,7 @@ module _ (migrated : List ℕ) (number : ℕ) (tables : Database) (keys : List c
       let one : tables_from migrated number tables (map table_data (drop i keys)) ≡ Err refusal = rw (from_here keys i first lt is, e) refl in
       sym so_far ∙ one
 
-  pub table_fails : (fault : TableFault) → Refuses fault (table_at migrated number tables (table_data first)) → HereTables → Refuses fault total
+  pub table_fails : (fault : Fault TableRefusal) → Refuses fault (table_at migrated number tables (table_data first)) → HereTables → Refuses fault total
   table_fails faults.Memory e so_far = tt
   table_fails (faults.Refused refusal) e so_far = table_refuses refusal e so_far
 

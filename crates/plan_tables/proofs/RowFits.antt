@@ -1,7 +1,7 @@
 -- The values of a text are those that the columns store.
 use Rattle.std.proofs.Common.{◌≡◌, codes, Bool, true, false, cond, not, ◌&&◌, List, [], ◌∷◌, Option, Some, None, Result, Ok, Err, IfOk, refl, ap, subst, ◌∙◌}
 use Rattle.std.specs.Result.{result_ok}
-use Rattle.gho_values.specs.declared.fault.Unfit.{Unfit}
+use Rattle.gho_values.specs.declared.unfit.Unfit.{Unfit}
 use Rattle.gho_values.specs.declared.value.Value.{Value}
 use Rattle.gho_values.specs.Storing.{stores}
 use Rattle.gho_values.specs.Laws.{StoresAgain}

@@ -1,6 +1,6 @@
 -- Tables that are read are tables of lawful schemas.
-use Rattle.std.proofs.Common.{◌≡◌, ℕ, Bool, false, cond, is_some, List, [], ◌∷◌, ◌++◌, Option, Some, None, Result, Ok, Err, IfOk, refl, sym, subst}
-use Rattle.std.specs.List.{AllByRecursion, list_all}
+use Rattle.std.proofs.Common.{◌≡◌, ℕ, false, cond, is_some, List, [], ◌∷◌, ◌++◌, Option, Some, None, Result, Ok, Err, IfOk, refl, sym, subst}
+use Rattle.std.specs.List.{AllByRecursion}
 use Rattle.std.specs.Option.{option_and_then}
 use Rattle.gho_values.specs.declared.value.Value.{Value}
 use Rattle.gho_values.specs.Laws.{StoresAgain}
@@ -20,7 +20,8 @@ use Rattle.table_words.specs.Tokens.{text_words}
 use Rattle.table_words.specs.declared.code.SchemaCode.{SchemaCode}
 use Rattle.plan_keys.specs.Limits.{TableData}
 use Rattle.plan_words.proofs.KeyedSchemas.{lawful_keyed}
-use Rattle.plan_tables.specs.declared.fault.TableFault.{TableFault}
+use Rattle.gho_values.specs.declared.fault.Fault.{Fault}
+use Rattle.plan_tables.specs.declared.fault.TableRefusal.{TableRefusal}
 use Rattle.plan_tables.specs.RowTexts.{row_at}
 use Rattle.plan_tables.specs.Rows.{with_put, put_text, or_bad, next_number, put_texts}
 use Rattle.plan_tables.specs.Tables.{of_schema, of_rows, newly_named, table_at, tables_from, IsSound}
@@ -127,6 +128,6 @@ new_keyed number tables schema table lawful is =
     subst (λ (t : TableRows). HasClusteredKey t.schema) parts.1 (lawful_keyed schema lawful)
 
 -- a table that was read has the name of its schema
-pub still_new : (found : Result StoredTable TableFault) (schema : Schema) (tables : Database) → IfOk found (λ read. read.table.schema ≡ schema) → has_table schema.name tables ≡ false → IfOk found (λ read. has_table read.table.schema.name tables ≡ false)
+pub still_new : (found : Result StoredTable (Fault TableRefusal)) (schema : Schema) (tables : Database) → IfOk found (λ read. read.table.schema ≡ schema) → has_table schema.name tables ≡ false → IfOk found (λ read. has_table read.table.schema.name tables ≡ false)
 still_new (Ok read) schema tables is new = subst (λ (s : Schema). has_table s.name tables ≡ false) (sym is) new
 still_new (Err fault) schema tables is new = tt

@@ -1,13 +1,10 @@
 -- The number and the name of each refusal of a plan's tables (this project's), and what the code answers beside them.
 use Rattle.std.specs.Prelude.{◌≡◌, codes, ℕ, List, Option, None, Some, Result, Ok, Err}
-use Rattle.table_words.specs.declared.code.SchemaCode.{SchemaCode}
 use Rattle.table_words.specs.Codes.{schema_code}
 use Rattle.plan_tables.specs.declared.fault.TableRefusal.{TableRefusal}
 use Rattle.plan_tables.specs.declared.fault.TableRefusal.TheVariants.{Schema, BadRow}
 use Rattle.plan_tables.specs.declared.fault.RowFault.{RowFault}
 use Rattle.plan_tables.specs.declared.fault.RowFault.TheVariants as row
-use Rattle.plan_tables.specs.declared.fault.TableFault.{TableFault}
-use Rattle.plan_tables.specs.declared.fault.TableFault.TheVariants as table
 
 -- a refusal's number and its name
 abbrev pub table_code : TableRefusal → ℕ × List ℕ
@@ -22,12 +19,3 @@ Misses row.Bad found = found ≡ None
 abbrev pub Finds : {X Y : Type 0} → (X → Y) → Result X RowFault → Option Y → Type 0
 Finds view (Ok x) found = found ≡ Some (view x)
 Finds view (Err fault) found = Misses fault found
-
--- What the code answers, seen by view, is what the definition reads, unless memory ran out.
-abbrev pub Refuses : {Y : Type 0} → TableFault → Result Y TableRefusal → Type 0
-Refuses table.Memory read = Unit {0}
-Refuses (table.Refused refusal) read = read ≡ Err refusal
-
-abbrev pub Reads : {X Y : Type 0} → (X → Y) → Result X TableFault → Result Y TableRefusal → Type 0
-Reads view (Ok x) read = read ≡ Ok (view x)
-Reads view (Err fault) read = Refuses fault read

@@ -2,6 +2,7 @@
 
 ghost use Rattle.std.specs.Prelude.{◌≡◌};
 
+use gho_values::Fault;
 use std::alloc::{AllocError, AllocFailed};
 use table_words::SchemaCode;
 use thiserror::Error;
@@ -71,33 +72,5 @@ impl<T: Drop> From<AllocFailed<T>> for RowFault {
     }
 }
 
-/// Why the tables of a plan aren't read.
-#[derive(Debug, Drop, Error)]
-pub enum TableFault {
-    /// They are refused.
-    #[error("the tables are refused: {0:?}")]
-    Refused(TableRefusal),
-    /// There is no memory for what is read.
-    #[error("out of memory")]
-    Memory,
-}
-
-impl From<AllocError> for TableFault {
-    ghost use Rattle.plan_tables.specs.declared.fault.TableFault.TheVariants.{Memory};
-
-    ghost from_gives = { λ _ e. e ≡ Memory };
-
-    fn from(_error: AllocError) -> TableFault {
-        TableFault::Memory
-    }
-}
-
-impl<T: Drop> From<AllocFailed<T>> for TableFault {
-    ghost use Rattle.plan_tables.specs.declared.fault.TableFault.TheVariants.{Memory};
-
-    ghost from_gives = { λ _ e. e ≡ Memory };
-
-    fn from(_error: AllocFailed<T>) -> TableFault {
-        TableFault::Memory
-    }
-}
+/// Why the tables of a plan aren't read: it is refused, or there is no memory.
+pub type TableFault = Fault<TableRefusal>;

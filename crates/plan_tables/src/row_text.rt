@@ -30,7 +30,7 @@ fn value_at<'a>(
     };
     match store(alloc, &literal, column.kind, column.nullable) {
         Ok(value) => Ok((value, rest)),
-        Err(StoreFault::Unfit(_)) => Err(RowFault::Bad),
+        Err(StoreFault::Refused(_)) => Err(RowFault::Bad),
         Err(StoreFault::Memory) => Err(RowFault::Memory),
     }
 }

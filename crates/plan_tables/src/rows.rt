@@ -4,7 +4,8 @@ ghost use Rattle.std.specs.Prelude.{◌≡◌, ◌<◌, ◌≤◌, ◌+◌, None
 ghost use Rattle.gho_values.specs.GhoSchema.Tables.{IsTable};
 ghost use Rattle.row_store.specs.Databases.{clashing};
 ghost use Rattle.row_store.specs.ClusteredKeys.{HasClusteredKey};
-ghost use Rattle.plan_tables.specs.Refusals.{Finds, Reads};
+ghost use Rattle.plan_tables.specs.Refusals.{Finds};
+ghost use Rattle.gho_values.specs.Faults.{Answers};
 ghost use Rattle.plan_tables.specs.Rows.{put_text, or_bad, put_texts};
 ghost use Rattle.plan_tables.specs.Tables.{of_rows};
 
@@ -53,7 +54,7 @@ fn put_numbered(
     requires room { 0 < table.old.spare }
     requires keyed { HasClusteredKey table.old.table.schema }
     requires is_table { IsTable table.old.table.schema table.old.table.rows }
-    ensures table { Reads (λ _. table.new.table) result (of_rows number (or_bad row (put_text table.old.table text.now))) }
+    ensures table { Answers (λ _. table.new.table) result (of_rows number (or_bad row (put_text table.old.table text.now))) }
     ensures schema { table.new.table.schema ≡ table.old.table.schema }
     ensures is_table { OnOk result (IsTable table.new.table.schema table.new.table.rows) }
     ensures spare { OnOk result (table.new.spare + 1 ≡ table.old.spare) }
@@ -75,7 +76,7 @@ fn put_texts(
     requires room { length texts.now ≤ table.spare }
     requires keyed { HasClusteredKey table.table.schema }
     requires is_table { IsTable table.table.schema table.table.rows }
-    ensures table { Reads (λ table. table.table) result (of_rows number (put_texts 1 table.table (map (λ text. text.now) texts.now))) }
+    ensures table { Answers (λ table. table.table) result (of_rows number (put_texts 1 table.table (map (λ text. text.now) texts.now))) }
     ensures schema { IfOk result (λ read. read.table.schema ≡ table.table.schema) }
     ensures is_table { IfOk result (λ table. IsTable table.table.schema table.table.rows) }
 {
@@ -116,7 +117,7 @@ pub fn read_rows(
 ) -> Result<Table, TableFault>
     requires keyed { HasClusteredKey table.table.schema }
     requires is_table { IsTable table.table.schema table.table.rows }
-    ensures table { Reads (λ read. read.table) result (of_rows number (put_texts 1 table.table (map (λ text. text.now) texts.now))) }
+    ensures table { Answers (λ read. read.table) result (of_rows number (put_texts 1 table.table (map (λ text. text.now) texts.now))) }
     ensures schema { IfOk result (λ read. read.table.schema ≡ table.table.schema) }
     ensures is_table { IfOk result (λ read. IsTable read.table.schema read.table.rows) }
 {

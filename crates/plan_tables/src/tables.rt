@@ -7,7 +7,7 @@ ghost use Rattle.gho_values.specs.SchemaRules.Lawful.{IsLawful};
 ghost use Rattle.schema_text.specs.Laws.{ReadSchemasAreLawful};
 ghost use Rattle.schema_text.specs.Reading.{schema_at};
 ghost use Rattle.plan_keys.specs.PlanKeys.{table_data};
-ghost use Rattle.plan_tables.specs.Refusals.{Reads};
+ghost use Rattle.gho_values.specs.Faults.{Answers};
 ghost use Rattle.plan_tables.specs.Tables.{of_schema, newly_named, table_at, tables_from, tables_of, IsSound};
 
 use crate::fault::{TableFault, TableRefusal};
@@ -25,7 +25,7 @@ use table_words::{SchemaCode, SchemaFault};
 /// The schema that the text of the table of this number declares.
 fn schema_of(alloc: Global, migrated: &str, number: u32, create: &str) -> Result<Schema, TableFault>
     requires { ReadSchemasAreLawful }
-    ensures schema { Reads (λ schema. schema) result (of_schema number (schema_at migrated.now create.now)) }
+    ensures schema { Answers (λ schema. schema) result (of_schema number (schema_at migrated.now create.now)) }
     ensures lawful { IfOk result IsLawful }
 {
     match read_schema(alloc, create, migrated) {
@@ -45,7 +45,7 @@ fn newly_named(
     tables: &Tables,
     schema: Schema,
 ) -> Result<PagedTable, TableFault>
-    ensures table { Reads (λ table. table.table) result (newly_named number (database tables.now) schema) }
+    ensures table { Answers (λ table. table.table) result (newly_named number (database tables.now) schema) }
     ensures new { IfOk result (λ table. has_table table.table.schema.name (database tables.now) ≡ false) }
 {
     if tables.stands(&schema.name) {
@@ -68,7 +68,7 @@ fn table_at(
     keys: &TableKeys<'_>,
 ) -> Result<Table, TableFault>
     requires { ReadSchemasAreLawful }
-    ensures table { Reads (λ table. table.table) result (table_at migrated.now number (database tables.now) (table_data keys.now)) }
+    ensures table { Answers (λ table. table.table) result (table_at migrated.now number (database tables.now) (table_data keys.now)) }
     ensures new { IfOk result (λ table. has_table table.table.schema.name (database tables.now) ≡ false) }
 {
     let schema = schema_of(alloc, migrated, number, keys.create)?;
@@ -96,7 +96,7 @@ pub fn read_tables(
     keys: &[TableKeys<'_>],
 ) -> Result<Tables, TableFault>
     requires { ReadSchemasAreLawful }
-    ensures tables { Reads database result (tables_of migrated.now (map table_data keys.now)) }
+    ensures tables { Answers database result (tables_of migrated.now (map table_data keys.now)) }
     ensures sound { IfOk result (λ tables. AllByRecursion IsSound (database tables)) }
 {
     put_keeps_tables();

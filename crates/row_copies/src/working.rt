@@ -74,7 +74,7 @@ fn work_of_row(
     };
     match image(alloc, map.as_slice(), row.as_slice()) {
         Ok(values) => work_of_image(alloc, &values, into),
-        Err(ImageFault::Unfit(at)) => Ok(Work::Refuse(refuses_value(at))),
+        Err(ImageFault::Refused(at)) => Ok(Work::Refuse(refuses_value(at))),
         Err(ImageFault::Memory) => Err(AllocError),
     }
 }

@@ -13,8 +13,6 @@ use Rattle.row_store.specs.RowLists.{is_at, is_besides, without_key}
 use Rattle.row_store.specs.declared.renaming.Pair.{Pair}
 use Rattle.row_store.specs.declared.renaming.NotRenamed.{NotRenamed}
 use Rattle.row_store.specs.declared.renaming.NotRenamed.TheVariants.{Stands, Missing}
-use Rattle.row_store.specs.declared.renaming.RenameFault.{RenameFault}
-use Rattle.row_store.specs.declared.renaming.RenameFault.TheVariants as faults
 
 -- a table: its schema, and its rows in order of the clustered key
 pub record TableRows : Type 0 where
@@ -106,11 +104,6 @@ rename_tables (pair ∷ pairs) tables =
 abbrev pub rename_number : NotRenamed → ℕ
 rename_number Stands = 1050
 rename_number Missing = 1146
-
--- the fault is why no table is renamed, or out of memory
-abbrev pub IsRenameFault : Result Database NotRenamed → RenameFault → Type 0
-IsRenameFault after (faults.Refused reason) = after ≡ Err reason
-IsRenameFault after faults.Memory = Unit {0}
 
 -- what contracts see of a stored table: besides, for how many more rows it has room
 pub record StoredTable : Type 0 where

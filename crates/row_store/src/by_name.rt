@@ -3,9 +3,10 @@
 ghost use Rattle.std.specs.Prelude.{◌≡◌, ◌≤◌, ◌<◌, ◌+◌, ◌*◌, false, [], ◌∷◌, ◌++◌, not, length, slice_get, slice_set, option_copied, IfOk, IfSome, IfErr, OnOk, OnErr, Ok};
 ghost use Rattle.std.specs.List.{prefix_len};
 ghost use Rattle.std.specs.String.{string_bytes};
-ghost use Rattle.row_store.specs.Databases.{database, has_table, find_stored, is_named, rename_tables, IsRenameFault, name_stored, spares};
+ghost use Rattle.row_store.specs.Databases.{database, has_table, find_stored, is_named, rename_tables, name_stored, spares};
+ghost use Rattle.gho_values.specs.Faults.{Refuses};
 ghost use Rattle.row_store.specs.KeptByName.{table_names, AreNamed};
-ghost use Rattle.row_store.specs.declared.renaming.RenameFault.TheVariants.{Memory};
+ghost use Rattle.gho_values.specs.declared.fault.Fault.TheVariants.{Memory};
 
 use crate::renaming::{NotRenamed, Pair, RenameFault};
 use crate::table::Table;
@@ -119,7 +120,7 @@ pub(crate) fn rename_from(tables: &mut NameMap<Table>, pairs: &[Pair]) -> Result
     requires named { AreNamed tables.old }
     requires room { 2 * length pairs.now ≤ tables.old.spare }
     ensures ok { OnOk result (rename_tables pairs.now (database tables.old.values) ≡ Ok (database tables.new.values)) }
-    ensures fault { IfErr result (IsRenameFault (rename_tables pairs.now (database tables.old.values))) }
+    ensures fault { IfErr result (λ fault. Refuses fault (rename_tables pairs.now (database tables.old.values))) }
     ensures err { OnErr result (tables.new.values ≡ tables.old.values) }
     ensures named { AreNamed tables.new }
     ensures spares { spares tables.new.values ≡ spares tables.old.values }

@@ -2,8 +2,8 @@
 
 ghost use Rattle.std.specs.Prelude.{◌≡◌, IfOk};
 
-use gho_values::{Duplicate, Name, Sequence};
-use std::alloc::{AllocError, AllocFailed};
+use gho_values::{Duplicate, Fault, Name, Sequence};
+use std::alloc::AllocError;
 use thiserror::Error;
 
 /// A table's name, and the one that it gets.
@@ -52,33 +52,5 @@ impl NotRenamed {
     }
 }
 
-/// Why no table gets another name.
-#[derive(Debug, Drop, Error)]
-pub enum RenameFault {
-    /// MySQL refuses the pairs.
-    #[error("{0}")]
-    Refused(NotRenamed),
-    /// There is no memory for the names.
-    #[error("out of memory")]
-    Memory,
-}
-
-impl From<AllocError> for RenameFault {
-    ghost use Rattle.row_store.specs.declared.renaming.RenameFault.TheVariants.{Memory};
-
-    ghost from_gives = { λ _ e. e ≡ Memory };
-
-    fn from(_error: AllocError) -> RenameFault {
-        RenameFault::Memory
-    }
-}
-
-impl<T: Drop> From<AllocFailed<T>> for RenameFault {
-    ghost use Rattle.row_store.specs.declared.renaming.RenameFault.TheVariants.{Memory};
-
-    ghost from_gives = { λ _ e. e ≡ Memory };
-
-    fn from(_error: AllocFailed<T>) -> RenameFault {
-        RenameFault::Memory
-    }
-}
+/// Why no table gets another name: it is refused, or there is no memory.
+pub type RenameFault = Fault<NotRenamed>;

@@ -1,7 +1,8 @@
 //! The tables of a database.
 
 ghost use Rattle.std.specs.Prelude.{◌≡◌, ◌≤◌, ◌<◌, ◌+◌, ◌==◌, true, [], ◌∷◌, ◌++◌, length, slice_get, option_map, option_and_then, option_copied, IfOk, OnOk, OnErr, IfErr, IsSome, IsSomeAnd};
-ghost use Rattle.row_store.specs.Databases.{database, find_table, has_table, find_stored, others, spare_in, put_row, remove_row, row_at_key, IsNewIn, NamesDiffer, rename_tables, IsRenameFault, spares};
+ghost use Rattle.row_store.specs.Databases.{database, find_table, has_table, find_stored, others, spare_in, put_row, remove_row, row_at_key, IsNewIn, NamesDiffer, rename_tables, spares};
+ghost use Rattle.gho_values.specs.Faults.{Refuses};
 
 use crate::by_name::{add_new, copied_tables, has_name, named, place_of, rename_from};
 use crate::renaming::{Pairs, RenameFault};
@@ -187,7 +188,7 @@ impl Tables {
     /// Renames tables, pair by pair from left to right; or none, where a pair is refused.
     pub fn rename(&mut self, pairs: &Pairs) -> Result<(), RenameFault>
         ensures ok { OnOk result (rename_tables pairs.now (database self.old) ≡ Ok (database self.new)) }
-        ensures fault { IfErr result (IsRenameFault (rename_tables pairs.now (database self.old))) }
+        ensures fault { IfErr result (λ fault. Refuses fault (rename_tables pairs.now (database self.old))) }
         ensures err { OnErr result (self.new ≡ self.old) }
         ensures spares { spares self.new ≡ spares self.old }
     {

@@ -4,10 +4,10 @@ use Rattle.std.proofs.lemmas.List.{append-nil, drop_all}
 use Rattle.gho_values.specs.declared.gho_schema.schema.Column.{Column}
 use Rattle.gho_values.proofs.GhoSchema.Loops.{from_here}
 use Rattle.table_words.specs.declared.code.SchemaCode.{SchemaCode}
-use Rattle.table_words.specs.declared.code.SchemaFault.{SchemaFault}
-use Rattle.table_words.specs.declared.code.SchemaFault.TheVariants as faults
+use Rattle.gho_values.specs.declared.fault.Fault.{Fault}
+use Rattle.gho_values.specs.declared.fault.Fault.TheVariants as faults
 use Rattle.gho_values.specs.SchemaRules.Results.{◌>>=◌}
-use Rattle.table_words.specs.Reads.{Refuses}
+use Rattle.gho_values.specs.Faults.{Refuses}
 use Rattle.schema_text.specs.declared.written.WrittenColumn.{WrittenColumn}
 use Rattle.schema_text.specs.Declaring.{declared_column, declared_columns}
 
@@ -34,7 +34,7 @@ module _ (primaries : List (List (List ℕ))) (front : List Column) (columns : L
       let step : with_front front (declared_columns primaries (drop i columns)) ≡ Err code = rw (from_here columns i column lt is, h) refl in
       sym so_far ∙ step
 
-  pub fails : (fault : SchemaFault) (column : WrittenColumn) → i < length columns → column ≡ get_or columns i column → Refuses fault (declared_column primaries column)
+  pub fails : (fault : Fault SchemaCode) (column : WrittenColumn) → i < length columns → column ≡ get_or columns i column → Refuses fault (declared_column primaries column)
       → with_front front (declared_columns primaries (drop i columns)) ≡ total → Refuses fault total
   fails faults.Memory column lt is h so_far = tt
   fails (faults.Refused code) column lt is h so_far = refused column code lt is h so_far

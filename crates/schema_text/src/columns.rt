@@ -2,7 +2,7 @@
 
 ghost use Rattle.std.specs.Prelude.{◌≡◌, codes, option_map};
 ghost use Rattle.table_words.specs.Pieces.{behind_keyword};
-ghost use Rattle.table_words.specs.Reads.{Reads};
+ghost use Rattle.gho_values.specs.Faults.{Answers};
 ghost use Rattle.schema_text.specs.Columns.{primary_at, unique_behind, plain_at, column_attribute_at, column_attributes_at, column_at};
 
 use crate::written::{ColumnAttribute, ColumnAttributes, WrittenColumn};
@@ -10,7 +10,7 @@ use std::alloc::Global;
 use table_words::{SchemaFault, Token, attribute_at, behind_keyword, keyword_at, kind_at, name_at};
 
 fn primary_at(words: &[Token]) -> Result<Option<(ColumnAttribute, &[Token])>, SchemaFault>
-    ensures { Reads (option_map (λ read. (read.0, read.1.now))) result (primary_at words.now) }
+    ensures { Answers (option_map (λ read. (read.0, read.1.now))) result (primary_at words.now) }
 {
     let rest = keyword_at("KEY", words)?;
     Ok(Some((ColumnAttribute::Primary, rest)))
@@ -29,7 +29,7 @@ fn plain_at(
     alloc: Global,
     words: &[Token],
 ) -> Result<Option<(ColumnAttribute, &[Token])>, SchemaFault>
-    ensures { Reads (option_map (λ read. (read.0, read.1.now))) result (plain_at words.now) }
+    ensures { Answers (option_map (λ read. (read.0, read.1.now))) result (plain_at words.now) }
 {
     match attribute_at(alloc, words)? {
         Some((attribute, rest)) => Ok(Some((ColumnAttribute::Plain(attribute), rest))),
@@ -42,7 +42,7 @@ fn column_attribute_at(
     alloc: Global,
     words: &[Token],
 ) -> Result<Option<(ColumnAttribute, &[Token])>, SchemaFault>
-    ensures { Reads (option_map (λ read. (read.0, read.1.now))) result (column_attribute_at words.now) }
+    ensures { Answers (option_map (λ read. (read.0, read.1.now))) result (column_attribute_at words.now) }
 {
     match words {
         [] => Ok(None),
@@ -63,7 +63,7 @@ fn column_attributes_at(
     alloc: Global,
     words: &[Token],
 ) -> Result<(ColumnAttributes, &[Token]), SchemaFault>
-    ensures { Reads (λ read. (read.0, read.1.now)) result (column_attributes_at words.now) }
+    ensures { Answers (λ read. (read.0, read.1.now)) result (column_attributes_at words.now) }
 {
     let mut attributes = ColumnAttributes::new();
     let mut rest = words;
@@ -82,7 +82,7 @@ fn column_attributes_at(
 /// The first column, and what stands behind it.
 #[tactic(auto, unfolding(crate::specs::Columns::column_at))]
 pub fn column_at(alloc: Global, words: &[Token]) -> Result<(WrittenColumn, &[Token]), SchemaFault>
-    ensures { Reads (λ column. (column.0, column.1.now)) result (column_at words.now) }
+    ensures { Answers (λ column. (column.0, column.1.now)) result (column_at words.now) }
 {
     let (name, rest) = name_at(alloc, words)?;
     let (kind, rest) = kind_at(rest)?;

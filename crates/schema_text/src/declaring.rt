@@ -2,7 +2,7 @@
 
 ghost use Rattle.std.specs.Prelude.{◌≡◌, ◌+◌, ◌++◌, not, ◌&&◌, ◌||◌, nat_lt, length, map, filter, count_by, is_none, IfOk, OnOk};
 ghost use Rattle.std.specs.List.{list_all, list_any};
-ghost use Rattle.table_words.specs.Reads.{Reads};
+ghost use Rattle.gho_values.specs.Faults.{Answers};
 ghost use Rattle.gho_values.specs.SchemaRules.Reasons.{first_reason};
 ghost use Rattle.schema_text.specs.Declaring.{column_names, size_reasons, are_known, name_reasons, nullable_of, declared_column, declared_columns, key_index, primary_index, schema_of, clustered, built, declared_parts, declared};
 ghost use Rattle.gho_values.specs.SchemaRules.Names.{is_among};
@@ -151,7 +151,7 @@ fn declared_column(
     primaries: &[Names],
     column: &WrittenColumn,
 ) -> Result<Column, SchemaFault>
-    ensures { Reads (λ column. column) result (declared_column primaries.now column.now) }
+    ensures { Answers (λ column. column) result (declared_column primaries.now column.now) }
 {
     let nullable = nullable_of(primaries, column);
     let written = &column.attributes.plain.default;
@@ -162,7 +162,7 @@ fn declared_column(
             nullable,
             default,
         }),
-        Err(StoreFault::Unfit(_)) => Err(SchemaFault::Refused(SchemaCode::BadDefault)),
+        Err(StoreFault::Refused(_)) => Err(SchemaFault::Refused(SchemaCode::BadDefault)),
         Err(StoreFault::Memory) => Err(SchemaFault::Memory),
     }
 }
@@ -172,7 +172,7 @@ fn declared_columns(
     primaries: &[Names],
     columns: &[WrittenColumn],
 ) -> Result<Columns, SchemaFault>
-    ensures { Reads (λ columns. columns) result (declared_columns primaries.now columns.now) }
+    ensures { Answers (λ columns. columns) result (declared_columns primaries.now columns.now) }
 {
     let mut declared = Sequence::new(alloc);
     for column in columns {
@@ -260,7 +260,7 @@ fn schema_of(
 }
 
 fn clustered(schema: Schema) -> Result<Schema, SchemaFault>
-    ensures { Reads (λ schema. schema) result (clustered schema) }
+    ensures { Answers (λ schema. schema) result (clustered schema) }
 {
     if !defaults_fit(schema.columns.as_slice()) {
         Err(SchemaFault::Refused(SchemaCode::BadDefault))
@@ -280,7 +280,7 @@ fn built(
     columns: &[WrittenColumn],
     named: &NamedKeys,
 ) -> Result<Schema, SchemaFault>
-    ensures { Reads (λ schema. schema) result (built name comment names.now primaries.now columns.now named.now) }
+    ensures { Answers (λ schema. schema) result (built name comment names.now primaries.now columns.now named.now) }
 {
     if let Some(code) = name_reason(names, primaries, named) {
         return Err(SchemaFault::Refused(code));
@@ -297,7 +297,7 @@ fn declared_parts(
     comment: Chars,
     parts: Parts,
 ) -> Result<Schema, SchemaFault>
-    ensures { Reads (λ schema. schema) result (declared_parts migrated.now name comment parts) }
+    ensures { Answers (λ schema. schema) result (declared_parts migrated.now name comment parts) }
 {
     match size_reason(alloc, migrated, name.as_str(), &parts)? {
         Some(code) => Err(SchemaFault::Refused(code)),
@@ -327,7 +327,7 @@ fn declared_parts(
 /// The schema that the table declares, as one of a plan that migrates the table of this name.
 #[tactic(auto, unfolding(crate::specs::Declaring::declared))]
 pub fn declared(alloc: Global, migrated: &str, table: WrittenTable) -> Result<Schema, SchemaFault>
-    ensures { Reads (λ schema. schema) result (declared migrated.now table) }
+    ensures { Answers (λ schema. schema) result (declared migrated.now table) }
 {
     let WrittenTable {
         name,

@@ -1,7 +1,7 @@
 //! What stands behind a table's closing parenthesis.
 
 ghost use Rattle.std.specs.Prelude.{◌≡◌, option_map};
-ghost use Rattle.table_words.specs.Reads.{Reads};
+ghost use Rattle.gho_values.specs.Faults.{Answers};
 ghost use Rattle.schema_text.specs.Options.{value_words, passed_at, set_at, comment_at, charset_at, default_charset_at, with_option, option_at, options_at};
 
 use gho_values::Chars;
@@ -29,7 +29,7 @@ fn value_words(words: &[Token]) -> &[Token]
 
 #[tactic(auto, unfolding(crate::specs::Options::passed_at))]
 fn passed_at(words: &[Token]) -> Result<Option<(TableOption, &[Token])>, SchemaFault>
-    ensures { Reads (option_map (λ read. (read.0, read.1.now))) result (passed_at words.now) }
+    ensures { Answers (option_map (λ read. (read.0, read.1.now))) result (passed_at words.now) }
 {
     let rest = any_word_at(value_words(words))?;
     Ok(Some((TableOption::Passed, rest)))
@@ -37,7 +37,7 @@ fn passed_at(words: &[Token]) -> Result<Option<(TableOption, &[Token])>, SchemaF
 
 #[tactic(auto, unfolding(crate::specs::Options::set_at))]
 fn set_at(words: &[Token]) -> Result<Option<(TableOption, &[Token])>, SchemaFault>
-    ensures { Reads (option_map (λ read. (read.0, read.1.now))) result (set_at words.now) }
+    ensures { Answers (option_map (λ read. (read.0, read.1.now))) result (set_at words.now) }
 {
     let rest = keyword_at("SET", words)?;
     passed_at(rest)
@@ -48,7 +48,7 @@ fn comment_at(
     alloc: Global,
     words: &[Token],
 ) -> Result<Option<(TableOption, &[Token])>, SchemaFault>
-    ensures { Reads (option_map (λ read. (read.0, read.1.now))) result (comment_at words.now) }
+    ensures { Answers (option_map (λ read. (read.0, read.1.now))) result (comment_at words.now) }
 {
     let (text, rest) = text_at(alloc, value_words(words))?;
     Ok(Some((TableOption::Comment(text), rest)))
@@ -56,7 +56,7 @@ fn comment_at(
 
 #[tactic(auto, unfolding(crate::specs::Options::charset_at))]
 fn charset_at(words: &[Token]) -> Result<Option<(TableOption, &[Token])>, SchemaFault>
-    ensures { Reads (option_map (λ read. (read.0, read.1.now))) result (charset_at words.now) }
+    ensures { Answers (option_map (λ read. (read.0, read.1.now))) result (charset_at words.now) }
 {
     match words {
         [] => Ok(None),
@@ -76,7 +76,7 @@ fn charset_at(words: &[Token]) -> Result<Option<(TableOption, &[Token])>, Schema
 
 #[tactic(auto, unfolding(crate::specs::Options::default_charset_at))]
 fn default_charset_at(words: &[Token]) -> Result<Option<(TableOption, &[Token])>, SchemaFault>
-    ensures { Reads (option_map (λ read. (read.0, read.1.now))) result (default_charset_at words.now) }
+    ensures { Answers (option_map (λ read. (read.0, read.1.now))) result (default_charset_at words.now) }
 {
     match charset_at(words)? {
         Some((option, rest)) => Ok(Some((option, rest))),
@@ -86,7 +86,7 @@ fn default_charset_at(words: &[Token]) -> Result<Option<(TableOption, &[Token])>
 
 #[tactic(auto, unfolding(crate::specs::Options::option_at))]
 fn option_at(alloc: Global, words: &[Token]) -> Result<Option<(TableOption, &[Token])>, SchemaFault>
-    ensures { Reads (option_map (λ read. (read.0, read.1.now))) result (option_at words.now) }
+    ensures { Answers (option_map (λ read. (read.0, read.1.now))) result (option_at words.now) }
 {
     match words {
         [] => Ok(None),
@@ -116,7 +116,7 @@ fn with_option(comment: Chars, option: TableOption) -> Chars
 /// The comment that the options here give, and what stands behind them.
 #[tactic(auto, unfolding(crate::specs::Options::options_at))]
 pub fn options_at(alloc: Global, words: &[Token]) -> Result<(Chars, &[Token]), SchemaFault>
-    ensures { Reads (λ comment. (comment.0, comment.1.now)) result (options_at words.now) }
+    ensures { Answers (λ comment. (comment.0, comment.1.now)) result (options_at words.now) }
 {
     let mut comment = Chars::new(alloc, "")?;
     let mut rest = words;

@@ -1,6 +1,6 @@
 //! The reader of CREATE TABLE.
 
-ghost use Rattle.table_words.specs.Reads.{Reads};
+ghost use Rattle.gho_values.specs.Faults.{Answers};
 ghost use Rattle.schema_text.specs.Reading.{schema_at};
 
 use crate::declaring::declared;
@@ -12,7 +12,7 @@ use table_words::SchemaFault;
 /// Reads the text of CREATE TABLE of a plan that migrates the table of this name.
 #[tactic(auto, unfolding(crate::specs::Reading::schema_at))]
 pub fn read_schema(alloc: Global, text: &str, migrated: &str) -> Result<Schema, SchemaFault>
-    ensures { Reads (λ schema. schema) result (schema_at migrated.now text.now) }
+    ensures { Answers (λ schema. schema) result (schema_at migrated.now text.now) }
 {
     let table = written(alloc, text)?;
     declared(alloc, migrated, table)

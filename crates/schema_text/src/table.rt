@@ -1,7 +1,7 @@
 //! Which texts are CREATE TABLE, and what each writes.
 
 ghost use Rattle.std.specs.Prelude.{◌≡◌, codes};
-ghost use Rattle.table_words.specs.Reads.{Reads};
+ghost use Rattle.gho_values.specs.Faults.{Answers};
 ghost use Rattle.schema_text.specs.Written.{primary_item_at, key_item_at, behind_key_word, column_item_at, item_at, items_at, last_words, alone, table_at, written};
 ghost use Rattle.table_words.specs.Pieces.{behind_sign};
 ghost use Rattle.table_words.specs.Tokens.{text_words};
@@ -18,7 +18,7 @@ use table_words::{
 
 #[tactic(auto, unfolding(crate::specs::Written::primary_item_at))]
 fn primary_item_at(alloc: Global, words: &[Token]) -> Result<(Item, &[Token]), SchemaFault>
-    ensures { Reads (λ item. (item.0, item.1.now)) result (primary_item_at words.now) }
+    ensures { Answers (λ item. (item.0, item.1.now)) result (primary_item_at words.now) }
 {
     let rest = keyword_at("KEY", words)?;
     let (columns, rest) = key_columns_at(alloc, rest)?;
@@ -30,7 +30,7 @@ fn key_item_at(
     is_unique: bool,
     words: &[Token],
 ) -> Result<(Item, &[Token]), SchemaFault>
-    ensures { Reads (λ item. (item.0, item.1.now)) result (key_item_at is_unique words.now) }
+    ensures { Answers (λ item. (item.0, item.1.now)) result (key_item_at is_unique words.now) }
 {
     let (text, rest) = key_at(alloc, words)?;
     Ok((Item::Key(WrittenKey { is_unique, text }), rest))
@@ -50,7 +50,7 @@ fn behind_key_word(words: &[Token]) -> &[Token]
 }
 
 fn column_item_at(alloc: Global, words: &[Token]) -> Result<(Item, &[Token]), SchemaFault>
-    ensures { Reads (λ item. (item.0, item.1.now)) result (column_item_at words.now) }
+    ensures { Answers (λ item. (item.0, item.1.now)) result (column_item_at words.now) }
 {
     let (column, rest) = column_at(alloc, words)?;
     Ok((Item::Column(column), rest))
@@ -58,7 +58,7 @@ fn column_item_at(alloc: Global, words: &[Token]) -> Result<(Item, &[Token]), Sc
 
 #[tactic(auto, unfolding(crate::specs::Written::item_at))]
 fn item_at(alloc: Global, words: &[Token]) -> Result<(Item, &[Token]), SchemaFault>
-    ensures { Reads (λ item. (item.0, item.1.now)) result (item_at words.now) }
+    ensures { Answers (λ item. (item.0, item.1.now)) result (item_at words.now) }
 {
     match words {
         [] => Err(SchemaFault::Refused(mismatch(words))),
@@ -80,7 +80,7 @@ fn item_at(alloc: Global, words: &[Token]) -> Result<(Item, &[Token]), SchemaFau
 
 #[tactic(auto, unfolding(crate::specs::Written::items_at))]
 fn items_at(alloc: Global, words: &[Token]) -> Result<(Items, &[Token]), SchemaFault>
-    ensures { Reads (λ items. (items.0, items.1.now)) result (items_at words.now) }
+    ensures { Answers (λ items. (items.0, items.1.now)) result (items_at words.now) }
 {
     let mut items = Sequence::new(alloc);
     let mut rest = words;
@@ -105,7 +105,7 @@ fn last_words(words: &[Token]) -> &[Token]
 }
 
 fn alone(table: WrittenTable, words: &[Token]) -> Result<WrittenTable, SchemaFault>
-    ensures { Reads (λ table. table) result (alone table words.now) }
+    ensures { Answers (λ table. table) result (alone table words.now) }
 {
     match words {
         [] => Ok(table),
@@ -115,7 +115,7 @@ fn alone(table: WrittenTable, words: &[Token]) -> Result<WrittenTable, SchemaFau
 
 #[tactic(auto, unfolding(crate::specs::Written::table_at))]
 fn table_at(alloc: Global, words: &[Token]) -> Result<WrittenTable, SchemaFault>
-    ensures { Reads (λ table. table) result (table_at words.now) }
+    ensures { Answers (λ table. table) result (table_at words.now) }
 {
     let rest = keyword_at("CREATE", words)?;
     let rest = keyword_at("TABLE", rest)?;
@@ -137,7 +137,7 @@ fn table_at(alloc: Global, words: &[Token]) -> Result<WrittenTable, SchemaFault>
 /// What the text writes.
 #[tactic(auto, unfolding(crate::specs::Written::written))]
 pub fn written(alloc: Global, text: &str) -> Result<WrittenTable, SchemaFault>
-    ensures { Reads (λ table. table) result (written (text_words text.now)) }
+    ensures { Answers (λ table. table) result (written (text_words text.now)) }
 {
     let read = text_words(alloc, text)?;
     let table = table_at(alloc, read.words.as_slice())?;

@@ -4,10 +4,10 @@ use Rattle.std.proofs.lemmas.List.{append-nil, drop_all, drop_more, take_rest}
 use Rattle.table_words.specs.Reads.{◌>>=◌}
 use Rattle.script_text.specs.declared.script.ScriptLine.{ScriptLine}
 use Rattle.script_text.specs.declared.script.ScriptWord.{ScriptWord}
-use Rattle.script_reader.specs.declared.code.ScriptFault.{ScriptFault}
-use Rattle.script_reader.specs.declared.code.ScriptFault.TheVariants as faults
+use Rattle.gho_values.specs.declared.fault.Fault.{Fault}
+use Rattle.gho_values.specs.declared.fault.Fault.TheVariants as faults
 use Rattle.script_reader.specs.declared.code.ScriptRefusal.{ScriptRefusal}
-use Rattle.script_reader.specs.Codes.{RefusesScript}
+use Rattle.gho_values.specs.Faults.{Refuses}
 use Rattle.script_reader.specs.Scripts.{fitting_line, at_line, numbered, next_line, lines_from}
 
 -- the lines so far, and those that are still read
@@ -45,7 +45,7 @@ module _ (tools : List (List ℕ)) (is_open : Bool) (number : ℕ) (front : List
       let one : with_lines front (lines_from tools is_open number (texts (drop i lines))) ≡ Err refusal = rw (drop_more lines i default lt, here) refl in
       sym so_far ∙ one
 
-  pub fails : (fault : ScriptFault) → RefusesScript fault read → Here → RefusesScript fault total
+  pub fails : (fault : Fault ScriptRefusal) → Refuses fault read → Here → Refuses fault total
   fails faults.Memory e so_far = tt
   fails (faults.Refused refusal) e so_far = refuses refusal e so_far
 

@@ -2,8 +2,7 @@
 
 ghost use Rattle.std.specs.Prelude.{◌≡◌};
 
-use std::alloc::{AllocError, AllocFailed};
-use thiserror::Error;
+use gho_values::Fault;
 
 /// Why a line's words are refused, each with its number.
 #[derive(Clone, Copy, Debug)]
@@ -72,85 +71,11 @@ pub struct ScriptRefusal {
     pub line: u32,
 }
 
-/// Why a line's words aren't read.
-#[derive(Debug, Drop, Error)]
-pub enum StatementFault {
-    /// They are refused.
-    #[error("the statement is refused: {0:?}")]
-    Refused(StatementCode),
-    /// There is no memory for what is read.
-    #[error("out of memory")]
-    Memory,
-}
+/// Why a line's words aren't read: it is refused, or there is no memory.
+pub type StatementFault = Fault<StatementCode>;
 
-impl From<AllocError> for StatementFault {
-    ghost use Rattle.script_reader.specs.declared.code.StatementFault.TheVariants.{Memory};
+/// Why a line isn't read: it is refused, or there is no memory.
+pub type LineFault = Fault<ScriptCode>;
 
-    ghost from_gives = { λ _ e. e ≡ Memory };
-
-    fn from(_error: AllocError) -> StatementFault {
-        StatementFault::Memory
-    }
-}
-
-impl<T: Drop> From<AllocFailed<T>> for StatementFault {
-    ghost use Rattle.script_reader.specs.declared.code.StatementFault.TheVariants.{Memory};
-
-    ghost from_gives = { λ _ e. e ≡ Memory };
-
-    fn from(_error: AllocFailed<T>) -> StatementFault {
-        StatementFault::Memory
-    }
-}
-
-/// Why a line isn't read.
-#[derive(Debug, Drop, Error)]
-pub enum LineFault {
-    /// It is refused.
-    #[error("the line is refused: {0:?}")]
-    Refused(ScriptCode),
-    /// There is no memory for what is read.
-    #[error("out of memory")]
-    Memory,
-}
-
-impl From<AllocError> for LineFault {
-    ghost use Rattle.script_reader.specs.declared.code.LineFault.TheVariants.{Memory};
-
-    ghost from_gives = { λ _ e. e ≡ Memory };
-
-    fn from(_error: AllocError) -> LineFault {
-        LineFault::Memory
-    }
-}
-
-/// Why a script isn't read.
-#[derive(Debug, Drop, Error)]
-pub enum ScriptFault {
-    /// It is refused.
-    #[error("the script is refused: {0:?}")]
-    Refused(ScriptRefusal),
-    /// There is no memory for what is read.
-    #[error("out of memory")]
-    Memory,
-}
-
-impl From<AllocError> for ScriptFault {
-    ghost use Rattle.script_reader.specs.declared.code.ScriptFault.TheVariants.{Memory};
-
-    ghost from_gives = { λ _ e. e ≡ Memory };
-
-    fn from(_error: AllocError) -> ScriptFault {
-        ScriptFault::Memory
-    }
-}
-
-impl<T: Drop> From<AllocFailed<T>> for ScriptFault {
-    ghost use Rattle.script_reader.specs.declared.code.ScriptFault.TheVariants.{Memory};
-
-    ghost from_gives = { λ _ e. e ≡ Memory };
-
-    fn from(_error: AllocFailed<T>) -> ScriptFault {
-        ScriptFault::Memory
-    }
-}
+/// Why a script isn't read: it is refused, or there is no memory.
+pub type ScriptFault = Fault<ScriptRefusal>;

@@ -1,7 +1,7 @@
 //! The conditions of statements.
 
 ghost use Rattle.std.specs.Prelude.{◌≡◌, [], ◌∷◌, option_map, IfOk};
-ghost use Rattle.script_reader.specs.Codes.{Reads};
+ghost use Rattle.gho_values.specs.Faults.{Answers};
 ghost use Rattle.script_reader.specs.Conditions.{equality_at, and_equality_at, more_equalities_at, equalities_at, sign_of, comparison_sign_at, comparison_at, both_of, comparisons_at, between_at, form_at, condition_at};
 
 use crate::code::StatementFault;
@@ -25,7 +25,7 @@ pub enum ConditionForm {
 
 #[tactic(auto, unfolding(crate::specs::Conditions::equality_at))]
 fn equality_at(alloc: Global, words: &[Token]) -> Result<(Set, &[Token]), StatementFault>
-    ensures { Reads (λ set. (set.0, set.1.now)) result (equality_at words.now) }
+    ensures { Answers (λ set. (set.0, set.1.now)) result (equality_at words.now) }
 {
     let (column, rest) = name_at(alloc, words)?;
     let rest = sign_at("=", rest)?;
@@ -39,7 +39,7 @@ fn and_equality_at(
     alloc: Global,
     words: &[Token],
 ) -> Result<Option<(Set, &[Token])>, StatementFault>
-    ensures { Reads (option_map (λ read. (read.0, read.1.now))) result (and_equality_at words.now) }
+    ensures { Answers (option_map (λ read. (read.0, read.1.now))) result (and_equality_at words.now) }
 {
     match behind_keyword("AND", words) {
         None => Ok(None),
@@ -57,7 +57,7 @@ fn more_equalities_at(
     sets: Sets,
     words: &[Token],
 ) -> Result<(Sets, &[Token]), StatementFault>
-    ensures { Reads (λ sets. (sets.0, sets.1.now)) result (more_equalities_at sets words.now) }
+    ensures { Answers (λ sets. (sets.0, sets.1.now)) result (more_equalities_at sets words.now) }
 {
     let mut all = sets;
     let mut rest = words;
@@ -75,7 +75,7 @@ fn more_equalities_at(
 
 #[tactic(auto, unfolding(crate::specs::Conditions::equalities_at))]
 fn equalities_at(alloc: Global, words: &[Token]) -> Result<(Condition, &[Token]), StatementFault>
-    ensures { Reads (λ condition. (condition.0, condition.1.now)) result (equalities_at words.now) }
+    ensures { Answers (λ condition. (condition.0, condition.1.now)) result (equalities_at words.now) }
 {
     let (first, rest) = equality_at(alloc, words)?;
     let mut sets = Sequence::new(alloc);
@@ -103,7 +103,7 @@ fn sign_of(word: &Token) -> Option<Sign>
 
 #[tactic(auto, unfolding(crate::specs::Conditions::comparison_sign_at))]
 fn comparison_sign_at(words: &[Token]) -> Result<(Sign, &[Token]), StatementFault>
-    ensures { Reads (λ sign. (sign.0, sign.1.now)) result (comparison_sign_at words.now) }
+    ensures { Answers (λ sign. (sign.0, sign.1.now)) result (comparison_sign_at words.now) }
 {
     match words {
         [] => Err(MISTAKE),
@@ -118,7 +118,7 @@ fn comparison_sign_at(words: &[Token]) -> Result<(Sign, &[Token]), StatementFaul
 
 #[tactic(auto, unfolding(crate::specs::Conditions::comparison_at))]
 fn comparison_at(alloc: Global, words: &[Token]) -> Result<(Comparison, &[Token]), StatementFault>
-    ensures { Reads (λ comparison. (comparison.0, comparison.1.now)) result (comparison_at words.now) }
+    ensures { Answers (λ comparison. (comparison.0, comparison.1.now)) result (comparison_at words.now) }
 {
     let (column, rest) = name_at(alloc, words)?;
     let (sign, rest) = comparison_sign_at(rest)?;
@@ -155,7 +155,7 @@ fn both_of(
     second: Comparison,
     rest: &[Token],
 ) -> Result<(Condition, &[Token]), StatementFault>
-    ensures { Reads (λ condition. (condition.0, condition.1.now)) result (both_of first second rest.now) }
+    ensures { Answers (λ condition. (condition.0, condition.1.now)) result (both_of first second rest.now) }
 {
     if same_name(
         first.column.as_str().as_bytes(),
@@ -169,7 +169,7 @@ fn both_of(
 
 #[tactic(auto, unfolding(crate::specs::Conditions::comparisons_at))]
 fn comparisons_at(alloc: Global, words: &[Token]) -> Result<(Condition, &[Token]), StatementFault>
-    ensures { Reads (λ condition. (condition.0, condition.1.now)) result (comparisons_at words.now) }
+    ensures { Answers (λ condition. (condition.0, condition.1.now)) result (comparisons_at words.now) }
 {
     let (first, rest) = comparison_at(alloc, words)?;
     match behind_keyword("AND", rest) {
@@ -183,7 +183,7 @@ fn comparisons_at(alloc: Global, words: &[Token]) -> Result<(Condition, &[Token]
 
 #[tactic(auto, unfolding(crate::specs::Conditions::between_at))]
 fn between_at(alloc: Global, words: &[Token]) -> Result<(Condition, &[Token]), StatementFault>
-    ensures { Reads (λ condition. (condition.0, condition.1.now)) result (between_at words.now) }
+    ensures { Answers (λ condition. (condition.0, condition.1.now)) result (between_at words.now) }
 {
     let (column, rest) = name_at(alloc, words)?;
     let rest = keyword_at("BETWEEN", rest)?;
@@ -225,7 +225,7 @@ fn form_at(words: &[Token]) -> ConditionForm
 /// The condition at the front, and what stands behind it.
 #[tactic(auto, unfolding(crate::specs::Conditions::condition_at))]
 pub fn condition_at(alloc: Global, words: &[Token]) -> Result<(Condition, &[Token]), StatementFault>
-    ensures { Reads (λ condition. (condition.0, condition.1.now)) result (condition_at words.now) }
+    ensures { Answers (λ condition. (condition.0, condition.1.now)) result (condition_at words.now) }
 {
     match behind_keyword("WHERE", words) {
         None => Ok((Condition::All, words)),

@@ -2,7 +2,7 @@
 
 ghost use Rattle.std.specs.Prelude.{◌≡◌, IfOk, map};
 ghost use Rattle.table_words.specs.Tokens.{text_words};
-ghost use Rattle.script_reader.specs.Codes.{ReadsLine};
+ghost use Rattle.gho_values.specs.Faults.{Answers};
 ghost use Rattle.script_reader.specs.Lines.{asked_of, line_of, is_line, has_lines};
 
 use crate::code::{LineFault, ScriptCode, StatementFault};
@@ -12,7 +12,7 @@ use std::alloc::{AllocError, Global};
 use table_words::{TextWords, Token, text_words};
 
 fn asked_of(alloc: Global, words: &[Token]) -> Result<Option<ScriptWord>, LineFault>
-    ensures { ReadsLine (λ asked. asked) result (asked_of words.now) }
+    ensures { Answers (λ asked. asked) result (asked_of words.now) }
 {
     match words {
         [] => Ok(None),
@@ -28,7 +28,7 @@ fn asked_of(alloc: Global, words: &[Token]) -> Result<Option<ScriptWord>, LineFa
 
 /// What a line's text asks for: nothing where it has no words.
 pub fn line_at(alloc: Global, text: &str) -> Result<Option<ScriptWord>, LineFault>
-    ensures { ReadsLine (λ asked. asked) result (line_of (text_words text.now)) }
+    ensures { Answers (λ asked. asked) result (line_of (text_words text.now)) }
 {
     let read = text_words(alloc, text)?;
     if read.is_faulty {

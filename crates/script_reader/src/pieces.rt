@@ -1,6 +1,6 @@
 //! Single words of a statement, at the front of what is left of its line.
 
-ghost use Rattle.script_reader.specs.Codes.{Reads};
+ghost use Rattle.gho_values.specs.Faults.{Answers};
 ghost use Rattle.script_reader.specs.Pieces.{keyword_at, sign_at, name_at, names_at, literal_at, unless_null, operand_at};
 
 use crate::code::{StatementCode, StatementFault};
@@ -13,7 +13,7 @@ pub const MISTAKE: StatementFault = StatementFault::Refused(StatementCode::Synta
 
 /// What stands behind this keyword, which has to be the first word.
 pub fn keyword_at<'a>(keyword: &str, words: &'a [Token]) -> Result<&'a [Token], StatementFault>
-    ensures { Reads (λ rest. rest.now) result (keyword_at keyword.now words.now) }
+    ensures { Answers (λ rest. rest.now) result (keyword_at keyword.now words.now) }
 {
     match table_words::keyword_at(keyword, words) {
         Ok(rest) => Ok(rest),
@@ -24,7 +24,7 @@ pub fn keyword_at<'a>(keyword: &str, words: &'a [Token]) -> Result<&'a [Token], 
 
 /// What stands behind this sign, which has to be the first word.
 pub fn sign_at<'a>(sign: &str, words: &'a [Token]) -> Result<&'a [Token], StatementFault>
-    ensures { Reads (λ rest. rest.now) result (sign_at sign.now words.now) }
+    ensures { Answers (λ rest. rest.now) result (sign_at sign.now words.now) }
 {
     match table_words::sign_at(sign, words) {
         Ok(rest) => Ok(rest),
@@ -35,7 +35,7 @@ pub fn sign_at<'a>(sign: &str, words: &'a [Token]) -> Result<&'a [Token], Statem
 
 /// The name at the front, and what stands behind it.
 pub fn name_at(alloc: Global, words: &[Token]) -> Result<(Name, &[Token]), StatementFault>
-    ensures { Reads (λ name. (name.0, name.1.now)) result (name_at words.now) }
+    ensures { Answers (λ name. (name.0, name.1.now)) result (name_at words.now) }
 {
     match table_words::name_at(alloc, words) {
         Ok(read) => Ok(read),
@@ -46,7 +46,7 @@ pub fn name_at(alloc: Global, words: &[Token]) -> Result<(Name, &[Token]), State
 
 /// The names at the front, with commas between them, and what stands behind them.
 pub fn names_at(alloc: Global, words: &[Token]) -> Result<(Names, &[Token]), StatementFault>
-    ensures { Reads (λ names. (names.0, names.1.now)) result (names_at words.now) }
+    ensures { Answers (λ names. (names.0, names.1.now)) result (names_at words.now) }
 {
     match table_words::names_at(alloc, words) {
         Ok(read) => Ok(read),
@@ -57,7 +57,7 @@ pub fn names_at(alloc: Global, words: &[Token]) -> Result<(Names, &[Token]), Sta
 
 /// The literal at the front, and what stands behind it.
 pub fn literal_at(alloc: Global, words: &[Token]) -> Result<(Value, &[Token]), StatementFault>
-    ensures { Reads (λ value. (value.0, value.1.now)) result (literal_at words.now) }
+    ensures { Answers (λ value. (value.0, value.1.now)) result (literal_at words.now) }
 {
     match table_words::literal_at(alloc, words) {
         Ok(read) => Ok(read),
@@ -67,7 +67,7 @@ pub fn literal_at(alloc: Global, words: &[Token]) -> Result<(Value, &[Token]), S
 }
 
 fn unless_null(value: Value, rest: &[Token]) -> Result<(Value, &[Token]), StatementFault>
-    ensures { Reads (λ value. (value.0, value.1.now)) result (unless_null value rest.now) }
+    ensures { Answers (λ value. (value.0, value.1.now)) result (unless_null value rest.now) }
 {
     match &value {
         Value::Null => Err(MISTAKE),
@@ -78,7 +78,7 @@ fn unless_null(value: Value, rest: &[Token]) -> Result<(Value, &[Token]), Statem
 /// The literal at the front, which isn't NULL, and what stands behind it.
 #[tactic(auto, unfolding(crate::specs::Pieces::operand_at))]
 pub fn operand_at(alloc: Global, words: &[Token]) -> Result<(Value, &[Token]), StatementFault>
-    ensures { Reads (λ value. (value.0, value.1.now)) result (operand_at words.now) }
+    ensures { Answers (λ value. (value.0, value.1.now)) result (operand_at words.now) }
 {
     let (value, rest) = literal_at(alloc, words)?;
     unless_null(value, rest)

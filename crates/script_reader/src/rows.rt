@@ -1,6 +1,6 @@
 //! The lists of INSERT, REPLACE, UPDATE and SELECT.
 
-ghost use Rattle.script_reader.specs.Codes.{Reads};
+ghost use Rattle.gho_values.specs.Faults.{Answers};
 ghost use Rattle.script_reader.specs.Rows.{literals_at, set_at, sets_at, columns_at, values_at, row_at};
 
 use crate::code::StatementFault;
@@ -23,7 +23,7 @@ pub struct RowText {
 
 #[tactic(auto, unfolding(crate::specs::Rows::literals_at))]
 fn literals_at(alloc: Global, words: &[Token]) -> Result<(Row, &[Token]), StatementFault>
-    ensures { Reads (λ values. (values.0, values.1.now)) result (literals_at words.now) }
+    ensures { Answers (λ values. (values.0, values.1.now)) result (literals_at words.now) }
 {
     let mut values = Sequence::new(alloc);
     let mut rest = words;
@@ -40,7 +40,7 @@ fn literals_at(alloc: Global, words: &[Token]) -> Result<(Row, &[Token]), Statem
 
 #[tactic(auto, unfolding(crate::specs::Rows::set_at))]
 fn set_at(alloc: Global, words: &[Token]) -> Result<(Set, &[Token]), StatementFault>
-    ensures { Reads (λ set. (set.0, set.1.now)) result (set_at words.now) }
+    ensures { Answers (λ set. (set.0, set.1.now)) result (set_at words.now) }
 {
     let (column, rest) = name_at(alloc, words)?;
     let rest = sign_at("=", rest)?;
@@ -51,7 +51,7 @@ fn set_at(alloc: Global, words: &[Token]) -> Result<(Set, &[Token]), StatementFa
 /// The sets at the front, with commas between them, and what stands behind them.
 #[tactic(auto, unfolding(crate::specs::Rows::sets_at))]
 pub fn sets_at(alloc: Global, words: &[Token]) -> Result<(Sets, &[Token]), StatementFault>
-    ensures { Reads (λ sets. (sets.0, sets.1.now)) result (sets_at words.now) }
+    ensures { Answers (λ sets. (sets.0, sets.1.now)) result (sets_at words.now) }
 {
     let mut sets = Sequence::new(alloc);
     let mut rest = words;
@@ -68,7 +68,7 @@ pub fn sets_at(alloc: Global, words: &[Token]) -> Result<(Sets, &[Token]), State
 
 #[tactic(auto, unfolding(crate::specs::Rows::columns_at))]
 fn columns_at(alloc: Global, words: &[Token]) -> Result<(Option<Names>, &[Token]), StatementFault>
-    ensures { Reads (λ columns. (columns.0, columns.1.now)) result (columns_at words.now) }
+    ensures { Answers (λ columns. (columns.0, columns.1.now)) result (columns_at words.now) }
 {
     match behind_sign("(", words) {
         None => Ok((None, words)),
@@ -82,7 +82,7 @@ fn columns_at(alloc: Global, words: &[Token]) -> Result<(Option<Names>, &[Token]
 
 #[tactic(auto, unfolding(crate::specs::Rows::values_at))]
 fn values_at(alloc: Global, words: &[Token]) -> Result<(Row, &[Token]), StatementFault>
-    ensures { Reads (λ values. (values.0, values.1.now)) result (values_at words.now) }
+    ensures { Answers (λ values. (values.0, values.1.now)) result (values_at words.now) }
 {
     let rest = keyword_at("VALUES", words)?;
     let rest = sign_at("(", rest)?;
@@ -94,7 +94,7 @@ fn values_at(alloc: Global, words: &[Token]) -> Result<(Row, &[Token]), Statemen
 /// What an INSERT or a REPLACE says behind its first word, and what stands behind that.
 #[tactic(auto, unfolding(crate::specs::Rows::row_at))]
 pub fn row_at(alloc: Global, words: &[Token]) -> Result<(RowText, &[Token]), StatementFault>
-    ensures { Reads (λ row. (row.0, row.1.now)) result (row_at words.now) }
+    ensures { Answers (λ row. (row.0, row.1.now)) result (row_at words.now) }
 {
     let rest = keyword_at("INTO", words)?;
     let (table, rest) = name_at(alloc, rest)?;

@@ -4,7 +4,7 @@ ghost use Rattle.std.specs.Prelude.{◌≡◌, ◌++◌, IfOk, OnOk, false, map}
 ghost use Rattle.std.specs.List.{list_any};
 ghost use Rattle.std.specs.Str.{bytes_eq};
 ghost use Rattle.std.specs.Str.Lines.{lines};
-ghost use Rattle.script_reader.specs.Codes.{ReadsLine, ReadsScript};
+ghost use Rattle.gho_values.specs.Faults.{Answers};
 ghost use Rattle.script_reader.specs.Scripts.{table_of, names_one_of, closed, open_behind, ended_before, unless_tool, fitting, fitting_line, at_line, numbered, lines_from, script_of};
 
 use crate::code::{LineFault, ScriptCode, ScriptFault, ScriptRefusal};
@@ -49,7 +49,7 @@ fn names_one_of(tables: &[Name], asked: &ScriptWord) -> bool
 }
 
 fn closed(is_open: bool) -> Result<bool, LineFault>
-    ensures { ReadsLine (λ is_open. is_open) result (closed is_open) }
+    ensures { Answers (λ is_open. is_open) result (closed is_open) }
 {
     if is_open {
         Ok(false)
@@ -60,7 +60,7 @@ fn closed(is_open: bool) -> Result<bool, LineFault>
 
 /// Whether a transaction is open behind a line, given whether one is before it.
 fn open_behind(is_open: bool, asked: &ScriptWord) -> Result<bool, LineFault>
-    ensures { ReadsLine (λ is_open. is_open) result (open_behind is_open asked.now) }
+    ensures { Answers (λ is_open. is_open) result (open_behind is_open asked.now) }
 {
     match asked {
         ScriptWord::Begin => {
@@ -78,7 +78,7 @@ fn open_behind(is_open: bool, asked: &ScriptWord) -> Result<bool, LineFault>
 
 /// The last line leaves no transaction open.
 fn ended_before(alloc: Global, texts: &[&str], is_open: bool) -> Result<bool, LineFault>
-    ensures { ReadsLine (λ is_open. is_open) result (ended_before (map (λ text. text.now) texts.now) is_open) }
+    ensures { Answers (λ is_open. is_open) result (ended_before (map (λ text. text.now) texts.now) is_open) }
 {
     if is_open && !has_lines(alloc, texts)? {
         return Err(LineFault::Refused(ScriptCode::LeftOpen));
@@ -87,7 +87,7 @@ fn ended_before(alloc: Global, texts: &[&str], is_open: bool) -> Result<bool, Li
 }
 
 fn unless_tool(tools: &[Name], is_open: bool, asked: &ScriptWord) -> Result<bool, LineFault>
-    ensures { ReadsLine (λ is_open. is_open) result (unless_tool tools.now is_open asked.now) }
+    ensures { Answers (λ is_open. is_open) result (unless_tool tools.now is_open asked.now) }
 {
     if names_one_of(tools, asked) {
         Err(LineFault::Refused(ScriptCode::ToolTable))
@@ -105,7 +105,7 @@ fn fitting(
     is_open: bool,
     asked: &Option<ScriptWord>,
 ) -> Result<bool, LineFault>
-    ensures { ReadsLine (λ is_open. is_open) result (fitting tools.now (map (λ text. text.now) texts.now) is_open asked.now) }
+    ensures { Answers (λ is_open. is_open) result (fitting tools.now (map (λ text. text.now) texts.now) is_open asked.now) }
 {
     match asked {
         None => Ok(is_open),
@@ -126,7 +126,7 @@ fn fitting_line(
     is_open: bool,
     text: &str,
 ) -> Result<(Option<ScriptWord>, bool), LineFault>
-    ensures { ReadsLine (λ line. line) result (fitting_line tools.now (map (λ text. text.now) texts.now) is_open text.now) }
+    ensures { Answers (λ line. line) result (fitting_line tools.now (map (λ text. text.now) texts.now) is_open text.now) }
 {
     let asked = line_at(alloc, text)?;
     let is_open = fitting(alloc, tools, texts, is_open, &asked)?;
@@ -142,7 +142,7 @@ fn numbered_line(
     number: u32,
     text: &str,
 ) -> Result<(Option<ScriptWord>, bool), ScriptFault>
-    ensures { ReadsScript (λ line. line) result (at_line number (fitting_line tools.now (map (λ text. text.now) texts.now) is_open text.now)) }
+    ensures { Answers (λ line. line) result (at_line number (fitting_line tools.now (map (λ text. text.now) texts.now) is_open text.now)) }
 {
     match fitting_line(alloc, tools, texts, is_open, text) {
         Ok(line) => Ok(line),
@@ -164,7 +164,7 @@ fn push_line(script: &mut Script, number: u32, asked: Option<ScriptWord>) -> Res
 }
 
 fn lines_from(alloc: Global, tools: &[Name], texts: &[&str]) -> Result<Script, ScriptFault>
-    ensures { ReadsScript (λ script. script) result (lines_from tools.now false 1 (map (λ text. text.now) texts.now)) }
+    ensures { Answers (λ script. script) result (lines_from tools.now false 1 (map (λ text. text.now) texts.now)) }
 {
     let mut script = Sequence::new(alloc);
     let mut is_open = false;
@@ -194,7 +194,7 @@ fn lines_of(alloc: Global, text: &str) -> Result<Vec<&str>, AllocError>
 /// Reads a client's script, where these are the tool's tables, which no client may name. Each line of the text asks for
 /// one thing; one without words asks for nothing, and is counted.
 pub fn read_script(alloc: Global, text: &str, tools: &[Name]) -> Result<Script, ScriptFault>
-    ensures { ReadsScript (λ script. script) result (script_of tools.now text.now) }
+    ensures { Answers (λ script. script) result (script_of tools.now text.now) }
 {
     let lines = lines_of(alloc, text)?;
     lines_from(alloc, tools, lines.as_slice())

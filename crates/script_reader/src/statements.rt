@@ -1,7 +1,7 @@
 //! What a line asks for, by its words.
 
 ghost use Rattle.std.specs.Prelude.{◌≡◌, option_map};
-ghost use Rattle.script_reader.specs.Codes.{Reads};
+ghost use Rattle.gho_values.specs.Faults.{Answers};
 ghost use Rattle.script_reader.specs.Statements.{insert_at, replace_at, delete_at, update_at, count_at, count_or_columns, behind_count, shown_at, select_at, start_at, asked_at, ended, statement_of};
 
 use crate::code::{StatementCode, StatementFault};
@@ -15,7 +15,7 @@ use table_words::{Token, behind_keyword, behind_sign};
 
 #[tactic(auto, unfolding(crate::specs::Statements::insert_at))]
 fn insert_at(alloc: Global, words: &[Token]) -> Result<(ScriptWord, &[Token]), StatementFault>
-    ensures { Reads (λ asked. (asked.0, asked.1.now)) result (insert_at words.now) }
+    ensures { Answers (λ asked. (asked.0, asked.1.now)) result (insert_at words.now) }
 {
     let (row, rest) = row_at(alloc, words)?;
     let RowText {
@@ -35,7 +35,7 @@ fn insert_at(alloc: Global, words: &[Token]) -> Result<(ScriptWord, &[Token]), S
 
 #[tactic(auto, unfolding(crate::specs::Statements::replace_at))]
 fn replace_at(alloc: Global, words: &[Token]) -> Result<(ScriptWord, &[Token]), StatementFault>
-    ensures { Reads (λ asked. (asked.0, asked.1.now)) result (replace_at words.now) }
+    ensures { Answers (λ asked. (asked.0, asked.1.now)) result (replace_at words.now) }
 {
     let (row, rest) = row_at(alloc, words)?;
     let RowText {
@@ -55,7 +55,7 @@ fn replace_at(alloc: Global, words: &[Token]) -> Result<(ScriptWord, &[Token]), 
 
 #[tactic(auto, unfolding(crate::specs::Statements::delete_at))]
 fn delete_at(alloc: Global, words: &[Token]) -> Result<(ScriptWord, &[Token]), StatementFault>
-    ensures { Reads (λ asked. (asked.0, asked.1.now)) result (delete_at words.now) }
+    ensures { Answers (λ asked. (asked.0, asked.1.now)) result (delete_at words.now) }
 {
     let rest = keyword_at("FROM", words)?;
     let (table, rest) = name_at(alloc, rest)?;
@@ -65,7 +65,7 @@ fn delete_at(alloc: Global, words: &[Token]) -> Result<(ScriptWord, &[Token]), S
 
 #[tactic(auto, unfolding(crate::specs::Statements::update_at))]
 fn update_at(alloc: Global, words: &[Token]) -> Result<(ScriptWord, &[Token]), StatementFault>
-    ensures { Reads (λ asked. (asked.0, asked.1.now)) result (update_at words.now) }
+    ensures { Answers (λ asked. (asked.0, asked.1.now)) result (update_at words.now) }
 {
     let (table, rest) = name_at(alloc, words)?;
     let rest = keyword_at("SET", rest)?;
@@ -82,7 +82,7 @@ fn update_at(alloc: Global, words: &[Token]) -> Result<(ScriptWord, &[Token]), S
 }
 
 fn count_at(words: &[Token]) -> Result<(Shown, &[Token]), StatementFault>
-    ensures { Reads (λ shown. (shown.0, shown.1.now)) result (count_at words.now) }
+    ensures { Answers (λ shown. (shown.0, shown.1.now)) result (count_at words.now) }
 {
     let rest = sign_at("*", words)?;
     let rest = sign_at(")", rest)?;
@@ -101,7 +101,7 @@ fn behind_count(words: &[Token]) -> Option<&[Token]>
 }
 
 fn count_or_columns(alloc: Global, words: &[Token]) -> Result<(Shown, &[Token]), StatementFault>
-    ensures { Reads (λ shown. (shown.0, shown.1.now)) result (count_or_columns words.now (behind_count words.now)) }
+    ensures { Answers (λ shown. (shown.0, shown.1.now)) result (count_or_columns words.now (behind_count words.now)) }
 {
     match behind_count(words) {
         Some(rest) => count_at(rest),
@@ -114,7 +114,7 @@ fn count_or_columns(alloc: Global, words: &[Token]) -> Result<(Shown, &[Token]),
 
 #[tactic(auto, unfolding(crate::specs::Statements::shown_at))]
 fn shown_at(alloc: Global, words: &[Token]) -> Result<(Shown, &[Token]), StatementFault>
-    ensures { Reads (λ shown. (shown.0, shown.1.now)) result (shown_at words.now) }
+    ensures { Answers (λ shown. (shown.0, shown.1.now)) result (shown_at words.now) }
 {
     match behind_sign("*", words) {
         Some(rest) => Ok((Shown::All, rest)),
@@ -124,7 +124,7 @@ fn shown_at(alloc: Global, words: &[Token]) -> Result<(Shown, &[Token]), Stateme
 
 #[tactic(auto, unfolding(crate::specs::Statements::select_at))]
 fn select_at(alloc: Global, words: &[Token]) -> Result<(ScriptWord, &[Token]), StatementFault>
-    ensures { Reads (λ asked. (asked.0, asked.1.now)) result (select_at words.now) }
+    ensures { Answers (λ asked. (asked.0, asked.1.now)) result (select_at words.now) }
 {
     let (shown, rest) = shown_at(alloc, words)?;
     let rest = keyword_at("FROM", rest)?;
@@ -141,7 +141,7 @@ fn select_at(alloc: Global, words: &[Token]) -> Result<(ScriptWord, &[Token]), S
 }
 
 fn start_at(words: &[Token]) -> Result<(ScriptWord, &[Token]), StatementFault>
-    ensures { Reads (λ asked. (asked.0, asked.1.now)) result (start_at words.now) }
+    ensures { Answers (λ asked. (asked.0, asked.1.now)) result (start_at words.now) }
 {
     let rest = keyword_at("TRANSACTION", words)?;
     Ok((ScriptWord::Begin, rest))
@@ -149,7 +149,7 @@ fn start_at(words: &[Token]) -> Result<(ScriptWord, &[Token]), StatementFault>
 
 #[tactic(auto, unfolding(crate::specs::Statements::asked_at))]
 fn asked_at(alloc: Global, words: &[Token]) -> Result<(ScriptWord, &[Token]), StatementFault>
-    ensures { Reads (λ asked. (asked.0, asked.1.now)) result (asked_at words.now) }
+    ensures { Answers (λ asked. (asked.0, asked.1.now)) result (asked_at words.now) }
 {
     match words {
         [] => Err(MISTAKE),
@@ -181,7 +181,7 @@ fn asked_at(alloc: Global, words: &[Token]) -> Result<(ScriptWord, &[Token]), St
 
 /// What a line asks for, where nothing is left of it, or one `;`.
 fn ended(asked: ScriptWord, rest: &[Token]) -> Result<ScriptWord, StatementFault>
-    ensures { Reads (λ asked. asked) result (ended asked rest.now) }
+    ensures { Answers (λ asked. asked) result (ended asked rest.now) }
 {
     match rest {
         [] => Ok(asked),
@@ -200,7 +200,7 @@ fn ended(asked: ScriptWord, rest: &[Token]) -> Result<ScriptWord, StatementFault
 /// out on purpose is refused before any mistake.
 #[tactic(auto, unfolding(crate::specs::Statements::statement_of))]
 pub fn read_statement(alloc: Global, words: &[Token]) -> Result<ScriptWord, StatementFault>
-    ensures { Reads (λ asked. asked) result (statement_of words.now) }
+    ensures { Answers (λ asked. asked) result (statement_of words.now) }
 {
     if is_out_of_scope(words) {
         return Err(StatementFault::Refused(StatementCode::Scope));

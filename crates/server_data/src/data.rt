@@ -2,7 +2,8 @@
 
 ghost use Rattle.std.specs.Prelude.{◌≡◌, ◌==◌, ℕ, List, false, [], ◌∷◌, ◌++◌, Ok, IfOk, IfErr, OnOk, OnErr};
 ghost use Rattle.event_codec.specs.declared.event.RowEvent.{RowEvent as Event};
-ghost use Rattle.row_store.specs.Databases.{Database, database, has_table, without_table, rename_tables, IsRenameFault};
+ghost use Rattle.row_store.specs.Databases.{Database, database, has_table, without_table, rename_tables};
+ghost use Rattle.gho_values.specs.Faults.{Refuses};
 ghost use Rattle.plain_server.specs.declared.request.Request.TheVariants.{CopyRow, Create};
 ghost use Rattle.plain_server.specs.Jobs.{after_events, says, job_says, copy_job};
 ghost use Rattle.plain_server.specs.Locking.{row_locks_of};
@@ -127,7 +128,7 @@ pub trait Data: Drop {
     fn rename(&mut self, pairs: &Pairs) -> Result<(), RenameFault>
         requires { (session : ℕ) → NoneOf (pair_names pairs.now) (written self.old session) }
         ensures ok { OnOk result (rename_tables pairs.now (committed self.old) ≡ Ok (committed self.new)) }
-        ensures fault { IfErr result (IsRenameFault (rename_tables pairs.now (committed self.old))) }
+        ensures fault { IfErr result (λ fault. Refuses fault (rename_tables pairs.now (committed self.old))) }
         ensures err { OnErr result (committed self.new ≡ committed self.old) }
         ensures written { (session : ℕ) → written self.new session ≡ written self.old session };
 }

@@ -1,7 +1,7 @@
 -- What one column of an UPDATE is set to.
 use Rattle.std.specs.Prelude.{ℕ, Option, Some, None, Result, Ok, Err}
 use Rattle.gho_values.specs.declared.value.Value.{Value}
-use Rattle.gho_values.specs.declared.fault.Unfit.{Unfit}
+use Rattle.gho_values.specs.declared.unfit.Unfit.{Unfit}
 use Rattle.gho_values.specs.declared.alter_image.image_fault.UnfitAt.{UnfitAt}
 
 -- what the column at a place is set to, where it is, or that it refuses its value

@@ -56,7 +56,7 @@ fn sought_at(
     };
     match seek(alloc, value, column.kind) {
         Ok(value) => Ok(Ok(value)),
-        Err(StoreFault::Unfit(unfit)) => Ok(Err(refuses_value(UnfitAt {
+        Err(StoreFault::Refused(unfit)) => Ok(Err(refuses_value(UnfitAt {
             column: place,
             unfit,
         }))),

@@ -22,7 +22,7 @@ pub fn stored(
 {
     match store(alloc, value, column.kind, column.nullable) {
         Ok(value) => Ok(Ok(value)),
-        Err(StoreFault::Unfit(unfit)) => Ok(Err(refuses_value(UnfitAt {
+        Err(StoreFault::Refused(unfit)) => Ok(Err(refuses_value(UnfitAt {
             column: place,
             unfit,
         }))),

@@ -30,7 +30,7 @@ fn column_set(
     };
     match store(alloc, value, column.kind, column.nullable) {
         Ok(value) => Ok(Ok(Some(value))),
-        Err(StoreFault::Unfit(unfit)) => Ok(Err(UnfitAt {
+        Err(StoreFault::Refused(unfit)) => Ok(Err(UnfitAt {
             column: place,
             unfit,
         })),

@@ -1,7 +1,8 @@
 //! Tables are created, dropped and renamed.
 
 ghost use Rattle.std.specs.Prelude.{◌≡◌, ℕ, false, [], ◌∷◌, ◌++◌, List, Ok, IfErr, OnOk, OnErr};
-ghost use Rattle.row_store.specs.Databases.{database, has_table, rename_tables, without_table, IsRenameFault};
+ghost use Rattle.row_store.specs.Databases.{database, has_table, rename_tables, without_table};
+ghost use Rattle.gho_values.specs.Faults.{Refuses};
 ghost use Rattle.plain_server.specs.States.{pair_names};
 ghost use Rattle.server_data.specs.Fitting.{NoneOf};
 ghost use Rattle.plain_server.specs.StatementLaws.Covering.{IsOrderlyTable};
@@ -44,7 +45,7 @@ pub fn drop_table(tables: &mut Tables, name: &Name)
 /// refused (RENAME TABLE).
 pub fn rename_tables(tables: &mut Tables, pairs: &Pairs) -> Result<(), RenameFault>
     ensures ok { OnOk result (rename_tables pairs.now (database tables.old) ≡ Ok (database tables.new)) }
-    ensures fault { IfErr result (IsRenameFault (rename_tables pairs.now (database tables.old))) }
+    ensures fault { IfErr result (λ fault. Refuses fault (rename_tables pairs.now (database tables.old))) }
     ensures err { OnErr result (tables.new ≡ tables.old) }
     ensures kept { (txns : List OpenTxn) → ((session : ℕ) → NoneOf (pair_names pairs.now) (written_of session txns)) → IsKept tables.old txns → IsKept tables.new txns }
 {

@@ -1,12 +1,10 @@
 -- Reading items one behind the other as long as one begins, as a loop does.
 use Rattle.std.proofs.Common.{◌≡◌, ℕ, suc, ◌-◌, ◌+◌, ◌≤◌, ◌<◌, List, Option, Some, None, Result, Ok, Err, refl, sym, ◌∙◌, arith}
-use Rattle.table_words.specs.declared.code.SchemaCode.{SchemaCode}
-use Rattle.table_words.specs.declared.code.SchemaFault.{SchemaFault}
-use Rattle.table_words.specs.declared.code.SchemaFault.TheVariants as faults
+use Rattle.gho_values.specs.declared.fault.Fault.{Fault}
+use Rattle.gho_values.specs.declared.fault.Fault.TheVariants as faults
 use Rattle.table_words.specs.declared.token.Token.{Token}
-use Rattle.table_words.specs.Listed.{with_more, gathered}
-use Rattle.gho_values.specs.SchemaRules.Results.{◌>>=◌}
-use Rattle.table_words.specs.Reads.{Refuses}
+use Rattle.table_words.specs.Listed.{gathered}
+use Rattle.gho_values.specs.Faults.{Refuses}
 
 module _ {S X C : Type 0} (item : List Token → Result (Option (X × List Token)) C) (add : S → X → S) (so_far : S) (most i : ℕ) (words : List Token) (total : Result (S × List Token) C) where
   pub one_more : (x : X) (behind : List Token) → i < most → item words ≡ Ok (Some (x, behind)) → gathered item add (most - i) so_far words ≡ total → gathered item add (most - (i + 1)) (add so_far x) behind ≡ total
@@ -38,7 +36,7 @@ module _ {S X C : Type 0} (item : List Token → Result (Option (X × List Token
       sym e ∙ step
 
 -- an item that isn't read, by its fault
-pub one_fails : {S X : Type 0} (item : List Token → Result (Option (X × List Token)) SchemaCode) (add : S → X → S) (fault : SchemaFault) (so_far : S) (most i : ℕ) (words : List Token) (total : Result (S × List Token) SchemaCode)
+pub one_fails : {S X C : Type 0} (item : List Token → Result (Option (X × List Token)) C) (add : S → X → S) (fault : Fault C) (so_far : S) (most i : ℕ) (words : List Token) (total : Result (S × List Token) C)
     → i < most → Refuses fault (item words) → gathered item add (most - i) so_far words ≡ total → Refuses fault total
 one_fails item add faults.Memory so_far most i words total lt read e = tt
 one_fails item add (faults.Refused code) so_far most i words total lt read e = one_refused item add so_far most i words total code lt read e

@@ -1,14 +1,12 @@
 -- Reading items with commas between them one after the other, as a loop does.
-use Rattle.std.proofs.Common.{◌≡◌, ℕ, suc, ◌-◌, ◌+◌, ◌≤◌, ◌<◌, List, [], ◌∷◌, ◌++◌, Option, Some, None, Result, Ok, Err, refl, sym, ap, ◌∙◌, append_assoc, arith, codes}
-use Rattle.std.proofs.lemmas.List.{append-nil}
-use Rattle.table_words.specs.declared.code.SchemaCode.{SchemaCode}
-use Rattle.table_words.specs.declared.code.SchemaFault.{SchemaFault}
-use Rattle.table_words.specs.declared.code.SchemaFault.TheVariants as faults
+use Rattle.std.proofs.Common.{◌≡◌, ℕ, suc, ◌-◌, ◌+◌, ◌≤◌, ◌<◌, List, [], ◌∷◌, ◌++◌, Some, None, Result, Ok, Err, refl, sym, ap, ◌∙◌, append_assoc, arith, codes}
+use Rattle.gho_values.specs.declared.fault.Fault.{Fault}
+use Rattle.gho_values.specs.declared.fault.Fault.TheVariants as faults
 use Rattle.table_words.specs.declared.token.Token.{Token}
-use Rattle.table_words.specs.Listed.{with_others, listed}
+use Rattle.table_words.specs.Listed.{listed}
 use Rattle.table_words.specs.Pieces.{behind_sign}
 use Rattle.gho_values.specs.SchemaRules.Results.{◌>>=◌}
-use Rattle.table_words.specs.Reads.{Refuses}
+use Rattle.gho_values.specs.Faults.{Refuses}
 
 -- the items that were read, and those that are still read
 abbrev pub with_front : {A C : Type 0} → List A → Result (List A × List Token) C → Result (List A × List Token) C
@@ -50,7 +48,7 @@ module _ {A C : Type 0} (item : List Token → Result (A × List Token) C) (ende
       sym so_far ∙ step
 
 -- an item that isn't read, by its fault
-pub fails : {A : Type 0} (item : List Token → Result (A × List Token) SchemaCode) (ended : SchemaCode) (fault : SchemaFault) (front : List A) (most i : ℕ) (words : List Token) (total : Result (List A × List Token) SchemaCode)
+pub item_fails : {A C : Type 0} (item : List Token → Result (A × List Token) C) (ended : C) (fault : Fault C) (front : List A) (most i : ℕ) (words : List Token) (total : Result (List A × List Token) C)
     → i < most → Refuses fault (item words) → with_front front (listed item ended (most - i) words) ≡ total → Refuses fault total
-fails item ended faults.Memory front most i words total lt read so_far = tt
-fails item ended (faults.Refused code) front most i words total lt read so_far = is_refused item ended front most i words total code lt read so_far
+item_fails item ended faults.Memory front most i words total lt read so_far = tt
+item_fails item ended (faults.Refused code) front most i words total lt read so_far = is_refused item ended front most i words total code lt read so_far

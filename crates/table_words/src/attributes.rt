@@ -2,7 +2,7 @@
 
 ghost use Rattle.std.specs.Prelude.{◌≡◌, option_map};
 ghost use Rattle.table_words.specs.Attributes.{not_null_at, default_at, comment_at, character_set_at, collation_at, attribute_at};
-ghost use Rattle.table_words.specs.Reads.{Reads};
+ghost use Rattle.gho_values.specs.Faults.{Answers};
 
 use crate::code::SchemaFault;
 use crate::pieces::{any_word_at, keyword_at, literal_at, text_at};
@@ -63,28 +63,28 @@ impl Attributes {
 }
 
 fn not_null_at(words: &[Token]) -> Result<Option<(Attribute, &[Token])>, SchemaFault>
-    ensures { Reads (option_map (λ read. (read.0, read.1.now))) result (not_null_at words.now) }
+    ensures { Answers (option_map (λ read. (read.0, read.1.now))) result (not_null_at words.now) }
 {
     let rest = keyword_at("NULL", words)?;
     Ok(Some((Attribute::Nullable(false), rest)))
 }
 
 fn default_at(alloc: Global, words: &[Token]) -> Result<Option<(Attribute, &[Token])>, SchemaFault>
-    ensures { Reads (option_map (λ read. (read.0, read.1.now))) result (default_at words.now) }
+    ensures { Answers (option_map (λ read. (read.0, read.1.now))) result (default_at words.now) }
 {
     let (value, rest) = literal_at(alloc, words)?;
     Ok(Some((Attribute::Default(value), rest)))
 }
 
 fn comment_at(alloc: Global, words: &[Token]) -> Result<Option<(Attribute, &[Token])>, SchemaFault>
-    ensures { Reads (option_map (λ read. (read.0, read.1.now))) result (comment_at words.now) }
+    ensures { Answers (option_map (λ read. (read.0, read.1.now))) result (comment_at words.now) }
 {
     let (_, rest) = text_at(alloc, words)?;
     Ok(Some((Attribute::Passed, rest)))
 }
 
 fn character_set_at(words: &[Token]) -> Result<Option<(Attribute, &[Token])>, SchemaFault>
-    ensures { Reads (option_map (λ read. (read.0, read.1.now))) result (character_set_at words.now) }
+    ensures { Answers (option_map (λ read. (read.0, read.1.now))) result (character_set_at words.now) }
 {
     let rest = keyword_at("SET", words)?;
     let rest = any_word_at(rest)?;
@@ -92,7 +92,7 @@ fn character_set_at(words: &[Token]) -> Result<Option<(Attribute, &[Token])>, Sc
 }
 
 fn collation_at(words: &[Token]) -> Result<Option<(Attribute, &[Token])>, SchemaFault>
-    ensures { Reads (option_map (λ read. (read.0, read.1.now))) result (collation_at words.now) }
+    ensures { Answers (option_map (λ read. (read.0, read.1.now))) result (collation_at words.now) }
 {
     let rest = any_word_at(words)?;
     Ok(Some((Attribute::Passed, rest)))
@@ -104,7 +104,7 @@ pub fn attribute_at(
     alloc: Global,
     words: &[Token],
 ) -> Result<Option<(Attribute, &[Token])>, SchemaFault>
-    ensures { Reads (option_map (λ read. (read.0, read.1.now))) result (attribute_at words.now) }
+    ensures { Answers (option_map (λ read. (read.0, read.1.now))) result (attribute_at words.now) }
 {
     match words {
         [] => Ok(None),

@@ -1,10 +1,8 @@
 //! Why a text gives no schema.
 
 ghost use Rattle.std.specs.Prelude.{◌≡◌};
-ghost use Rattle.table_words.specs.declared.code.SchemaFault.TheVariants.{Memory};
 
-use std::alloc::{AllocError, AllocFailed};
-use thiserror::Error;
+use gho_values::Fault;
 
 /// Why a text of CREATE TABLE is refused, each with its number.
 #[derive(Clone, Copy, Debug)]
@@ -67,29 +65,5 @@ impl SchemaCode {
     }
 }
 
-/// Why a text isn't read.
-#[derive(Debug, Drop, Error)]
-pub enum SchemaFault {
-    /// The text is refused.
-    #[error("the text is refused: {0:?}")]
-    Refused(SchemaCode),
-    /// There is no memory for what is read.
-    #[error("out of memory")]
-    Memory,
-}
-
-impl From<AllocError> for SchemaFault {
-    ghost from_gives = { λ _ e. e ≡ Memory };
-
-    fn from(_error: AllocError) -> SchemaFault {
-        SchemaFault::Memory
-    }
-}
-
-impl<T: Drop> From<AllocFailed<T>> for SchemaFault {
-    ghost from_gives = { λ _ e. e ≡ Memory };
-
-    fn from(_error: AllocFailed<T>) -> SchemaFault {
-        SchemaFault::Memory
-    }
-}
+/// Why a text isn't read: it is refused, or there is no memory.
+pub type SchemaFault = Fault<SchemaCode>;

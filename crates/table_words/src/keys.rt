@@ -2,7 +2,7 @@
 
 ghost use Rattle.std.specs.Prelude.{◌≡◌, length};
 ghost use Rattle.table_words.specs.Keys.{is_number, begins_number, prefix_or, key_mismatch, names_at, key_columns_at, key_name_at, key_at};
-ghost use Rattle.table_words.specs.Reads.{Reads};
+ghost use Rattle.gho_values.specs.Faults.{Answers};
 
 use crate::code::{SchemaCode, SchemaFault};
 use crate::pieces::{behind_keyword, behind_sign, name_at, sign_at};
@@ -45,7 +45,7 @@ fn key_mismatch(words: &[Token]) -> SchemaCode
 /// The names at the front, with commas between them, and what stands behind them.
 #[tactic(auto, unfolding(crate::specs::Keys::names_at))]
 pub fn names_at(alloc: Global, words: &[Token]) -> Result<(Names, &[Token]), SchemaFault>
-    ensures { Reads (λ names. (names.0, names.1.now)) result (names_at words.now) }
+    ensures { Answers (λ names. (names.0, names.1.now)) result (names_at words.now) }
 {
     let mut names = Sequence::new(alloc);
     let mut rest = words;
@@ -63,7 +63,7 @@ pub fn names_at(alloc: Global, words: &[Token]) -> Result<(Names, &[Token]), Sch
 /// The names of a key's columns in parentheses at the front, and what stands behind them.
 #[tactic(auto, unfolding(crate::specs::Keys::key_columns_at))]
 pub fn key_columns_at(alloc: Global, words: &[Token]) -> Result<(Names, &[Token]), SchemaFault>
-    ensures { Reads (λ names. (names.0, names.1.now)) result (key_columns_at words.now) }
+    ensures { Answers (λ names. (names.0, names.1.now)) result (key_columns_at words.now) }
 {
     let rest = sign_at("(", words)?;
     let (names, rest) = names_at(alloc, rest)?;
@@ -75,7 +75,7 @@ pub fn key_columns_at(alloc: Global, words: &[Token]) -> Result<(Names, &[Token]
 
 #[tactic(auto, unfolding(crate::specs::Keys::key_name_at))]
 fn key_name_at(alloc: Global, words: &[Token]) -> Result<(Option<Name>, &[Token]), SchemaFault>
-    ensures { Reads (λ name. (name.0, name.1.now)) result (key_name_at words.now) }
+    ensures { Answers (λ name. (name.0, name.1.now)) result (key_name_at words.now) }
 {
     match behind_sign("(", words) {
         Some(_) => Ok((None, words)),
@@ -89,7 +89,7 @@ fn key_name_at(alloc: Global, words: &[Token]) -> Result<(Option<Name>, &[Token]
 /// The name of a key, where one is written, and its columns, and what stands behind them.
 #[tactic(auto, unfolding(crate::specs::Keys::key_at))]
 pub fn key_at(alloc: Global, words: &[Token]) -> Result<(KeyText, &[Token]), SchemaFault>
-    ensures { Reads (λ key. (key.0, key.1.now)) result (key_at words.now) }
+    ensures { Answers (λ key. (key.0, key.1.now)) result (key_at words.now) }
 {
     let (name, rest) = key_name_at(alloc, words)?;
     let (columns, rest) = key_columns_at(alloc, rest)?;

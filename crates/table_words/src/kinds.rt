@@ -3,7 +3,7 @@
 ghost use Rattle.std.specs.Prelude.{◌≡◌, codes};
 ghost use Rattle.table_words.specs.Kinds.{kind_word, width_at, signed_kind, length_of, length_at, kind_behind, kind_at};
 ghost use Rattle.table_words.specs.Pieces.{behind_keyword};
-ghost use Rattle.table_words.specs.Reads.{Reads};
+ghost use Rattle.gho_values.specs.Faults.{Answers};
 
 use crate::code::{SchemaCode, SchemaFault};
 use crate::pieces::{behind_keyword, behind_sign, number_at, sign_at};
@@ -47,7 +47,7 @@ fn kind_word(word: &Token) -> Option<KindWord>
 
 #[tactic(auto, unfolding(crate::specs::Kinds::width_at))]
 fn width_at(words: &[Token]) -> Result<&[Token], SchemaFault>
-    ensures { Reads (λ rest. rest.now) result (width_at words.now) }
+    ensures { Answers (λ rest. rest.now) result (width_at words.now) }
 {
     match behind_sign("(", words) {
         None => Ok(words),
@@ -91,7 +91,7 @@ fn length_of(number: i128) -> Option<u16>
 
 #[tactic(auto, unfolding(crate::specs::Kinds::length_at))]
 fn length_at(words: &[Token]) -> Result<(u16, &[Token]), SchemaFault>
-    ensures { Reads (λ length. (length.0, length.1.now)) result (length_at words.now) }
+    ensures { Answers (λ length. (length.0, length.1.now)) result (length_at words.now) }
 {
     let rest = sign_at("(", words)?;
     let (number, rest) = number_at(rest)?;
@@ -106,7 +106,7 @@ fn length_at(words: &[Token]) -> Result<(u16, &[Token]), SchemaFault>
 
 #[tactic(auto, unfolding(crate::specs::Kinds::kind_behind))]
 fn kind_behind(kind: KindWord, words: &[Token]) -> Result<(Kind, &[Token]), SchemaFault>
-    ensures { Reads (λ kind. (kind.0, kind.1.now)) result (kind_behind kind words.now) }
+    ensures { Answers (λ kind. (kind.0, kind.1.now)) result (kind_behind kind words.now) }
 {
     match kind {
         KindWord::Integer(bytes) => {
@@ -127,7 +127,7 @@ fn kind_behind(kind: KindWord, words: &[Token]) -> Result<(Kind, &[Token]), Sche
 /// The kind at the front, and what stands behind it.
 #[tactic(auto, unfolding(crate::specs::Kinds::kind_at))]
 pub fn kind_at(words: &[Token]) -> Result<(Kind, &[Token]), SchemaFault>
-    ensures { Reads (λ kind. (kind.0, kind.1.now)) result (kind_at words.now) }
+    ensures { Answers (λ kind. (kind.0, kind.1.now)) result (kind_at words.now) }
 {
     match words {
         [] => Err(SchemaFault::Refused(mismatch(words))),

@@ -2,7 +2,7 @@
 
 ghost use Rattle.std.specs.Prelude.{◌≡◌, option_map, IfOk};
 ghost use Rattle.table_words.specs.Pieces.{behind_keyword, behind_sign, keyword_at, sign_at, behind_name, name_at, number_of, number_at, text_of, text_at, literal_of, literal_at, any_word_at};
-ghost use Rattle.table_words.specs.Reads.{Reads};
+ghost use Rattle.gho_values.specs.Faults.{Answers};
 
 use crate::code::SchemaFault;
 use crate::scope::mismatch;
@@ -43,7 +43,7 @@ pub fn behind_sign<'a>(sign: &str, words: &'a [Token]) -> Option<&'a [Token]>
 /// What stands behind this keyword, which has to be the first word.
 #[tactic(auto, unfolding(crate::specs::Pieces::keyword_at))]
 pub fn keyword_at<'a>(keyword: &str, words: &'a [Token]) -> Result<&'a [Token], SchemaFault>
-    ensures { Reads (λ rest. rest.now) result (keyword_at keyword.now words.now) }
+    ensures { Answers (λ rest. rest.now) result (keyword_at keyword.now words.now) }
 {
     match behind_keyword(keyword, words) {
         Some(rest) => Ok(rest),
@@ -54,7 +54,7 @@ pub fn keyword_at<'a>(keyword: &str, words: &'a [Token]) -> Result<&'a [Token], 
 /// What stands behind this sign, which has to be the first word.
 #[tactic(auto, unfolding(crate::specs::Pieces::sign_at))]
 pub fn sign_at<'a>(sign: &str, words: &'a [Token]) -> Result<&'a [Token], SchemaFault>
-    ensures { Reads (λ rest. rest.now) result (sign_at sign.now words.now) }
+    ensures { Answers (λ rest. rest.now) result (sign_at sign.now words.now) }
 {
     match behind_sign(sign, words) {
         Some(rest) => Ok(rest),
@@ -80,7 +80,7 @@ fn behind_name(words: &[Token]) -> Option<(&str, &[Token])>
 /// The name at the front, and what stands behind it.
 #[tactic(auto, unfolding(crate::specs::Pieces::name_at))]
 pub fn name_at(alloc: Global, words: &[Token]) -> Result<(Name, &[Token]), SchemaFault>
-    ensures { Reads (λ name. (name.0, name.1.now)) result (name_at words.now) }
+    ensures { Answers (λ name. (name.0, name.1.now)) result (name_at words.now) }
 {
     match behind_name(words) {
         Some((name, rest)) => Ok((Name::new(alloc, name)?, rest)),
@@ -100,7 +100,7 @@ fn number_of(word: &Token) -> Option<i128>
 /// The number at the front, and what stands behind it.
 #[tactic(auto, unfolding(crate::specs::Pieces::number_at))]
 pub(crate) fn number_at(words: &[Token]) -> Result<(i128, &[Token]), SchemaFault>
-    ensures { Reads (λ number. (number.0, number.1.now)) result (number_at words.now) }
+    ensures { Answers (λ number. (number.0, number.1.now)) result (number_at words.now) }
 {
     match words {
         [] => Err(SchemaFault::Refused(mismatch(words))),
@@ -128,7 +128,7 @@ fn text_of(alloc: Global, word: &Token) -> Result<Option<Chars>, AllocError>
 /// The text at the front, and what stands behind it.
 #[tactic(auto, unfolding(crate::specs::Pieces::text_at))]
 pub fn text_at(alloc: Global, words: &[Token]) -> Result<(Chars, &[Token]), SchemaFault>
-    ensures { Reads (λ text. (text.0, text.1.now)) result (text_at words.now) }
+    ensures { Answers (λ text. (text.0, text.1.now)) result (text_at words.now) }
 {
     match words {
         [] => Err(SchemaFault::Refused(mismatch(words))),
@@ -154,7 +154,7 @@ fn literal_of(alloc: Global, word: &Token) -> Result<Option<Value>, AllocError>
 /// The literal at the front, and what stands behind it.
 #[tactic(auto, unfolding(crate::specs::Pieces::literal_at))]
 pub fn literal_at(alloc: Global, words: &[Token]) -> Result<(Value, &[Token]), SchemaFault>
-    ensures { Reads (λ value. (value.0, value.1.now)) result (literal_at words.now) }
+    ensures { Answers (λ value. (value.0, value.1.now)) result (literal_at words.now) }
 {
     match words {
         [] => Err(SchemaFault::Refused(mismatch(words))),
@@ -170,7 +170,7 @@ pub fn literal_at(alloc: Global, words: &[Token]) -> Result<(Value, &[Token]), S
 /// What stands behind any word but a sign, which has to be the first word.
 #[tactic(auto, unfolding(crate::specs::Pieces::any_word_at))]
 pub fn any_word_at(words: &[Token]) -> Result<&[Token], SchemaFault>
-    ensures { Reads (λ rest. rest.now) result (any_word_at words.now) }
+    ensures { Answers (λ rest. rest.now) result (any_word_at words.now) }
 {
     match words {
         [] => Err(SchemaFault::Refused(mismatch(words))),

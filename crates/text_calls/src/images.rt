@@ -42,7 +42,7 @@ fn told_unfit(alloc: Global, unfit: UnfitAt) -> Result<Text, CallFault> {
 fn told_image(alloc: Global, map: &ColumnMap, row: &Row) -> Result<Text, CallFault> {
     match image(alloc, map.as_slice(), row.as_slice()) {
         Ok(image) => told_row(alloc, &image),
-        Err(ImageFault::Unfit(unfit)) => told_unfit(alloc, unfit),
+        Err(ImageFault::Refused(unfit)) => told_unfit(alloc, unfit),
         Err(ImageFault::Memory) => Err(CallFault::Memory),
     }
 }

@@ -28,7 +28,7 @@ fn told_refusal(alloc: Global, number: u16) -> Result<Text, CallFault> {
 fn told_stored(alloc: Global, answer: Result<Value, StoreFault>) -> Result<Text, CallFault> {
     match answer {
         Ok(value) => told_value(alloc, &value),
-        Err(StoreFault::Unfit(reason)) => told_refusal(alloc, reason.number()),
+        Err(StoreFault::Refused(reason)) => told_refusal(alloc, reason.number()),
         Err(StoreFault::Memory) => Err(CallFault::Memory),
     }
 }

@@ -3,10 +3,11 @@ use Rattle.std.proofs.Common.{◌≡◌, ℕ, ◌+◌, ◌<◌, ◌≤◌, List,
 use Rattle.std.proofs.lemmas.List.{append-nil, drop_all, drop_more}
 use Rattle.gho_values.specs.SchemaRules.Results.{◌>>=◌}
 use Rattle.plan_words.specs.declared.runs.ActorRun.{ActorRun}
-use Rattle.turn_reader.specs.declared.fault.TurnFault.{TurnFault}
-use Rattle.turn_reader.specs.declared.fault.TurnFault.TheVariants as faults
+use Rattle.gho_values.specs.declared.fault.Fault.{Fault}
+use Rattle.gho_values.specs.declared.fault.Fault.TheVariants as faults
 use Rattle.turn_reader.specs.declared.fault.TurnRefusal.{TurnRefusal}
-use Rattle.turn_reader.specs.Refusals.{Refuses, or_refused}
+use Rattle.turn_reader.specs.Refusals.{or_refused}
+use Rattle.gho_values.specs.Faults.{Refuses}
 use Rattle.turn_reader.specs.Turns.{run_among, next_word, runs_from}
 
 -- the turns so far, and those that are still read
@@ -41,7 +42,7 @@ module _ (clients number : ℕ) (front : List ActorRun) (words : List (Bor (List
       let one : with_front front (runs_from clients number (texts (drop i words))) ≡ Err refusal = rw (drop_more words i default lt, e) refl in
       sym so_far ∙ one
 
-  pub fails : (fault : TurnFault) → Refuses fault read → Here → Refuses fault total
+  pub fails : (fault : Fault TurnRefusal) → Refuses fault read → Here → Refuses fault total
   fails faults.Memory e so_far = tt
   fails (faults.Refused refusal) e so_far = refuses refusal e so_far
 

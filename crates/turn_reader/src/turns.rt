@@ -2,7 +2,8 @@
 
 ghost use Rattle.std.specs.Prelude.{◌≡◌, nat_lt, map, IfOk};
 ghost use Rattle.std.specs.List.{sum_by};
-ghost use Rattle.turn_reader.specs.Refusals.{Reads, or_refused};
+ghost use Rattle.turn_reader.specs.Refusals.{or_refused};
+ghost use Rattle.gho_values.specs.Faults.{Answers};
 ghost use Rattle.turn_reader.specs.Turns.{run_with, run_of, times_in, turn_count, run_among, runs_from, turns_of};
 
 use crate::fault::{TurnFault, TurnRefusal};
@@ -77,7 +78,7 @@ fn run_among(clients: u32, word: &[u8]) -> Option<ActorRun>
 
 /// The same, where a refusal has the word's number.
 fn numbered_run(clients: u32, number: u32, word: &[u8]) -> Result<ActorRun, TurnFault>
-    ensures { Reads (λ run. run) result (or_refused number (run_among clients word.now)) }
+    ensures { Answers (λ run. run) result (or_refused number (run_among clients word.now)) }
 {
     match run_among(clients, word) {
         Some(run) => Ok(run),
@@ -86,7 +87,7 @@ fn numbered_run(clients: u32, number: u32, word: &[u8]) -> Result<ActorRun, Turn
 }
 
 fn runs_from(alloc: Global, clients: u32, words: &[&[u8]]) -> Result<ActorRuns, TurnFault>
-    ensures { Reads (λ runs. runs) result (runs_from clients 1 (map (λ word. word.now) words.now)) }
+    ensures { Answers (λ runs. runs) result (runs_from clients 1 (map (λ word. word.now) words.now)) }
 {
     let mut runs = Sequence::new(alloc);
     let mut number: u32 = 1;
@@ -100,7 +101,7 @@ fn runs_from(alloc: Global, clients: u32, words: &[&[u8]]) -> Result<ActorRuns, 
 
 /// Reads an order of turns of the actors of a plan with so many clients.
 pub fn read_turns(alloc: Global, text: &str, clients: u32) -> Result<ActorRuns, TurnFault>
-    ensures { Reads (λ runs. runs) result (turns_of clients text.now) }
+    ensures { Answers (λ runs. runs) result (turns_of clients text.now) }
 {
     let words = spaced_words(alloc, text)?;
     runs_from(alloc, clients, words.as_slice())

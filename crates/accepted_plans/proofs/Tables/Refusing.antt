@@ -2,8 +2,8 @@
 use Rattle.std.proofs.Common.{◌≡◌, ℕ, ◌+◌, ◌==◌, Bool, true, false, cond, List, [], ◌∷◌, length, map, Option, Some, None, Result, Ok, Err, refl}
 use Rattle.std.specs.List.{list_any, position, slice_get}
 use Rattle.gho_values.specs.Storing.{error_number, stores, seeks}
-use Rattle.gho_values.specs.declared.fault.Unfit.{Unfit}
-use Rattle.gho_values.specs.declared.fault.Unfit.TheVariants as unfit
+use Rattle.gho_values.specs.declared.unfit.Unfit.{Unfit}
+use Rattle.gho_values.specs.declared.unfit.Unfit.TheVariants as unfit
 use Rattle.gho_values.specs.declared.value.Value.{Value}
 use Rattle.gho_values.specs.GhoSchema.Clustering.{clustered_place}
 use Rattle.gho_values.specs.GhoSchema.Rows.{key_places}

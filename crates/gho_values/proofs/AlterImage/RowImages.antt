@@ -6,9 +6,10 @@ use Rattle.gho_values.specs.Storing.{stores}
 use Rattle.gho_values.proofs.GhoSchema.Loops.{from_here}
 use Rattle.gho_values.specs.declared.alter_image.map.MapColumn.{MapColumn}
 use Rattle.gho_values.specs.declared.alter_image.image_fault.UnfitAt.{UnfitAt}
-use Rattle.gho_values.specs.declared.alter_image.image_fault.ImageFault.{ImageFault}
-use Rattle.gho_values.specs.declared.alter_image.image_fault.ImageFault.TheVariants as faults
-use Rattle.gho_values.specs.AlterImage.Images.{source, before, image_from, Fits, Images}
+use Rattle.gho_values.specs.declared.fault.Fault.{Fault}
+use Rattle.gho_values.specs.declared.fault.Fault.TheVariants as faults
+use Rattle.gho_values.specs.Faults.{Refuses}
+use Rattle.gho_values.specs.AlterImage.Images.{source, before, image_from, Fits}
 
 -- the values so far, and those that are still made
 abbrev pub with_front : List Value → Result (List Value) UnfitAt → Result (List Value) UnfitAt
@@ -27,12 +28,12 @@ goes_on front map i column new row v total lt is h so_far =
     let one : with_front front (image_from column (drop i map) row) ≡ with_front (front ++ v ∷ []) (image_from (column + 1) (drop (i + 1) map) row) = rw (from_here map i new lt is, h) (regroup front v (image_from (column + 1) (drop (i + 1) map) row)) in
     sym one ∙ so_far
 
-pub fails : (e : ImageFault) (front : List Value) (map : List MapColumn) (i column : ℕ) (new : MapColumn) (row : List Value) (total : Result (List Value) UnfitAt)
+pub fails : (e : Fault UnfitAt) (front : List Value) (map : List MapColumn) (i column : ℕ) (new : MapColumn) (row : List Value) (total : Result (List Value) UnfitAt)
     → i < length map → new ≡ get_or map i new → Fits column (Err e) (stores (source new.origin row) new.kind new.nullable)
-    → with_front front (image_from column (drop i map) row) ≡ total → Images (Err e) total
+    → with_front front (image_from column (drop i map) row) ≡ total → Refuses e total
 unfolding image_from
 fails faults.Memory front map i column new row total lt is h so_far = tt
-fails (faults.Unfit unfit) front map i column new row total lt is h so_far =
+fails (faults.Refused unfit) front map i column new row total lt is h so_far =
     let at : record { column = column; unfit = unfit.unfit } ≡ unfit = ap (λ (k : ℕ). record { column = k; unfit = unfit.unfit }) (sym h.1) in
     let one : with_front front (image_from column (drop i map) row) ≡ Err unfit = rw (from_here map i new lt is, h.0) (ap (λ (u : UnfitAt). Err u) at) in
     sym so_far ∙ one

@@ -2,7 +2,7 @@
 use Rattle.std.proofs.Common.{◌≡◌, Bool, true, false, cond, ◌∷◌, Option, Some, None, Result, Ok, Err, refl, ap}
 use Rattle.gho_values.specs.SchemaRules.Results.{◌>>=◌}
 use Rattle.gho_values.specs.SchemaRules.Reasons.{Reasons, first_reason, unless}
-use Rattle.gho_values.specs.declared.fault.Unfit.{Unfit}
+use Rattle.gho_values.specs.declared.unfit.Unfit.{Unfit}
 use Rattle.gho_values.specs.declared.value.Value.{Value}
 use Rattle.gho_values.specs.SchemaRules.Defaults.{default_or}
 

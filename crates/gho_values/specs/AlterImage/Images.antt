@@ -5,15 +5,15 @@ use Rattle.std.specs.List.{slice_get}
 use Rattle.std.specs.Result.{result_ok}
 use Rattle.gho_values.specs.declared.value.Value.{Value}
 use Rattle.gho_values.specs.declared.value.Value.TheVariants.{Null}
-use Rattle.gho_values.specs.declared.fault.Unfit.{Unfit}
+use Rattle.gho_values.specs.declared.unfit.Unfit.{Unfit}
+use Rattle.gho_values.specs.declared.fault.Fault.{Fault}
+use Rattle.gho_values.specs.declared.fault.Fault.TheVariants as faults
 use Rattle.gho_values.specs.Storing.{stores}
 use Rattle.gho_values.specs.GhoSchema.Options.{◌>>=◌}
 use Rattle.gho_values.specs.declared.alter_image.map.MapColumn.{MapColumn}
 use Rattle.gho_values.specs.declared.alter_image.map.Origin.{Origin}
 use Rattle.gho_values.specs.declared.alter_image.map.Origin.TheVariants.{Old, Added}
 use Rattle.gho_values.specs.declared.alter_image.image_fault.UnfitAt.{UnfitAt}
-use Rattle.gho_values.specs.declared.alter_image.image_fault.ImageFault.{ImageFault}
-use Rattle.gho_values.specs.declared.alter_image.image_fault.ImageFault.TheVariants as faults
 
 -- What a new column gets from a row before it stores it: the old value, or the added default. A row without the old
 -- place has no value there, which is null.
@@ -40,17 +40,11 @@ image_from column (new ∷ others) row = value_first column (stores (source new.
 abbrev pub image : List MapColumn → List Value → Result (List Value) UnfitAt
 image map row = image_from 0 map row
 
--- What the code answers is the image, unless memory ran out.
-abbrev pub Images : Result (List Value) ImageFault → Result (List Value) UnfitAt → Type 0
-Images (Ok row) said = said ≡ Ok row
-Images (Err faults.Memory) said = Unit {0}
-Images (Err (faults.Unfit unfit)) said = said ≡ Err unfit
-
 -- What the code answers for one column is what it stores, unless memory ran out.
-abbrev pub Fits : ℕ → Result Value ImageFault → Result Value Unfit → Type 0
+abbrev pub Fits : ℕ → Result Value (Fault UnfitAt) → Result Value Unfit → Type 0
 Fits column (Ok value) said = said ≡ Ok value
 Fits column (Err faults.Memory) said = Unit {0}
-Fits column (Err (faults.Unfit unfit)) said = (said ≡ Err unfit.unfit) × (unfit.column ≡ column)
+Fits column (Err (faults.Refused unfit)) said = (said ≡ Err unfit.unfit) × (unfit.column ≡ column)
 
 -- the image of every row, where each has one
 unfoldable pub images : List MapColumn → List (List Value) → Option (List (List Value))

@@ -2,7 +2,8 @@
 
 ghost use Rattle.std.specs.Prelude.{◌≡◌};
 ghost use Rattle.gho_values.specs.Storing.{stores};
-ghost use Rattle.gho_values.specs.AlterImage.Images.{source, Fits, Images, image};
+ghost use Rattle.gho_values.specs.AlterImage.Images.{source, Fits, image};
+ghost use Rattle.gho_values.specs.Faults.{Answers};
 
 use crate::alter_image::image_fault::{ImageFault, UnfitAt};
 use crate::alter_image::map::{MapColumn, Origin};
@@ -37,14 +38,14 @@ fn value_of(
         new.nullable,
     ) {
         Ok(value) => Ok(value),
-        Err(StoreFault::Unfit(unfit)) => Err(ImageFault::Unfit(UnfitAt { column, unfit })),
+        Err(StoreFault::Refused(unfit)) => Err(ImageFault::Refused(UnfitAt { column, unfit })),
         Err(StoreFault::Memory) => Err(ImageFault::Memory),
     }
 }
 
 /// What the new columns store of a row, or the first that refuses.
 pub fn image(alloc: Global, map: &[MapColumn], row: &[Value]) -> Result<Row, ImageFault>
-    ensures { Images result (image map.now row.now) }
+    ensures { Answers (λ row. row) result (image map.now row.now) }
 {
     let mut made = Sequence::new(alloc);
     let mut column = 0;

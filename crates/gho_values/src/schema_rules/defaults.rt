@@ -2,7 +2,7 @@
 
 ghost use Rattle.std.specs.Prelude.{◌≡◌, Result, Ok, Err};
 ghost use Rattle.gho_values.specs.SchemaRules.Defaults.{stored_default, value_size, default_size, defaults_fit};
-ghost use Rattle.gho_values.specs.SchemaRules.Storing.{StoredDefault};
+ghost use Rattle.gho_values.specs.Faults.{Answers};
 
 use crate::gho_schema::Column;
 use crate::{Kind, StoreFault, Value, store};
@@ -16,7 +16,7 @@ pub fn stored_default(
     nullable: bool,
     written: &Option<Value>,
 ) -> Result<Option<Value>, StoreFault>
-    ensures { StoredDefault result (stored_default kind nullable written.now) }
+    ensures { Answers (λ default. default) result (stored_default kind nullable written.now) }
 {
     match written {
         Some(value) => match store(alloc, value, kind, nullable) {

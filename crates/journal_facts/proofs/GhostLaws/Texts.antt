@@ -8,7 +8,7 @@ use Rattle.gho_values.specs.GhoSchema.Rows.{key_places}
 use Rattle.script_text.specs.declared.statement.Condition.TheVariants as conditions
 use Rattle.script_text.specs.declared.statement.Set.{Set}
 use Rattle.gho_values.specs.declared.value.Value.{Value}
-use Rattle.gho_values.specs.declared.fault.Unfit.{Unfit}
+use Rattle.gho_values.specs.declared.unfit.Unfit.{Unfit}
 use Rattle.gho_values.specs.Storing.{stores}
 use Rattle.gho_values.specs.declared.gho_schema.schema.Schema.{Schema}
 use Rattle.gho_values.specs.declared.gho_schema.schema.Column.{Column}

@@ -30,15 +30,15 @@ use Rattle.plain_server.specs.StatementLaws.Covering.{IsOrderlyTable}
 abbrev Row : Type 0
 Row = List Value
 
-num_in : (b : Bool) (n : _) (value : Value) → cond b (Ok (Num n)) (Err Rattle.gho_values.specs.declared.fault.Unfit.TheVariants.Range) ≡ Ok value → Num n ≡ value
+num_in : (b : Bool) (n : _) (value : Value) → cond b (Ok (Num n)) (Err Rattle.gho_values.specs.declared.unfit.Unfit.TheVariants.Range) ≡ Ok value → Num n ≡ value
 num_in true n value is = cc
 num_in false n value is = absurd cc
 
-text_in : (b : Bool) (text : List ℕ) (value : Value) → cond b (Ok (Text text)) (Err Rattle.gho_values.specs.declared.fault.Unfit.TheVariants.Length) ≡ Ok value → Text text ≡ value
+text_in : (b : Bool) (text : List ℕ) (value : Value) → cond b (Ok (Text text)) (Err Rattle.gho_values.specs.declared.unfit.Unfit.TheVariants.Length) ≡ Ok value → Text text ≡ value
 text_in true text value is = cc
 text_in false text value is = absurd cc
 
-blob_in : (b : Bool) (blob : List ℕ) (value : Value) → cond b (Ok (Blob blob)) (Err Rattle.gho_values.specs.declared.fault.Unfit.TheVariants.Length) ≡ Ok value → Blob blob ≡ value
+blob_in : (b : Bool) (blob : List ℕ) (value : Value) → cond b (Ok (Blob blob)) (Err Rattle.gho_values.specs.declared.unfit.Unfit.TheVariants.Length) ≡ Ok value → Blob blob ≡ value
 blob_in true blob value is = cc
 blob_in false blob value is = absurd cc
 

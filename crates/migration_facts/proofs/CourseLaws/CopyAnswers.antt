@@ -5,7 +5,7 @@ use Rattle.std.specs.List.{list_any}
 use Rattle.std.specs.Option.{option_map}
 use Rattle.gho_values.specs.Laws.{StoresAgain}
 use Rattle.gho_values.specs.Storing.{stores, error_number}
-use Rattle.gho_values.specs.declared.fault.Unfit.{Unfit}
+use Rattle.gho_values.specs.declared.unfit.Unfit.{Unfit}
 use Rattle.gho_values.specs.declared.value.Value.{Value}
 use Rattle.gho_values.specs.declared.gho_schema.schema.Column.{Column}
 use Rattle.gho_values.specs.declared.gho_schema.schema.Schema.{Schema}

@@ -5,7 +5,7 @@ use Rattle.std.specs.Option.{option_map}
 use Rattle.std.proofs.lemmas.Bool.{true≢false}
 use Rattle.gho_values.specs.Laws.{StoresAgain}
 use Rattle.gho_values.specs.Storing.{error_number}
-use Rattle.gho_values.specs.declared.fault.Unfit.{Unfit as Fault}
+use Rattle.gho_values.specs.declared.unfit.Unfit.{Unfit as Fault}
 use Rattle.gho_values.specs.declared.value.Value.{Value}
 use Rattle.gho_values.proofs.Orders.{tied_keys}
 use Rattle.gho_values.specs.GhoSchema.Rows.{key_of, key_places}

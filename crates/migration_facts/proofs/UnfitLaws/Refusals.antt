@@ -2,7 +2,7 @@
 use Rattle.std.proofs.Common.{◌≡◌, ℕ, Bool, true, false, cond, List, [], ◌∷◌, map, Option, Some, None, Result, Ok, Err, refl, sym, ap, ◌∙◌, subst}
 use Rattle.std.specs.Option.{option_map}
 use Rattle.gho_values.specs.Storing.{error_number}
-use Rattle.gho_values.specs.declared.fault.Unfit.{Unfit as Fault}
+use Rattle.gho_values.specs.declared.unfit.Unfit.{Unfit as Fault}
 use Rattle.gho_values.specs.declared.value.Value.{Value}
 use Rattle.gho_values.specs.declared.gho_schema.schema.Schema.{Schema}
 use Rattle.gho_values.specs.GhoSchema.Rows.{key_of, key_places}

@@ -7,7 +7,7 @@ use Rattle.std.proofs.lemmas.Bool.{ltb-false, not-false, and_parts, or_parts}
 use Rattle.std.proofs.lemmas.List.{length-map}
 use Rattle.std.proofs.lemmas.List.Elements.{filter-append, filter_map-append}
 use Rattle.std.proofs.lemmas.List.Sums.{length-filter}
-use Rattle.gho_values.specs.declared.fault.Unfit.{Unfit}
+use Rattle.gho_values.specs.declared.unfit.Unfit.{Unfit}
 use Rattle.gho_values.specs.declared.kind.Kind.{Kind}
 use Rattle.gho_values.specs.declared.value.Value.{Value}
 use Rattle.gho_values.specs.declared.value.Value.TheVariants.{Null}

@@ -3,7 +3,7 @@ use Rattle.std.proofs.lemmas.Result.{err_from_is_err_and}
 use Rattle.table_words.proofs.Lists.{goes_on, is_last, is_over}
 use Rattle.alter_schema.specs.declared.code.AlterCode.TheVariants.{Syntax}
 use Rattle.alter_text.specs.Clauses.{clause_at, list_at}
-use Rattle.alter_text.proofs.Faults.{item_fails}
+use Rattle.table_words.proofs.Lists.{item_fails}
 use Rattle.alter_text.proofs.clauses.list_at.Goals as goal
 
 pub returns-in_err-clause : goal.returns-in_err-clause

@@ -1,9 +1,9 @@
-use Rattle.std.proofs.Common.{length, sym}
+use Rattle.std.proofs.Common.{length}
 use Rattle.std.proofs.lemmas.Result.{err_from_is_err_and}
 use Rattle.table_words.specs.Attributes.{with_attribute}
 use Rattle.table_words.proofs.Gathering.{one_more, no_more, all_read}
 use Rattle.alter_text.specs.Column.{new_attribute_at, new_attributes_at}
-use Rattle.alter_text.proofs.Faults.{one_fails}
+use Rattle.table_words.proofs.Gathering.{one_fails}
 use Rattle.alter_text.proofs.column.new_attributes_at.Goals as goal
 
 pub returns-in_err-new_attribute_at : goal.returns-in_err-new_attribute_at

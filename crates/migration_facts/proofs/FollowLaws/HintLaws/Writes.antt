@@ -5,8 +5,8 @@ use Rattle.std.specs.Fmt.{signed_decimal}
 use Rattle.std.specs.List.{AllByRecursion, list_any}
 use Rattle.std.specs.Str.{bytes_eq}
 use Rattle.std.proofs.lemmas.Bool.{true≢false}
-use Rattle.gho_values.specs.declared.fault.Unfit.{Unfit}
-use Rattle.gho_values.specs.declared.fault.Unfit.TheVariants as unfit
+use Rattle.gho_values.specs.declared.unfit.Unfit.{Unfit}
+use Rattle.gho_values.specs.declared.unfit.Unfit.TheVariants as unfit
 use Rattle.gho_values.specs.declared.kind.Kind.{Kind}
 use Rattle.gho_values.specs.declared.kind.Kind.TheVariants.{Int, VarChar, VarBinary}
 use Rattle.gho_values.specs.declared.value.Value.{Value}

@@ -4,8 +4,8 @@ use Rattle.std.specs.Prelude.{◌==◌, int_le, nat_le, ◌&&◌}
 use Rattle.std.specs.Fmt.{signed_decimal}
 use Rattle.std.specs.List.{list_any}
 use Rattle.std.specs.Option.{option_map}
-use Rattle.gho_values.specs.declared.fault.Unfit.{Unfit}
-use Rattle.gho_values.specs.declared.fault.Unfit.TheVariants as unfit
+use Rattle.gho_values.specs.declared.unfit.Unfit.{Unfit}
+use Rattle.gho_values.specs.declared.unfit.Unfit.TheVariants as unfit
 use Rattle.gho_values.specs.declared.value.Value.{Value}
 use Rattle.gho_values.specs.declared.value.Value.TheVariants.{Num, Text}
 use Rattle.gho_values.specs.Storing.{character_count, highest, in_range, lowest, stores, text_within}

@@ -1,7 +1,7 @@
 use Rattle.std.proofs.Common.{length, sym}
 use Rattle.std.proofs.lemmas.Result.{err_from_is_err_and}
 use Rattle.table_words.specs.declared.code.SchemaCode.TheVariants.{Syntax}
-use Rattle.table_words.proofs.Lists.{goes_on, is_last, is_over, fails}
+use Rattle.table_words.proofs.Lists.{goes_on, is_last, is_over, item_fails}
 use Rattle.schema_text.specs.Written.{item_at, items_at}
 use Rattle.schema_text.proofs.table.items_at.Goals as goal
 
@@ -9,7 +9,7 @@ pub returns-in_err-item : goal.returns-in_err-item
 unfolding items_at
 returns-in_err-item c =
     let p = err_from_is_err_and c.from_residual.result c.from_residual.ensures.1 in
-    rw (p.1, p.2) (fails item_at Syntax c.in_err-item.field-0.0 c.loop.items (length c.args.words.now) c.loop.counter c.loop.rest.now _ c.loop-test.true c.in_err-item.ensures c.loop.invariant)
+    rw (p.1, p.2) (item_fails item_at Syntax c.in_err-item.field-0.0 c.loop.items (length c.args.words.now) c.loop.counter c.loop.rest.now _ c.loop-test.true c.in_err-item.ensures c.loop.invariant)
 
 pub returns-in-None : goal.returns-in-None
 unfolding items_at

@@ -1,8 +1,8 @@
-use Rattle.std.proofs.Common.{length, sym}
+use Rattle.std.proofs.Common.{length}
 use Rattle.std.proofs.lemmas.Result.{err_from_is_err_and}
 use Rattle.table_words.proofs.Gathering.{one_more, no_more, all_read}
 use Rattle.script_reader.specs.Conditions.{and_equality_at, with_set, more_equalities_at}
-use Rattle.script_reader.proofs.Faults.{one_fails}
+use Rattle.table_words.proofs.Gathering.{one_fails}
 use Rattle.script_reader.proofs.conditions.more_equalities_at.Goals as goal
 
 pub returns-in_err-and_equality_at : goal.returns-in_err-and_equality_at

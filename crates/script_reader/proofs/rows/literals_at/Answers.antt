@@ -4,7 +4,7 @@ use Rattle.table_words.proofs.Lists.{goes_on, is_last, is_over}
 use Rattle.script_reader.specs.declared.code.StatementCode.TheVariants.{Syntax}
 use Rattle.script_reader.specs.Pieces.{literal_at}
 use Rattle.script_reader.specs.Rows.{literals_at}
-use Rattle.script_reader.proofs.Faults.{item_fails}
+use Rattle.table_words.proofs.Lists.{item_fails}
 use Rattle.script_reader.proofs.rows.literals_at.Goals as goal
 
 pub returns-in_err-value : goal.returns-in_err-value

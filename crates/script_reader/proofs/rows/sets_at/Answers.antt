@@ -3,7 +3,7 @@ use Rattle.std.proofs.lemmas.Result.{err_from_is_err_and}
 use Rattle.table_words.proofs.Lists.{goes_on, is_last, is_over}
 use Rattle.script_reader.specs.declared.code.StatementCode.TheVariants.{Syntax}
 use Rattle.script_reader.specs.Rows.{set_at, sets_at}
-use Rattle.script_reader.proofs.Faults.{item_fails}
+use Rattle.table_words.proofs.Lists.{item_fails}
 use Rattle.script_reader.proofs.rows.sets_at.Goals as goal
 
 pub returns-in_err-set : goal.returns-in_err-set

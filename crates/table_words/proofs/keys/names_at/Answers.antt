@@ -3,14 +3,14 @@ use Rattle.std.proofs.lemmas.Result.{err_from_is_err_and}
 use Rattle.table_words.specs.declared.code.SchemaCode.TheVariants.{Syntax}
 use Rattle.table_words.specs.Keys.{names_at}
 use Rattle.table_words.specs.Pieces.{name_at}
-use Rattle.table_words.proofs.Lists.{goes_on, is_last, is_over, fails}
+use Rattle.table_words.proofs.Lists.{goes_on, is_last, is_over, item_fails}
 use Rattle.table_words.proofs.keys.names_at.Goals as goal
 
 pub returns-in_err-name : goal.returns-in_err-name
 unfolding names_at
 returns-in_err-name c =
     let p = err_from_is_err_and c.from_residual.result c.from_residual.ensures.1 in
-    rw (p.1, p.2) (fails name_at Syntax c.in_err-name.field-0.0 c.loop.names (length c.args.words.now) c.loop.counter c.loop.rest.now _ c.loop-test.true c.in_err-name.ensures c.loop.invariant)
+    rw (p.1, p.2) (item_fails name_at Syntax c.in_err-name.field-0.0 c.loop.names (length c.args.words.now) c.loop.counter c.loop.rest.now _ c.loop-test.true c.in_err-name.ensures c.loop.invariant)
 
 pub returns-in-None : goal.returns-in-None
 unfolding names_at
