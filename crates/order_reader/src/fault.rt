@@ -19,16 +19,16 @@ pub enum OrderRefusal {
 }
 
 impl OrderRefusal {
-    ghost use Rattle.order_reader.specs.Refusals.{order_number};
+    ghost use Rattle.order_reader.specs.Refusals.{order_code};
 
-    /// The refusal's number.
-    pub fn number(self) -> u16
-        ensures { result ≡ order_number self }
+    /// The refusal's number and its name.
+    pub fn code(self) -> (u16, &'static str)
+        ensures { (result.0, result.1.now) ≡ order_code self }
     {
         match self {
-            OrderRefusal::Command { .. } => 47,
-            OrderRefusal::Loss => 48,
-            OrderRefusal::LossActor => 56,
+            OrderRefusal::Command { .. } => (47, "operator_word"),
+            OrderRefusal::Loss => (48, "fault_line"),
+            OrderRefusal::LossActor => (56, "unknown_name"),
         }
     }
 }

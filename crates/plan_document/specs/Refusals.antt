@@ -4,16 +4,14 @@ use Rattle.alter_schema.specs.declared.code.AlterCode.{AlterCode}
 use Rattle.alter_schema.specs.Codes.{alter_code}
 use Rattle.order_reader.specs.declared.fault.OrderRefusal.{OrderRefusal}
 use Rattle.order_reader.specs.declared.fault.OrderRefusal.TheVariants as orders
+use Rattle.order_reader.specs.Refusals.{order_code}
 use Rattle.plan_keys.specs.declared.fault.KeyRefusal.{KeyRefusal}
 use Rattle.plan_keys.specs.Refusals.{key_code}
 use Rattle.plan_tables.specs.declared.fault.TableRefusal.{TableRefusal}
 use Rattle.plan_tables.specs.declared.fault.TableRefusal.TheVariants as tables
 use Rattle.plan_tables.specs.Refusals.{table_code}
-use Rattle.script_reader.specs.declared.code.ScriptCode.{ScriptCode}
-use Rattle.script_reader.specs.declared.code.ScriptCode.TheVariants as scripts
 use Rattle.script_reader.specs.declared.code.ScriptRefusal.{ScriptRefusal}
-use Rattle.script_reader.specs.declared.code.StatementCode.{StatementCode}
-use Rattle.script_reader.specs.declared.code.StatementCode.TheVariants as statements
+use Rattle.script_reader.specs.Codes.{script_code}
 use Rattle.turn_reader.specs.declared.fault.TurnRefusal.{TurnRefusal}
 use Rattle.plan_document.specs.declared.fault.Place.{Place}
 use Rattle.plan_document.specs.declared.fault.Place.TheVariants as places
@@ -21,23 +19,6 @@ use Rattle.plan_document.specs.declared.fault.PlanRefusal.{PlanRefusal}
 use Rattle.plan_document.specs.declared.fault.PlanRefusal.TheVariants.{TooLong, NotToml, Keys, Tables, NoTable, Leftover, Alter, Script, Operator, Fault, Turn}
 
 -- ---- numbers and names
-
-abbrev pub statement_code : StatementCode → ℕ × List ℕ
-statement_code statements.Syntax = (41, codes "statement_syntax")
-statement_code statements.Scope = (42, codes "statement_scope")
-
-abbrev pub script_code : ScriptCode → ℕ × List ℕ
-script_code scripts.Word = (40, codes "script_word")
-script_code (scripts.Statement code) = statement_code code
-script_code scripts.BeginInside = (43, codes "begin_inside")
-script_code scripts.EndOutside = (44, codes "end_outside")
-script_code scripts.LeftOpen = (45, codes "left_open")
-script_code scripts.ToolTable = (46, codes "tool_table")
-
-abbrev pub order_code : OrderRefusal → ℕ × List ℕ
-order_code (orders.Command line) = (47, codes "operator_word")
-order_code orders.Loss = (48, codes "fault_line")
-order_code orders.LossActor = (56, codes "unknown_name")
 
 -- a refusal's number and its name
 abbrev pub refusal_code : PlanRefusal → ℕ × List ℕ

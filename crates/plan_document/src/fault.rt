@@ -1,14 +1,14 @@
 //! Why bytes are no plan.
 
 ghost use Rattle.std.specs.Prelude.{◌≡◌};
-ghost use Rattle.plan_document.specs.Refusals.{script_code, order_code, table_place, operator_place};
+ghost use Rattle.plan_document.specs.Refusals.{table_place, operator_place};
 
 use alter_schema::AlterCode;
 use gho_values::Fault;
 use order_reader::OrderRefusal;
 use plan_keys::KeyRefusal;
 use plan_tables::TableRefusal;
-use script_reader::{ScriptCode, ScriptRefusal, StatementCode};
+use script_reader::ScriptRefusal;
 use turn_reader::TurnRefusal;
 
 /// Where in a plan a refusal stands. Everything is counted from 1.
@@ -77,30 +77,6 @@ pub enum PlanRefusal {
     Turn(TurnRefusal),
 }
 
-fn script_code(code: ScriptCode) -> (u16, &'static str)
-    ensures { (result.0, result.1.now) ≡ script_code code }
-{
-    match code {
-        ScriptCode::Word => (40, "script_word"),
-        ScriptCode::Statement(StatementCode::Syntax) => (41, "statement_syntax"),
-        ScriptCode::Statement(StatementCode::Scope) => (42, "statement_scope"),
-        ScriptCode::BeginInside => (43, "begin_inside"),
-        ScriptCode::EndOutside => (44, "end_outside"),
-        ScriptCode::LeftOpen => (45, "left_open"),
-        ScriptCode::ToolTable => (46, "tool_table"),
-    }
-}
-
-fn order_code(refusal: OrderRefusal) -> (u16, &'static str)
-    ensures { (result.0, result.1.now) ≡ order_code refusal }
-{
-    match refusal {
-        OrderRefusal::Command { .. } => (47, "operator_word"),
-        OrderRefusal::Loss => (48, "fault_line"),
-        OrderRefusal::LossActor => (56, "unknown_name"),
-    }
-}
-
 fn table_place(refusal: TableRefusal) -> Place
     ensures { result ≡ table_place refusal }
 {
@@ -135,9 +111,9 @@ impl PlanRefusal {
             PlanRefusal::NoTable => (56, "unknown_name"),
             PlanRefusal::Leftover => (57, "leftover"),
             PlanRefusal::Alter(code) => (code.number(), code.name()),
-            PlanRefusal::Script { refusal, .. } => script_code(refusal.code),
-            PlanRefusal::Operator(refusal) => order_code(refusal),
-            PlanRefusal::Fault { refusal, .. } => order_code(refusal),
+            PlanRefusal::Script { refusal, .. } => refusal.code.code(),
+            PlanRefusal::Operator(refusal) => refusal.code(),
+            PlanRefusal::Fault { refusal, .. } => refusal.code(),
             PlanRefusal::Turn(_) => (56, "unknown_name"),
         }
     }

@@ -13,20 +13,6 @@ pub enum StatementCode {
     Scope,
 }
 
-impl StatementCode {
-    ghost use Rattle.script_reader.specs.Codes.{statement_number};
-
-    /// The refusal's number.
-    pub fn number(self) -> u16
-        ensures { result ≡ statement_number self }
-    {
-        match self {
-            StatementCode::Syntax => 41,
-            StatementCode::Scope => 42,
-        }
-    }
-}
-
 /// Why a line of a script is refused, each with its number.
 #[derive(Clone, Copy, Debug)]
 pub enum ScriptCode {
@@ -45,19 +31,20 @@ pub enum ScriptCode {
 }
 
 impl ScriptCode {
-    ghost use Rattle.script_reader.specs.Codes.{script_number};
+    ghost use Rattle.script_reader.specs.Codes.{script_code};
 
-    /// The refusal's number.
-    pub fn number(self) -> u16
-        ensures { result ≡ script_number self }
+    /// The refusal's number and its name.
+    pub fn code(self) -> (u16, &'static str)
+        ensures { (result.0, result.1.now) ≡ script_code self }
     {
         match self {
-            ScriptCode::Word => 40,
-            ScriptCode::Statement(code) => code.number(),
-            ScriptCode::BeginInside => 43,
-            ScriptCode::EndOutside => 44,
-            ScriptCode::LeftOpen => 45,
-            ScriptCode::ToolTable => 46,
+            ScriptCode::Word => (40, "script_word"),
+            ScriptCode::Statement(StatementCode::Syntax) => (41, "statement_syntax"),
+            ScriptCode::Statement(StatementCode::Scope) => (42, "statement_scope"),
+            ScriptCode::BeginInside => (43, "begin_inside"),
+            ScriptCode::EndOutside => (44, "end_outside"),
+            ScriptCode::LeftOpen => (45, "left_open"),
+            ScriptCode::ToolTable => (46, "tool_table"),
         }
     }
 }
@@ -71,7 +58,7 @@ pub struct ScriptRefusal {
     pub line: u32,
 }
 
-/// Why a line's words aren't read: it is refused, or there is no memory.
+/// Why a line's words aren't read: they are refused, or there is no memory.
 pub type StatementFault = Fault<StatementCode>;
 
 /// Why a line isn't read: it is refused, or there is no memory.

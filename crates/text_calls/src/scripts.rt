@@ -19,7 +19,7 @@ fn told_script(alloc: Global, script: &Script) -> Result<Text, CallFault> {
 fn told_refusal(alloc: Global, refusal: ScriptRefusal) -> Result<Text, CallFault> {
     two_numbers(
         alloc,
-        refusal.code.number() as usize,
+        refusal.code.code().0 as usize,
         " in line ",
         refusal.line,
     )
