@@ -1,6 +1,6 @@
 """The scenes of `scenes.txt` as proofs: their steps as requests to the plain server, whose answers a proof computes.
 
-usage: python3 compare/computed.py           writes crates/worked_runs/proofs/Scenes.antt anew
+usage: python3 compare/computed.py           writes crates/test_worked/proofs/Scenes.antt anew
        python3 compare/computed.py --same    ends with status 1 where the file isn't what would be written
 """
 import os
@@ -12,7 +12,7 @@ sys.path.insert(0, os.path.dirname(os.path.realpath(__file__)))
 
 from scenes import scenes
 
-FILE = f"{os.path.dirname(os.path.realpath(__file__))}/../crates/worked_runs/proofs/Scenes.antt"
+FILE = f"{os.path.dirname(os.path.realpath(__file__))}/../crates/test_worked/proofs/Scenes.antt"
 ACTORS = {"lock": "Lock", "ren": "Ren", "insp": "Insp", "copy": "Copy", "apply": "Apply"}
 # How often a session may poll where nothing is said of its wait, and where it is.
 PATIENT, SHORT = 50, 1
@@ -21,20 +21,20 @@ HEAD = """-- Several sessions beside each other: the scenes of compare/scenes.tx
 -- that the definitions compute. (Written by compare/computed.py.)
 use Rattle.std.proofs.Common.{pos, true, false, List, [], ◌∷◌, Some, None, refl}
 use Rattle.std.specs.Prelude.{codes}
-use Rattle.gho_values.specs.declared.value.Value.TheVariants.{Null, Num}
-use Rattle.gho_values.specs.declared.kind.Kind.TheVariants.{Int}
-use Rattle.gho_values.specs.declared.span.Bound.TheVariants.{Closed}
-use Rattle.gho_values.specs.declared.alter_image.map.Origin.TheVariants as from
-use Rattle.script_text.specs.declared.actor.Actor.TheVariants.{Insp, Copy, Apply, Lock, Ren, Client}
-use Rattle.script_text.specs.declared.statement.Statement.TheVariants as statements
-use Rattle.script_text.specs.declared.statement.Condition.TheVariants as conditions
-use Rattle.script_text.specs.declared.statement.Shown.TheVariants as shown
-use Rattle.row_store.specs.Databases.{Database}
-use Rattle.plain_server.specs.declared.request.Request.TheVariants as requests
-use Rattle.plain_server.specs.declared.answer.Answer.TheVariants as answers
-use Rattle.plain_server.specs.declared.entry.Entry.{Entry}
-use Rattle.plain_server.specs.declared.entry.Asked.TheVariants.{Call, Poll, Cut}
-use Rattle.worked_runs.proofs.Computing.{computing, IsServed}
+use Rattle.base_values.specs.declared.value.Value.TheVariants.{Null, Num}
+use Rattle.base_values.specs.declared.kind.Kind.TheVariants.{Int}
+use Rattle.base_values.specs.declared.span.Bound.TheVariants.{Closed}
+use Rattle.base_values.specs.declared.row_conversion.map.Origin.TheVariants as from
+use Rattle.base_script.specs.declared.actor.Actor.TheVariants.{Insp, Copy, Apply, Lock, Ren, Client}
+use Rattle.base_script.specs.declared.statement.Statement.TheVariants as statements
+use Rattle.base_script.specs.declared.statement.Condition.TheVariants as conditions
+use Rattle.base_script.specs.declared.statement.Shown.TheVariants as shown
+use Rattle.table_store.specs.Databases.{Database}
+use Rattle.server_model.specs.declared.request.Request.TheVariants as requests
+use Rattle.server_model.specs.declared.answer.Answer.TheVariants as answers
+use Rattle.server_model.specs.declared.entry.Entry.{Entry}
+use Rattle.server_model.specs.declared.entry.Asked.TheVariants.{Call, Poll, Cut}
+use Rattle.test_worked.proofs.Computing.{computing, IsServed}
 """
 
 
@@ -250,7 +250,7 @@ def written():
 def need_same():
     with open(FILE, encoding="utf-8") as file:
         if file.read() != written():
-            sys.exit("crates/worked_runs/proofs/Scenes.antt isn't what compare/scenes.txt has: run compare/computed.py")
+            sys.exit("crates/test_worked/proofs/Scenes.antt isn't what compare/scenes.txt has: run compare/computed.py")
 
 
 if __name__ == "__main__":

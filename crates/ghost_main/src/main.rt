@@ -1,12 +1,12 @@
 //! The program `ghost`: its words, standard input and standard output, handed to the top call.
 #![tactic(auto)]
 
-use gho_edges::{OpenGate, StdSink, StdSource};
+use base_edges::{OpenGate, StdSink, StdSource};
 use std::alloc::{AllocError, Global};
 use std::process::ExitCode;
 use std::rt::Env;
 use std::{env, io};
-use whole_host::{Line, ghost_};
+use top_call::{Line, ghost_};
 
 /// The words behind the program's name. Words that aren't UTF-8 are no command, as no words are none.
 fn words<R: Env + AllocGlobal>(rt: &R) -> Result<Line, AllocError> {

@@ -8,11 +8,11 @@ use Rattle.toml.proofs.Views.{Entry, items_view-drop}
 use Rattle.toml.specs.declared.value.Value.{Value}
 use Rattle.toml.specs.Data.{Data, item}
 use Rattle.toml.specs.View.{view, items_view, members_view}
-use Rattle.gho_values.specs.SchemaRules.Results.{◌>>=◌}
+use Rattle.base_values.specs.SchemaRules.Results.{◌>>=◌}
 use Rattle.plan_keys.specs.declared.fault.KeyRefusal.{KeyRefusal}
-use Rattle.gho_values.specs.declared.fault.Fault.{Fault}
-use Rattle.gho_values.specs.declared.fault.Fault.TheVariants as faults
-use Rattle.gho_values.specs.Faults.{Refuses}
+use Rattle.base_values.specs.declared.fault.Fault.{Fault}
+use Rattle.base_values.specs.declared.fault.Fault.TheVariants as faults
+use Rattle.base_values.specs.Faults.{Refuses}
 use Rattle.plan_keys.specs.Walks.{all_keys, all_items, each_item}
 
 pub all_items-view : (test : Data → Bool) (values : List Value) → all_items test (items_view values) ≡ list_all (λ (value : Value). test (view value)) values

@@ -1,7 +1,7 @@
 -- The texts of a plan, and how many of each it has at most. The limits are this project's rule.
 use Rattle.std.specs.Prelude.{ℕ, Bool, ◌||◌, nat_lt, List, length}
 use Rattle.std.specs.List.{sum_by}
-use Rattle.plan_words.specs.declared.plan.TheConstants.{CLIENT_LIMIT}
+use Rattle.plan_data.specs.declared.plan.TheConstants.{CLIENT_LIMIT}
 use Rattle.plan_keys.specs.declared.limits.TheConstants.{TABLE_LIMIT, ROW_LIMIT, FAULT_LIMIT}
 
 -- the texts of a table: how it is created, and its rows

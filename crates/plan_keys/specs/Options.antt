@@ -2,9 +2,9 @@
 use Rattle.std.specs.Prelude.{codes, ℕ, pos, ℤ, ◌||◌, int_lt, nat_abs, if◌then◌else◌, List, Option, Result, Ok, Err}
 use Rattle.std.specs.Option.{option_and_then}
 use Rattle.toml.specs.Data.{Data, Members, get_member}
-use Rattle.gho_values.specs.SchemaRules.Results.{◌>>=◌}
-use Rattle.plan_words.specs.declared.options.Options.{Options}
-use Rattle.plan_words.specs.PlanOptions.{default_options}
+use Rattle.base_values.specs.SchemaRules.Results.{◌>>=◌}
+use Rattle.plan_data.specs.declared.options.Options.{Options}
+use Rattle.plan_data.specs.PlanOptions.{default_options}
 use Rattle.plan_keys.specs.declared.fault.KeyRefusal.{KeyRefusal}
 use Rattle.plan_keys.specs.declared.fault.KeyRefusal.TheVariants.{OutOfRange}
 use Rattle.plan_keys.specs.declared.options.NumberKeys.{NumberKeys}

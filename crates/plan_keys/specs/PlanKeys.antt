@@ -1,8 +1,8 @@
 -- *Keys*: what the keys of a plan's document say, or why they are refused. This project's rule.
 use Rattle.std.specs.Prelude.{codes, ℤ, not, if◌then◌else◌, List, map, Option, Some, None, Result, Ok, Err}
 use Rattle.toml.specs.Data.{Data, Items, Members, get_member, as_array, as_table}
-use Rattle.gho_values.specs.SchemaRules.Results.{◌>>=◌}
-use Rattle.plan_words.specs.declared.options.Options.{Options}
+use Rattle.base_values.specs.SchemaRules.Results.{◌>>=◌}
+use Rattle.plan_data.specs.declared.options.Options.{Options}
 use Rattle.plan_keys.specs.declared.fault.KeyRefusal.{KeyRefusal}
 use Rattle.plan_keys.specs.declared.fault.KeyRefusal.TheVariants.{UnknownKey, MissingKey, WrongType, TooMany}
 use Rattle.plan_keys.specs.declared.options.NumberKeys.{NumberKeys}

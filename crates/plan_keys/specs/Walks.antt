@@ -1,7 +1,7 @@
 -- Going through the items of an array and through the keys of a table.
 use Rattle.std.specs.Prelude.{ℕ, Bool, true, ◌&&◌, List, [], ◌∷◌, Result, Ok}
 use Rattle.toml.specs.Data.{Data, Items, no_items, item, Members, no_members, member}
-use Rattle.gho_values.specs.SchemaRules.Results.{◌>>=◌}
+use Rattle.base_values.specs.SchemaRules.Results.{◌>>=◌}
 
 -- each key of a table passes the test
 abbrev pub all_keys : (List ℕ → Bool) → Members → Bool

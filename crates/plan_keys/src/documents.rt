@@ -4,7 +4,7 @@ ghost use Rattle.std.specs.Prelude.{◌≡◌, map, option_map, option_copied};
 ghost use Rattle.toml.specs.Data.{get_member, as_array};
 ghost use Rattle.toml.specs.View.{view, table_view, items_view};
 ghost use Rattle.plan_keys.specs.Documents.{text_in, needed_text, text_or_empty, texts_in, texts_or_none, table_or_none, needed_number, number_or, truth_or};
-ghost use Rattle.gho_values.specs.Faults.{Answers};
+ghost use Rattle.base_values.specs.Faults.{Answers};
 ghost use Rattle.plan_keys.specs.Walks.{each_item};
 
 use crate::fault::{KeyFault, KeyRefusal, WRONG_TYPE};

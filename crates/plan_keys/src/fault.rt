@@ -2,7 +2,7 @@
 
 ghost use Rattle.std.specs.Prelude.{◌≡◌};
 
-use gho_values::Fault;
+use base_values::Fault;
 
 /// Why a plan's keys are refused, each with its number.
 #[derive(Clone, Copy, Debug)]

@@ -2,9 +2,9 @@
 
 ghost use Rattle.std.specs.Prelude.{◌≡◌, ◌≤◌, length, IfOk};
 ghost use Rattle.toml.specs.View.{table_view};
-ghost use Rattle.plan_words.specs.declared.plan.TheConstants.{CLIENT_LIMIT};
+ghost use Rattle.plan_data.specs.declared.plan.TheConstants.{CLIENT_LIMIT};
 ghost use Rattle.plan_keys.specs.PlanKeys.{typed_of, in_range, few, keys_of, text_data, typed_data, key_data};
-ghost use Rattle.gho_values.specs.Faults.{Answers};
+ghost use Rattle.base_values.specs.Faults.{Answers};
 
 use crate::documents::{member_at, needed_number, table_or_none};
 use crate::fault::{KeyFault, KeyRefusal};
@@ -12,7 +12,7 @@ use crate::known::{has_needed_keys, knows_keys};
 use crate::limits::has_too_many;
 use crate::options::{NumberKeys, TruthKeys, numbers_in, options_within, truths_in, within};
 use crate::texts::{PlanTexts, texts_of};
-use plan_words::Options;
+use plan_data::Options;
 use std::alloc::Global;
 use toml::Table;
 

@@ -2,12 +2,12 @@
 
 ghost use Rattle.std.specs.Prelude.{◌≡◌, ◌≤◌, false, map, nat_lt, length};
 ghost use Rattle.std.specs.List.{sum_by};
-ghost use Rattle.plan_words.specs.declared.plan.TheConstants.{CLIENT_LIMIT};
+ghost use Rattle.plan_data.specs.declared.plan.TheConstants.{CLIENT_LIMIT};
 ghost use Rattle.plan_keys.specs.Limits.{row_count, has_too_many};
 ghost use Rattle.plan_keys.specs.PlanKeys.{table_data, text_data};
 
 use crate::texts::{PlanTexts, TableKeys};
-use plan_words::CLIENT_LIMIT;
+use plan_data::CLIENT_LIMIT;
 
 /// The most tables that a plan has. This project's rule.
 pub const TABLE_LIMIT: usize = 8;

@@ -3,11 +3,11 @@
 ghost use Rattle.std.specs.Prelude.{◌≡◌, ◌<◌, ◌^◌, option_map};
 ghost use Rattle.toml.specs.View.{view, table_view};
 ghost use Rattle.plan_keys.specs.Options.{option_at, numbers_in, truths_in, within, options_within};
-ghost use Rattle.gho_values.specs.Faults.{Answers};
+ghost use Rattle.base_values.specs.Faults.{Answers};
 
 use crate::documents::{member_at, number_or, truth_or};
 use crate::fault::{KeyFault, KeyRefusal};
-use plan_words::Options;
+use plan_data::Options;
 use toml::{Table, Value};
 
 /// The options that are numbers, as they are written. Their meanings are those of `Options`.

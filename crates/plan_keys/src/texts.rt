@@ -4,7 +4,7 @@ ghost use Rattle.std.specs.Prelude.{◌≡◌, map, option_map};
 ghost use Rattle.toml.specs.Data.{as_array, as_table};
 ghost use Rattle.toml.specs.View.{view, table_view, items_view};
 ghost use Rattle.plan_keys.specs.PlanKeys.{table_of, table_in, tables_in, needed_tables, texts_of, table_data, text_data};
-ghost use Rattle.gho_values.specs.Faults.{Answers};
+ghost use Rattle.base_values.specs.Faults.{Answers};
 ghost use Rattle.plan_keys.specs.Walks.{each_item};
 
 use crate::documents::{member_at, needed_text, text_or_empty, texts_or_none};

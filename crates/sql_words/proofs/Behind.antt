@@ -9,42 +9,42 @@ use Rattle.sql_words.specs.declared.word.WordFault.TheVariants as faults
 use Rattle.sql_words.specs.declared.front.Front.{Front}
 use Rattle.sql_words.specs.declared.front.Front.TheVariants.{Gap, Found}
 use Rattle.sql_words.specs.Front.{size_of, front_at}
-use Rattle.sql_words.specs.Reading.{Reading, IsFaultOf, with_word, words_behind, words_of}
+use Rattle.sql_words.specs.Reading.{Reading, IsFaultOf, with_word, words_after, words_of}
 
 -- bytes that are read already are passed over
-pub words_behind-drop : (n place : ℕ) (bytes : List ℕ) → words_behind n place bytes ≡ words_behind 0 (place + n) (drop n bytes)
-unfolding words_behind
-words_behind-drop zero place bytes = ap (λ p. words_behind 0 p bytes) (omega arith)
-words_behind-drop (suc n) place [] = refl
-words_behind-drop (suc n) place (b ∷ rest) = words_behind-drop n (suc place) rest ∙ ap (λ p. words_behind 0 p (drop n rest)) (omega arith)
+pub words_after-drop : (n place : ℕ) (bytes : List ℕ) → words_after n place bytes ≡ words_after 0 (place + n) (drop n bytes)
+unfolding words_after
+words_after-drop zero place bytes = ap (λ p. words_after 0 p bytes) (omega arith)
+words_after-drop (suc n) place [] = refl
+words_after-drop (suc n) place (b ∷ rest) = words_after-drop n (suc place) rest ∙ ap (λ p. words_after 0 p (drop n rest)) (omega arith)
 
 -- one more byte of the front is read
-next : (n place b : ℕ) (rest : List ℕ) → 0 < n → words_behind (n - 1) (suc place) rest ≡ words_behind 0 (place + n) (drop n (b ∷ rest))
+next : (n place b : ℕ) (rest : List ℕ) → 0 < n → words_after (n - 1) (suc place) rest ≡ words_after 0 (place + n) (drop n (b ∷ rest))
 next zero place b rest some = absurd (omega arith)
 next (suc n) place b rest some =
     let one : suc n - 1 ≡ n = omega arith in
-    ap (λ k. words_behind k (suc place) rest) one ∙ words_behind-drop n (suc place) rest ∙ ap (λ p. words_behind 0 p (drop n rest)) (omega arith)
+    ap (λ k. words_after k (suc place) rest) one ∙ words_after-drop n (suc place) rest ∙ ap (λ p. words_after 0 p (drop n rest)) (omega arith)
 
 -- what follows a gap, a word and a fault
-pub words_behind-gap : (place n : ℕ) (bytes : List ℕ) → 0 < length bytes → 0 < n → front_at place bytes ≡ Ok (Gap n) → words_behind 0 place bytes ≡ words_behind 0 (place + n) (drop n bytes)
-unfolding words_behind
-words_behind-gap place n [] any some e = absurd (omega arith)
-words_behind-gap place n (b ∷ rest) any some e = rw e (next n place b rest some)
+pub words_after-gap : (place n : ℕ) (bytes : List ℕ) → 0 < length bytes → 0 < n → front_at place bytes ≡ Ok (Gap n) → words_after 0 place bytes ≡ words_after 0 (place + n) (drop n bytes)
+unfolding words_after
+words_after-gap place n [] any some e = absurd (omega arith)
+words_after-gap place n (b ∷ rest) any some e = rw e (next n place b rest some)
 
-pub words_behind-found : (place n : ℕ) (class : WordClass) (bytes : List ℕ) → 0 < length bytes → 0 < n → front_at place bytes ≡ Ok (Found class n)
-    → words_behind 0 place bytes ≡ with_word (record { class = class; text = take n bytes; place = place }) (words_behind 0 (place + n) (drop n bytes))
-unfolding words_behind
-words_behind-found place n class [] any some e = absurd (omega arith)
-words_behind-found place n class (b ∷ rest) any some e = rw e (ap (with_word (record { class = class; text = take n (b ∷ rest); place = place })) (next n place b rest some))
+pub words_after-found : (place n : ℕ) (class : WordClass) (bytes : List ℕ) → 0 < length bytes → 0 < n → front_at place bytes ≡ Ok (Found class n)
+    → words_after 0 place bytes ≡ with_word (record { class = class; text = take n bytes; place = place }) (words_after 0 (place + n) (drop n bytes))
+unfolding words_after
+words_after-found place n class [] any some e = absurd (omega arith)
+words_after-found place n class (b ∷ rest) any some e = rw e (ap (with_word (record { class = class; text = take n (b ∷ rest); place = place })) (next n place b rest some))
 
-pub words_behind-fault : (place : ℕ) (fault : WordFault) (bytes : List ℕ) → 0 < length bytes → front_at place bytes ≡ Err fault → words_behind 0 place bytes ≡ Err fault
-unfolding words_behind
-words_behind-fault place fault [] any e = absurd (omega arith)
-words_behind-fault place fault (b ∷ rest) any e = rw e refl
+pub words_after-fault : (place : ℕ) (fault : WordFault) (bytes : List ℕ) → 0 < length bytes → front_at place bytes ≡ Err fault → words_after 0 place bytes ≡ Err fault
+unfolding words_after
+words_after-fault place fault [] any e = absurd (omega arith)
+words_after-fault place fault (b ∷ rest) any e = rw e refl
 
-pub words_behind-end : (place : ℕ) → words_behind 0 place [] ≡ Ok []
-unfolding words_behind
-words_behind-end place = refl
+pub words_after-end : (place : ℕ) → words_after 0 place [] ≡ Ok []
+unfolding words_after
+words_after-end place = refl
 
 -- the words that are found already, and those that are still to come
 abbrev pub with_front : List Reading → Result (List Reading) WordFault → Result (List Reading) WordFault
@@ -63,7 +63,7 @@ length-drop-cuts rest n cuts = omega (arith, cuts.some, cuts.boundary.0, length-
 pub record Along (text : List ℕ) (found : List Reading) (rest : List ℕ) : Type 0 where
   pub utf8 : IsUtf8 rest
   pub within : length rest ≤ length text
-  pub so_far : with_front found (words_behind 0 (length text - length rest) rest) ≡ words_of text
+  pub so_far : with_front found (words_after 0 (length text - length rest) rest) ≡ words_of text
 
 module _ (text : List ℕ) (found : List Reading) (rest : List ℕ) (along : Along text found rest) where
   place_after : (n : ℕ) → n ≤ length rest → (length text - length rest) + n ≡ length text - length (drop n rest)
@@ -74,31 +74,31 @@ module _ (text : List ℕ) (found : List Reading) (rest : List ℕ) (along : Alo
 
   pub Along-gap : (n : ℕ) → Cuts rest n → front_at (length text - length rest) rest ≡ Ok (Gap n) → Along text found (drop n rest)
   Along-gap n cuts e =
-      let one = words_behind-gap (length text - length rest) n rest (omega (arith, cuts.some, cuts.boundary.0)) cuts.some e in
+      let one = words_after-gap (length text - length rest) n rest (omega (arith, cuts.some, cuts.boundary.0)) cuts.some e in
       record {
         utf8 = IsUtf8-drop rest n along.utf8 cuts.boundary;
         within = within_after n;
-        so_far = ap (λ p. with_front found (words_behind 0 p (drop n rest))) (sym (place_after n cuts.boundary.0)) ∙ ap (with_front found) (sym one) ∙ along.so_far;
+        so_far = ap (λ p. with_front found (words_after 0 p (drop n rest))) (sym (place_after n cuts.boundary.0)) ∙ ap (with_front found) (sym one) ∙ along.so_far;
       }
 
   pub Along-found : (n : ℕ) (class : WordClass) → Cuts rest n → front_at (length text - length rest) rest ≡ Ok (Found class n)
       → Along text (found ++ record { class = class; text = take n rest; place = length text - length rest } ∷ []) (drop n rest)
   Along-found n class cuts e =
       let w : Reading = record { class = class; text = take n rest; place = length text - length rest } in
-      let one = words_behind-found (length text - length rest) n class rest (omega (arith, cuts.some, cuts.boundary.0)) cuts.some e in
+      let one = words_after-found (length text - length rest) n class rest (omega (arith, cuts.some, cuts.boundary.0)) cuts.some e in
       record {
         utf8 = IsUtf8-drop rest n along.utf8 cuts.boundary;
         within = within_after n;
-        so_far = ap (λ p. with_front (found ++ w ∷ []) (words_behind 0 p (drop n rest))) (sym (place_after n cuts.boundary.0)) ∙ sym (with_front-word found w _) ∙ ap (with_front found) (sym one) ∙ along.so_far;
+        so_far = ap (λ p. with_front (found ++ w ∷ []) (words_after 0 p (drop n rest))) (sym (place_after n cuts.boundary.0)) ∙ sym (with_front-word found w _) ∙ ap (with_front found) (sym one) ∙ along.so_far;
       }
 
   pub Along-fault : (fault : WordFault) → 0 < length rest → front_at (length text - length rest) rest ≡ Err fault → words_of text ≡ Err fault
-  Along-fault fault any e = sym along.so_far ∙ ap (with_front found) (words_behind-fault (length text - length rest) fault rest any e)
+  Along-fault fault any e = sym along.so_far ∙ ap (with_front found) (words_after-fault (length text - length rest) fault rest any e)
 
   pub Along-end : length rest ≡ 0 → words_of text ≡ Ok found
   Along-end none =
       let empty = nil_from_length rest none in
-      sym along.so_far ∙ ap (λ r. with_front found (words_behind 0 (length text - length rest) r)) empty ∙ ap (with_front found) (words_behind-end (length text - length rest)) ∙ ap (λ ws. Ok ws) (append-nil found)
+      sym along.so_far ∙ ap (λ r. with_front found (words_after 0 (length text - length rest) r)) empty ∙ ap (with_front found) (words_after-end (length text - length rest)) ∙ ap (λ ws. Ok ws) (append-nil found)
 
 -- What a step of the loop has in hand: the front of the rest, what it takes, and what follows it.
 pub record Stepped (total : ℕ) (rest : List ℕ) (front : Front) (piece after : List ℕ) : Type 0 where

@@ -36,8 +36,8 @@ module _ {E : Type 0} (bytes : List ℕ) (r : Result ℤ E) (parsed : ParsesSign
   below_zero : get_or bytes 0 0 ≡ 45 → AreDigits (drop 1 bytes) → r ≡ Ok (neg_ℤ (pos (digits_value 10 (drop 1 bytes))))
   below_zero e are = Ok-from_Ok_iff r _ _ (parse_signed_minus own w128 bytes r parsed e) (are.all, are.some, omega (arith, small (drop 1 bytes) are))
 
-  behind_plus : get_or bytes 0 0 ≡ 43 → AreDigits (drop 1 bytes) → r ≡ Ok (pos (digits_value 10 (drop 1 bytes)))
-  behind_plus e are = Ok-from_Ok_iff r _ _ (parse_signed_plus own w128 bytes r parsed e) (are.all, are.some, small (drop 1 bytes) are)
+  after_plus : get_or bytes 0 0 ≡ 43 → AreDigits (drop 1 bytes) → r ≡ Ok (pos (digits_value 10 (drop 1 bytes)))
+  after_plus e are = Ok-from_Ok_iff r _ _ (parse_signed_plus own w128 bytes r parsed e) (are.all, are.some, small (drop 1 bytes) are)
 
   plain : (get_or bytes 0 0 ≡ 43 → ⊥) → (get_or bytes 0 0 ≡ 45 → ⊥) → AreDigits bytes → r ≡ Ok (pos (digits_value 10 bytes))
   plain p m are = Ok-from_Ok_iff r _ _ (parse_signed_plain own w128 bytes r parsed p m) (are.all, are.some, small bytes are)
@@ -45,7 +45,7 @@ module _ {E : Type 0} (bytes : List ℕ) (r : Result ℤ E) (parsed : ParsesSign
   by_sign : (plus minus : Bool) → nat_eq (get_or bytes 0 0) 43 ≡ plus → nat_eq (get_or bytes 0 0) 45 ≡ minus → AreDigits (drop (cond (plus || minus) 1 0) bytes)
       → r ≡ Ok (cond minus (neg_ℤ (pos (digits_value 10 (drop (cond (plus || minus) 1 0) bytes)))) (pos (digits_value 10 (drop (cond (plus || minus) 1 0) bytes))))
   by_sign true true p m are = absurd (omega (arith, eqb-true _ _ p, eqb-true _ _ m))
-  by_sign true false p m are = behind_plus (eqb-true _ _ p) are
+  by_sign true false p m are = after_plus (eqb-true _ _ p) are
   by_sign false true p m are = below_zero (eqb-true _ _ m) are
   by_sign false false p m are = plain (eqb-false _ _ p) (eqb-false _ _ m) are
 

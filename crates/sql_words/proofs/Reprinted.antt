@@ -13,23 +13,23 @@ use Rattle.sql_words.specs.declared.front.Front.TheVariants.{Found}
 use Rattle.sql_words.specs.Characters.{begins_with}
 use Rattle.sql_words.specs.Quoted.{length_of, and_then, escaped, text_inside, bytes_inside}
 use Rattle.sql_words.specs.Front.{quoted, bytes_or_name, name_length, front_at}
-use Rattle.sql_words.specs.Reading.{with_word, words_behind, words_of}
+use Rattle.sql_words.specs.Reading.{with_word, words_after, words_of}
 use Rattle.sql_words.specs.Meaning.{text_value, bytes_value}
 use Rattle.sql_words.specs.Printed.{spelled, printed_text, hex_pair, printed_bytes}
 use Rattle.sql_words.proofs.Inside.{text_inside-step, is_pair, bytes_inside-pair, bytes_inside-end}
-use Rattle.sql_words.proofs.Behind.{words_behind-found, words_behind-end}
+use Rattle.sql_words.proofs.Behind.{words_after-found, words_after-end}
 
 -- a word that stands at the front of what follows it
-pub words_behind-append : (kind : WordClass) (place : ℕ) (word rest : List ℕ) → 0 < length word → front_at place (word ++ rest) ≡ Ok (Found kind (length word))
-    → words_behind 0 place (word ++ rest) ≡ with_word (record { class = kind; text = word; place = place }) (words_behind 0 (place + length word) rest)
-words_behind-append kind place word rest some e =
-    words_behind-found place (length word) kind (word ++ rest) (omega (arith, length-append word rest)) some e ∙ rw (take_at word rest (length word) refl, drop_at word rest (length word) refl) refl
+pub words_after-append : (kind : WordClass) (place : ℕ) (word rest : List ℕ) → 0 < length word → front_at place (word ++ rest) ≡ Ok (Found kind (length word))
+    → words_after 0 place (word ++ rest) ≡ with_word (record { class = kind; text = word; place = place }) (words_after 0 (place + length word) rest)
+words_after-append kind place word rest some e =
+    words_after-found place (length word) kind (word ++ rest) (omega (arith, length-append word rest)) some e ∙ rw (take_at word rest (length word) refl, drop_at word rest (length word) refl) refl
 
 -- the one word of a text
 pub words_of-one : (kind : WordClass) (word : List ℕ) → 0 < length word → front_at 0 word ≡ Ok (Found kind (length word)) → words_of word ≡ Ok (record { class = kind; text = word; place = 0 } ∷ [])
 words_of-one kind word some e =
     let whole : word ++ [] ≡ word = append-nil word in
-    ap words_of (sym whole) ∙ words_behind-append kind 0 word [] some (ap (front_at 0) whole ∙ e) ∙ ap (with_word (record { class = kind; text = word; place = 0 })) (words_behind-end (0 + length word))
+    ap words_of (sym whole) ∙ words_after-append kind 0 word [] some (ap (front_at 0) whole ∙ e) ∙ ap (with_word (record { class = kind; text = word; place = 0 })) (words_after-end (0 + length word))
 
 -- ---- texts
 

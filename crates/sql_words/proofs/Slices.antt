@@ -7,7 +7,7 @@ use Rattle.sql_words.specs.declared.word.WordFault.{WordFault}
 use Rattle.sql_words.specs.declared.front.Front.{Front}
 use Rattle.sql_words.specs.declared.front.Front.TheVariants.{Gap, Found}
 use Rattle.sql_words.specs.Front.{front_at}
-use Rattle.sql_words.specs.Reading.{Reading, StandIn, with_word, read_on, words_behind, words_of}
+use Rattle.sql_words.specs.Reading.{Reading, StandIn, with_word, read_on, words_after, words_of}
 
 -- the words that are read, if any, stand in the text from here on
 abbrev Reads : List ℕ → ℕ → Result (List Reading) WordFault → Type 0
@@ -48,14 +48,14 @@ drop_next place b rest text e =
     let one : place + 1 ≡ suc place = omega arith in
     ap (drop 1) e ∙ drop-drop 1 place text ∙ ap (λ k. drop k text) one
 
-behind_reads : (text : List ℕ) (n place : ℕ) (rest : List ℕ) → rest ≡ drop place text → Reads text (place + n) (words_behind n place rest)
-unfolding words_behind
-behind_reads text n place [] here = tt
-behind_reads text (suc n) place (b ∷ rest) here = subst (λ p. Reads text p (words_behind n (suc place) rest)) (omega arith) (behind_reads text n (suc place) rest (drop_next place b rest text here))
-behind_reads text zero place (b ∷ rest) here =
+after_reads : (text : List ℕ) (n place : ℕ) (rest : List ℕ) → rest ≡ drop place text → Reads text (place + n) (words_after n place rest)
+unfolding words_after
+after_reads text n place [] here = tt
+after_reads text (suc n) place (b ∷ rest) here = subst (λ p. Reads text p (words_after n (suc place) rest)) (omega arith) (after_reads text n (suc place) rest (drop_next place b rest text here))
+after_reads text zero place (b ∷ rest) here =
     let none : place ≡ place + 0 = omega arith in
     let next = drop_next place b rest text here in
-    subst (λ p. Reads text p (words_behind 0 place (b ∷ rest))) none (Reads-on text place (b ∷ rest) (front_at place (b ∷ rest)) (λ n. words_behind (n - 1) (suc place) rest) here (λ n. Reads-le text (place + n) (suc place + (n - 1)) (words_behind (n - 1) (suc place) rest) (omega arith) (behind_reads text (n - 1) (suc place) rest next)))
+    subst (λ p. Reads text p (words_after 0 place (b ∷ rest))) none (Reads-on text place (b ∷ rest) (front_at place (b ∷ rest)) (λ n. words_after (n - 1) (suc place) rest) here (λ n. Reads-le text (place + n) (suc place + (n - 1)) (words_after (n - 1) (suc place) rest) (omega arith) (after_reads text (n - 1) (suc place) rest next)))
 
 pub words_stand : (text : List ℕ) (ws : List Reading) → words_of text ≡ Ok ws → StandIn text 0 ws
-words_stand text ws e = subst (Reads text 0) e (behind_reads text 0 0 text refl)
+words_stand text ws e = subst (Reads text 0) e (after_reads text 0 0 text refl)

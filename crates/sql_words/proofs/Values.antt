@@ -141,13 +141,13 @@ run_boundary quote rest ascii =
     (prefix_len-le-length (is_plain quote) rest, λ lt. (IsCharBoundary-before_ascii rest n lt (special_ascii quote (get_or rest n 0) ascii (prefix_len_stops (is_plain quote) rest 0 lt))).1 lt)
 
 -- Behind a run of plain bytes: what is gathered, and what follows the run.
-pub record BehindRun (quote : ℕ) (text value after : List ℕ) : Type 0 where
+pub record AfterRun (quote : ℕ) (text value after : List ℕ) : Type 0 where
   pub utf8 : IsUtf8 after
   pub so_far : in_front value (value_of (text_inside quote after)) ≡ value_of (text_inside quote text)
   pub special : 0 < length after → is_plain quote (get_or after 0 0) ≡ false
 
-pub BehindRun-run : (quote : ℕ) (text value rest : List ℕ) → quote < 128 → Unquoting quote text value rest → BehindRun quote text (value ++ take (prefix_len (is_plain quote) rest) rest) (drop (prefix_len (is_plain quote) rest) rest)
-BehindRun-run quote text value rest ascii so =
+pub AfterRun-run : (quote : ℕ) (text value rest : List ℕ) → quote < 128 → Unquoting quote text value rest → AfterRun quote text (value ++ take (prefix_len (is_plain quote) rest) rest) (drop (prefix_len (is_plain quote) rest) rest)
+AfterRun-run quote text value rest ascii so =
     let n = prefix_len (is_plain quote) rest in
     record {
       utf8 = IsUtf8-drop rest n so.utf8 (run_boundary quote rest ascii);
@@ -176,15 +176,15 @@ wide_at i len b true false p q e = inr (ltb-false b 128 q)
 wide_at i len b false y p q e = inl (ltb-false i len p)
 
 -- the same of what a step of the loop has in hand
-pub BehindRun-of : (quote n : ℕ) (text value rest plain after more : List ℕ) → quote < 128 → Unquoting quote text value rest → n ≡ prefix_len (is_plain quote) rest → plain ≡ take n rest → after ≡ drop n rest → more ≡ value ++ plain → BehindRun quote text more after
-BehindRun-of quote n text value rest plain after more ascii so n-is plain-is after-is more-is =
+pub AfterRun-of : (quote n : ℕ) (text value rest plain after more : List ℕ) → quote < 128 → Unquoting quote text value rest → n ≡ prefix_len (is_plain quote) rest → plain ≡ take n rest → after ≡ drop n rest → more ≡ value ++ plain → AfterRun quote text more after
+AfterRun-of quote n text value rest plain after more ascii so n-is plain-is after-is more-is =
     let m = prefix_len (is_plain quote) rest in
     let one : after ≡ drop m rest = after-is ∙ ap (λ k. drop k rest) n-is in
     let two : more ≡ value ++ take m rest = more-is ∙ ap (λ t. value ++ t) (plain-is ∙ ap (λ k. take k rest) n-is) in
-    subst (λ a. BehindRun quote text more a) (sym one) (subst (λ v. BehindRun quote text v (drop m rest)) (sym two) (BehindRun-run quote text value rest ascii so))
+    subst (λ a. AfterRun quote text more a) (sym one) (subst (λ v. AfterRun quote text v (drop m rest)) (sym two) (AfterRun-run quote text value rest ascii so))
 
-pub BehindRun-end : (quote : ℕ) (text value after : List ℕ) → BehindRun quote text value after → length after ≡ 0 → None ≡ value_of (text_inside quote text)
-BehindRun-end quote text value after so none = Unquoting-end quote text value after (record { utf8 = so.utf8; so_far = so.so_far }) none
+pub AfterRun-end : (quote : ℕ) (text value after : List ℕ) → AfterRun quote text value after → length after ≡ 0 → None ≡ value_of (text_inside quote text)
+AfterRun-end quote text value after so none = Unquoting-end quote text value after (record { utf8 = so.utf8; so_far = so.so_far }) none
 
 -- what an ASCII byte is followed by is text
 behind_ascii : (bytes : List ℕ) (i : ℕ) → IsUtf8 bytes → i < length bytes → get_or bytes i 0 < 128 → IsUtf8 (drop (i + 1) bytes)
@@ -203,29 +203,29 @@ bare quote b (c ∷ rest) ascii s t wide =
     value-escaped quote b (c ∷ rest) s t ∙ ap (λ v. in_front v (value_inside quote rest)) (escaped-wide c high) ∙ sym (value-plain quote c rest (not_equal c quote ascii high) (not_equal c 92 (omega arith) high))
 
 module _ (quote : ℕ) (text value : List ℕ) (ascii : quote < 128) where
-  pub BehindRun-closed : (after : List ℕ) → BehindRun quote text value after → 0 < length after → get_or after 0 0 ≡ quote → begins_with quote (drop 1 after) ≡ false → Some value ≡ value_of (text_inside quote text)
-  BehindRun-closed [] so some same single = absurd (omega arith)
-  BehindRun-closed (b ∷ rest) so some same single = ap (λ v. Some v) (sym (append-nil value)) ∙ ap (in_front value) (sym (value-closed quote b rest (eq-eqb b quote same) single)) ∙ so.so_far
+  pub AfterRun-closed : (after : List ℕ) → AfterRun quote text value after → 0 < length after → get_or after 0 0 ≡ quote → begins_with quote (drop 1 after) ≡ false → Some value ≡ value_of (text_inside quote text)
+  AfterRun-closed [] so some same single = absurd (omega arith)
+  AfterRun-closed (b ∷ rest) so some same single = ap (λ v. Some v) (sym (append-nil value)) ∙ ap (in_front value) (sym (value-closed quote b rest (eq-eqb b quote same) single)) ∙ so.so_far
 
-  pub BehindRun-doubled : (after : List ℕ) → BehindRun quote text value after → 0 < length after → get_or after 0 0 ≡ quote → begins_with quote (drop 1 after) ≡ true → Unquoting quote text (value ++ quote ∷ []) (drop 2 after)
-  BehindRun-doubled [] so some same both = absurd (omega arith)
-  BehindRun-doubled (b ∷ []) so some same both = absurd cc
-  BehindRun-doubled (b ∷ c ∷ rest) so some same both = record {
+  pub AfterRun-doubled : (after : List ℕ) → AfterRun quote text value after → 0 < length after → get_or after 0 0 ≡ quote → begins_with quote (drop 1 after) ≡ true → Unquoting quote text (value ++ quote ∷ []) (drop 2 after)
+  AfterRun-doubled [] so some same both = absurd (omega arith)
+  AfterRun-doubled (b ∷ []) so some same both = absurd cc
+  AfterRun-doubled (b ∷ c ∷ rest) so some same both = record {
     utf8 = behind_ascii (b ∷ c ∷ rest) 1 so.utf8 (omega arith) (omega (arith, eqb-true c quote both));
     so_far = sym (in_front-in_front value (quote ∷ []) (value_inside quote rest)) ∙ ap (in_front value) (sym (value-doubled quote b (c ∷ rest) (eq-eqb b quote same) both)) ∙ so.so_far;
   }
 
-  pub BehindRun-escaped : (after : List ℕ) → BehindRun quote text value after → 1 < length after → (get_or after 0 0 ≡ quote → ⊥) → get_or after 1 0 < 128 → Unquoting quote text (value ++ escaped (get_or after 1 0)) (drop 2 after)
-  BehindRun-escaped [] so some other low = absurd (omega arith)
-  BehindRun-escaped (b ∷ []) so some other low = absurd (omega arith)
-  BehindRun-escaped (b ∷ c ∷ rest) so some other low = record {
+  pub AfterRun-escaped : (after : List ℕ) → AfterRun quote text value after → 1 < length after → (get_or after 0 0 ≡ quote → ⊥) → get_or after 1 0 < 128 → Unquoting quote text (value ++ escaped (get_or after 1 0)) (drop 2 after)
+  AfterRun-escaped [] so some other low = absurd (omega arith)
+  AfterRun-escaped (b ∷ []) so some other low = absurd (omega arith)
+  AfterRun-escaped (b ∷ c ∷ rest) so some other low = record {
     utf8 = behind_ascii (b ∷ c ∷ rest) 1 so.utf8 (omega arith) low;
     so_far = sym (in_front-in_front value (escaped c) (value_inside quote rest)) ∙ ap (in_front value) (sym (value-escaped quote b (c ∷ rest) (ne_eqb b quote other) (eq-eqb b 92 (special_is quote b (so.special (omega arith)) other)))) ∙ so.so_far;
   }
 
-  pub BehindRun-bare : (after : List ℕ) → BehindRun quote text value after → 0 < length after → (get_or after 0 0 ≡ quote → ⊥) → ((length after ≤ 1) ⊎ (128 ≤ get_or after 1 0)) → Unquoting quote text value (drop 1 after)
-  BehindRun-bare [] so some other wide = absurd (omega arith)
-  BehindRun-bare (b ∷ rest) so some other wide =
+  pub AfterRun-bare : (after : List ℕ) → AfterRun quote text value after → 0 < length after → (get_or after 0 0 ≡ quote → ⊥) → ((length after ≤ 1) ⊎ (128 ≤ get_or after 1 0)) → Unquoting quote text value (drop 1 after)
+  AfterRun-bare [] so some other wide = absurd (omega arith)
+  AfterRun-bare (b ∷ rest) so some other wide =
       let slash : b ≡ 92 = special_is quote b (so.special some) other in
       let after_slash : (length rest ≡ 0) ⊎ (128 ≤ get_or rest 0 0) = ⊎_elim (λ le. inl (omega arith)) (λ w. inr w) wide in
       record {

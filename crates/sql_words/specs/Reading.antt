@@ -33,14 +33,14 @@ read_on place bytes (Ok (Gap n)) others = others n
 read_on place bytes (Ok (Found class n)) others = with_word (record { class = class; text = take n bytes; place = place }) (others n)
 
 -- The words of a rest of the text that begins at a place, behind the bytes of it that are read already
-unfoldable pub words_behind : (read place : ℕ) → List ℕ → Result (List Reading) WordFault
-words_behind read place [] = Ok []
-words_behind (suc read) place (b ∷ rest) = words_behind read (suc place) rest
-words_behind zero place (b ∷ rest) = read_on place (b ∷ rest) (front_at place (b ∷ rest)) (λ n. words_behind (n - 1) (suc place) rest)
+unfoldable pub words_after : (read place : ℕ) → List ℕ → Result (List Reading) WordFault
+words_after read place [] = Ok []
+words_after (suc read) place (b ∷ rest) = words_after read (suc place) rest
+words_after zero place (b ∷ rest) = read_on place (b ∷ rest) (front_at place (b ∷ rest)) (λ n. words_after (n - 1) (suc place) rest)
 
 -- the words of a text, or its first fault
 abbrev pub words_of : List ℕ → Result (List Reading) WordFault
-words_of bytes = words_behind 0 0 bytes
+words_of bytes = words_after 0 0 bytes
 
 -- the fault is the one that was met in reading, or out of memory
 abbrev pub IsFaultOf : Result (List Reading) WordFault → WordFault → Type 0

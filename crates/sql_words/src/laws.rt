@@ -9,13 +9,13 @@ ghost use Rattle.sql_words.specs.declared.word.WordClass.TheVariants.{Text, Byte
 ghost use Rattle.sql_words.specs.declared.front.Front.TheVariants.{Found};
 ghost use Rattle.sql_words.specs.Characters.{begins_with};
 ghost use Rattle.sql_words.specs.Front.{front_at};
-ghost use Rattle.sql_words.specs.Reading.{with_word, words_behind, words_of};
+ghost use Rattle.sql_words.specs.Reading.{with_word, words_after, words_of};
 ghost use Rattle.sql_words.specs.Meaning.{text_value, bytes_value, number_value, AreDigits};
 ghost use Rattle.sql_words.specs.Printed.{printed_text, printed_bytes};
 
 /// What stands at the front is the first word, and the others are those of what follows it.
 pub fn words_follow_one_another()
-    ensures { (class : WordClass) (place : ℕ) (word rest : List ℕ) → 0 < length word → front_at place (word ++ rest) ≡ Ok (Found class (length word)) → words_behind 0 place (word ++ rest) ≡ with_word (record { class = class; text = word; place = place }) (words_behind 0 (place + length word) rest) }
+    ensures { (class : WordClass) (place : ℕ) (word rest : List ℕ) → 0 < length word → front_at place (word ++ rest) ≡ Ok (Found class (length word)) → words_after 0 place (word ++ rest) ≡ with_word (record { class = class; text = word; place = place }) (words_after 0 (place + length word) rest) }
 {}
 
 /// A text between quotes with its escapes is one word, which stands for that text.
@@ -37,6 +37,6 @@ pub fn numbers_are_read()
     ensures front { (place : ℕ) (bytes rest : List ℕ) (number : ℤ) → number_value bytes ≡ Some number → is_ascii_digit (slice_index rest 0) ≡ false → front_at place (bytes ++ rest) ≡ Ok (Found Number (length bytes)) }
     ensures word { (bytes : List ℕ) (number : ℤ) → number_value bytes ≡ Some number → words_of bytes ≡ Ok (record { class = Number; text = bytes; place = 0 } ∷ []) }
     ensures unsigned { (digits : List ℕ) → AreDigits digits → number_value digits ≡ Some (pos (digits_value 10 digits)) }
-    ensures behind_plus { (digits : List ℕ) → AreDigits digits → number_value (43 ∷ digits) ≡ Some (pos (digits_value 10 digits)) }
-    ensures behind_minus { (digits : List ℕ) → AreDigits digits → number_value (45 ∷ digits) ≡ Some (neg_ℤ (pos (digits_value 10 digits))) }
+    ensures after_plus { (digits : List ℕ) → AreDigits digits → number_value (43 ∷ digits) ≡ Some (pos (digits_value 10 digits)) }
+    ensures after_minus { (digits : List ℕ) → AreDigits digits → number_value (45 ∷ digits) ≡ Some (neg_ℤ (pos (digits_value 10 digits))) }
 {}

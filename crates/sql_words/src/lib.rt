@@ -6,11 +6,11 @@ mod front;
 mod laws;
 mod meaning;
 mod quoted;
-mod reading;
+mod reader;
 mod word;
 
 pub use laws::{
     numbers_are_read, printed_bytes_are_read, printed_texts_are_read, words_follow_one_another,
 };
-pub use reading::words;
+pub use reader::words;
 pub use word::{Word, WordClass, WordFault, Words};

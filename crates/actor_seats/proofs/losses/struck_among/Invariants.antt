@@ -1,7 +1,0 @@
-use Rattle.std.proofs.Common.{◌≡◌, drop}
-use Rattle.migration_program.specs.JournalWords.Keeping.{struck_among}
-use Rattle.actor_seats.proofs.losses.struck_among.Given as goal
-
--- none of the losses so far strikes
-abbrev pub invariant-loop-loss : goal.invariant-loop-loss
-invariant-loop-loss l = struck_among l.actor l.number (drop l.loss-index l.losses) ≡ struck_among l.actor l.number l.losses

@@ -1,2 +1,0 @@
--- How far a client is in its script, and what it asks next.
-pub mod Seats

@@ -1,4 +1,0 @@
-mod Happenings
-mod Imaged
-mod Lawful
-mod Serial

@@ -1,8 +1,0 @@
-use Rattle.std.proofs.Common.{◌≡◌, ◌++◌, drop}
-use Rattle.row_store.specs.Databases.{with_change}
-use Rattle.plain_server.specs.Jobs.{change_table}
-use Rattle.alone_model.proofs.changing.after_event.Given as goal
-
--- the other tables follow
-abbrev pub invariant-loop-table : goal.invariant-loop-table
-invariant-loop-table l = l.after ++ with_change l.event.table (change_table l.event.change) (drop l.table-index l.tables) ≡ with_change l.event.table (change_table l.event.change) l.tables

@@ -1,7 +1,0 @@
-use Rattle.std.proofs.Common.{◌≡◌, drop}
-use Rattle.plain_server.specs.Jobs.{after_events}
-use Rattle.alone_model.proofs.changing.after_events.Given as goal
-
--- the events that are left lead from the tables so far to those behind all
-abbrev pub invariant-loop-event : goal.invariant-loop-event
-invariant-loop-event l = after_events l.after (drop l.event-index l.events) ≡ after_events l.tables l.events

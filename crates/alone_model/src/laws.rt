@@ -1,8 +1,0 @@
-//! The law: its function's contract is it.
-
-ghost use Rattle.alone_model.specs.Laws.{SerialIsAlone};
-
-/// A history is serial exactly where the model gives its replies and its tables.
-pub fn serial_is_alone()
-    ensures { SerialIsAlone }
-{}

@@ -1,7 +1,0 @@
-use Rattle.std.proofs.Common.{◌≡◌, drop}
-use Rattle.gho_values.specs.GhoSchema.Tables.{clash}
-use Rattle.alone_statements.proofs.keys.clash.Given as goal
-
--- the keys that are left decide
-abbrev pub invariant-loop-index : goal.invariant-loop-index
-invariant-loop-index l = clash (drop l.index-index l.uniques) l.row l.other ≡ clash l.uniques l.row l.other

@@ -1,7 +1,0 @@
-use Rattle.std.proofs.Common.{◌≡◌, map, take}
-use Rattle.event_codec.specs.declared.event.Change.TheVariants.{Delete}
-use Rattle.alone_statements.proofs.telling.deletes.Given as goal
-
--- the removals so far
-abbrev pub invariant-loop-row : goal.invariant-loop-row
-invariant-loop-row l = l.all ≡ map Delete (take l.row-index l.rows)

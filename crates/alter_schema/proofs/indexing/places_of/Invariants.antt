@@ -1,8 +1,0 @@
-use Rattle.std.proofs.Common.{◌≡◌, take}
-use Rattle.std.specs.List.{filter_map}
-use Rattle.alter_schema.specs.Columns.{column_place}
-use Rattle.alter_schema.proofs.indexing.places_of.Given as goal
-
--- the places so far
-abbrev pub invariant-loop-name : goal.invariant-loop-name
-invariant-loop-name l = l.places ≡ filter_map (column_place l.columns) (take l.name-index l.names)

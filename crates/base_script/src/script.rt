@@ -1,0 +1,55 @@
+//! Scripts of clients.
+
+use crate::statement::Statement;
+use base_values::{Duplicate, Sequence};
+use std::alloc::AllocError;
+
+/// What a line of a script asks for.
+pub enum ScriptWord {
+    /// BEGIN or START TRANSACTION.
+    Begin,
+    /// COMMIT.
+    Commit,
+    /// ROLLBACK.
+    Rollback,
+    /// A statement.
+    Do(Statement),
+}
+
+impl Drop for ScriptWord {
+    fn drop(self) {
+        match self {
+            ScriptWord::Begin | ScriptWord::Commit | ScriptWord::Rollback => {}
+            ScriptWord::Do(statement) => drop(statement),
+        }
+    }
+}
+
+impl Duplicate for ScriptWord {
+    fn copy(&self) -> Result<ScriptWord, AllocError> {
+        Ok(match self {
+            ScriptWord::Begin => ScriptWord::Begin,
+            ScriptWord::Commit => ScriptWord::Commit,
+            ScriptWord::Rollback => ScriptWord::Rollback,
+            ScriptWord::Do(statement) => ScriptWord::Do(statement.copy()?),
+        })
+    }
+}
+
+/// A line of a script.
+pub struct ScriptLine {
+    /// Its number in the script's text, counted from 1.
+    pub line: u32,
+    /// What it asks for.
+    pub word: ScriptWord,
+}
+
+impl Drop for ScriptLine {
+    fn drop(self) {
+        let ScriptLine { word, line: _ } = self;
+        drop(word);
+    }
+}
+
+/// The lines of a client's script, in order.
+pub type Script = Sequence<ScriptLine>;

@@ -1,0 +1,38 @@
+-- Values and keys that the order ties are one.
+use Rattle.std.proofs.Common.{◌≡◌, List, [], ◌∷◌, refl, ap}
+use Rattle.std.specs.declared.cmp.Ordering.{Ordering}
+use Rattle.std.specs.declared.cmp.Ordering.TheVariants.{Less, Equal, Greater}
+use Rattle.std.specs.Cmp.{IsTotalOrder}
+use Rattle.std.specs.Ordering.{ordering_then}
+use Rattle.std.proofs.lemmas.Cmp.{lists_total}
+use Rattle.std.proofs.lemmas.Map.Lookups.{exact_signed, exact_bytes}
+use Rattle.base_values.specs.declared.value.Value.{Value}
+use Rattle.base_values.specs.declared.value.Value.TheVariants.{Null, Num, Text, Blob}
+use Rattle.base_values.specs.Comparing.{compare_values, compare_keys}
+use Rattle.base_values.specs.ValueOrder.{values_total}
+
+pub tied_values : (a b : Value) → compare_values a b ≡ Equal → a ≡ b
+unfolding compare_values
+tied_values Null Null e = refl
+tied_values (Num m) (Num n) e = ap Num (exact_signed m n e)
+tied_values (Text s) (Text t) e = ap Text (exact_bytes s t e)
+tied_values (Blob s) (Blob t) e = ap Blob (exact_bytes s t e)
+tied_values a b e = absurd cc
+
+pub both_Equal : (o p : Ordering) → ordering_then o p ≡ Equal → (o ≡ Equal) × (p ≡ Equal)
+both_Equal Less p e = absurd cc
+both_Equal Equal p e = (refl, e)
+both_Equal Greater p e = absurd cc
+
+pub tied_keys : (a b : List Value) → compare_keys a b ≡ Equal → a ≡ b
+tied_keys [] [] e = refl
+tied_keys [] (y ∷ b) e = absurd cc
+tied_keys (x ∷ a) [] e = absurd cc
+tied_keys (x ∷ a) (y ∷ b) e =
+    let both = both_Equal (compare_values x y) (compare_keys a b) e in
+    let first : x ≡ y = tied_values x y both.0 in
+    let rest : a ≡ b = tied_keys a b both.1 in
+    cc
+
+pub keys_total : IsTotalOrder compare_keys
+keys_total = lists_total values_total

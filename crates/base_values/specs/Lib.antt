@@ -1,0 +1,11 @@
+pub mod Comparing
+pub mod Faults
+pub mod Laws
+pub mod Printing
+pub mod Spans
+pub mod Storing
+pub mod ValueOrder
+pub mod GhoSchema
+pub mod RowConversion
+pub mod SchemaRules
+pub mod ToolNames

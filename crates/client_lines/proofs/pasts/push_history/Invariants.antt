@@ -1,8 +1,0 @@
-use Rattle.std.proofs.Common.{◌≡◌, ◌++◌, drop, map}
-use Rattle.client_lines.specs.Walks.{history_from, new_walk, nobody_renames}
-use Rattle.client_lines.proofs.pasts.push_history.Given as goal
-
--- what stands with the history of the turns that are left is all
-abbrev pub invariant-loop-entry : goal.invariant-loop-entry
-invariant-loop-entry l =
-    l.into ++ history_from l.plan.table l.walks.items l.renaming (drop l.entry-index l.journal) ≡ l.fn.into ++ history_from l.plan.table (map new_walk l.plan.clients) nobody_renames l.journal

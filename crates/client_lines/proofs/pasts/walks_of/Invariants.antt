@@ -1,7 +1,0 @@
-use Rattle.std.proofs.Common.{◌≡◌, map, take}
-use Rattle.client_lines.specs.Walks.{new_walk}
-use Rattle.client_lines.proofs.pasts.walks_of.Given as goal
-
--- the walks so far
-abbrev pub invariant-loop-script : goal.invariant-loop-script
-invariant-loop-script l = l.walks.items ≡ map new_walk (take l.script-index l.scripts)

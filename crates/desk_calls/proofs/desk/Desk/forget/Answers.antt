@@ -1,5 +1,0 @@
-use Rattle.desk_calls.proofs.Ready.{ready_forgets}
-use Rattle.desk_calls.proofs.desk.Desk.forget.Goals as goal
-
-pub invariant_of-self : goal.invariant_of-self
-invariant_of-self c = rw c.rest.ensures.sessions (ready_forgets c.self.inside.limits c.args.session c.self.inside.sessions.items c.self.inside.log.spare c.self.invariant)

@@ -1,7 +1,0 @@
-use Rattle.std.proofs.Common.{not}
-use Rattle.std.specs.Prelude.{◌==◌}
-use Rattle.desk_calls.proofs.Ready.{ready_less}
-use Rattle.desk_calls.proofs.desk.Desk.lose.Goals as goal
-
-pub invariant_of-self : goal.invariant_of-self
-invariant_of-self c = rw c.disconnect.ensures (ready_less c.self.inside.limits (λ session. not (session.number == c.args.session)) c.self.inside.sessions.items c.self.inside.log.spare c.self.invariant)

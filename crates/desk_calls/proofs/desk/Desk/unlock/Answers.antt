@@ -1,7 +1,0 @@
-use Rattle.std.proofs.Common.{refl}
-use Rattle.plain_server.specs.Serving.{unlocking}
-use Rattle.desk_calls.proofs.Ready.{ready_same}
-use Rattle.desk_calls.proofs.desk.Desk.unlock.Goals as goal
-
-pub invariant_of-self : goal.invariant_of-self
-invariant_of-self c = rw c.unlock_tables.ensures (ready_same c.self.inside.limits c.args.session unlocking c.self.inside.sessions.items c.self.inside.log.spare (λ s. refl) (λ s. refl) (λ s. refl) c.self.invariant)

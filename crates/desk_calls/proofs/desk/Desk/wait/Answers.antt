@@ -1,5 +1,0 @@
-use Rattle.desk_calls.proofs.Ready.{ready_waits}
-use Rattle.desk_calls.proofs.desk.Desk.wait.Goals as goal
-
-pub invariant_of-self-2 : goal.invariant_of-self-2
-invariant_of-self-2 c = rw c.count_polls.ensures (ready_waits c.self.inside.limits c.args.session c.self.inside.sessions.items c.self.inside.log.spare c.self.invariant)

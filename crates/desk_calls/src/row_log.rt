@@ -1,7 +1,0 @@
-//! The log: the events of the committed transactions, in the order of the commits.
-
-mod counting;
-mod log;
-mod reading;
-
-pub use log::Log;

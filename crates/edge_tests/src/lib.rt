@@ -1,8 +1,0 @@
-//! Tests of the edges and of the turn desk, of what no program shows: sources and sinks that fail, memory that is short, and
-//! threads.
-#![tactic(auto)]
-
-#[cfg(test)]
-mod desk;
-#[cfg(test)]
-mod edges;

@@ -1,0 +1,12 @@
+//! The events of the log: what a committed transaction wrote, row by row, and how each is encoded in bytes.
+#![tactic(auto)]
+
+mod encoding;
+mod fault;
+pub mod laws;
+mod reader;
+pub mod txn_costs;
+
+pub use encoding::{cost, encode};
+pub use fault::DecodeFault;
+pub use reader::decode;

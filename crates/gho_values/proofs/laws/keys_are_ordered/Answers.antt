@@ -1,5 +1,0 @@
-use Rattle.gho_values.proofs.Orders.{keys_total, tied_keys}
-use Rattle.gho_values.proofs.laws.keys_are_ordered.Goals as goal
-
-pub returns : goal.returns
-returns c = (keys_total, tied_keys)

@@ -1,7 +1,0 @@
-use Rattle.gho_values.proofs.StoredValues.{keeps}
-use Rattle.std.proofs.Common.{refl}
-use Rattle.gho_values.specs.declared.value.Value.TheVariants.{Null}
-use Rattle.gho_values.proofs.laws.nulls_are_stored_where_nullable.Goals as goal
-
-pub returns : goal.returns
-returns c = λ value kind nullable e. (keeps value kind nullable Null e).null refl

@@ -1,6 +1,0 @@
-use Rattle.gho_values.proofs.Orders.{tied_values}
-use Rattle.gho_values.specs.ValueOrder.{values_total}
-use Rattle.gho_values.proofs.laws.values_are_ordered.Goals as goal
-
-pub returns : goal.returns
-returns c = (values_total, tied_values)

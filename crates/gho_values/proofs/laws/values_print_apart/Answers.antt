@@ -1,5 +1,0 @@
-use Rattle.gho_values.proofs.PrintedValues.{printed_apart}
-use Rattle.gho_values.proofs.laws.values_print_apart.Goals as goal
-
-pub returns : goal.returns
-returns c = printed_apart

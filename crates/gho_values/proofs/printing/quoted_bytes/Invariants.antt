@@ -1,9 +1,0 @@
-use Rattle.std.proofs.Common.{◌≡◌, ◌++◌, take}
-use Rattle.std.specs.Prelude.{codes}
-use Rattle.std.specs.List.{flat_map}
-use Rattle.gho_values.specs.Printing.{hexadecimal}
-use Rattle.gho_values.proofs.printing.quoted_bytes.Given as goal
-
--- the bytes so far are written
-abbrev pub invariant-loop-byte : goal.invariant-loop-byte
-invariant-loop-byte l = l.quoted ≡ codes "x'" ++ flat_map hexadecimal (take l.byte-index l.bytes)

@@ -1,7 +1,0 @@
--- What a table of this program may have: how long names are and which are one, what defaults are stored, and *lawful schemas*.
-pub mod Defaults
-pub mod Lawful
-pub mod Limits
-pub mod Names
-pub mod Reasons
-pub mod Results

@@ -1,5 +1,0 @@
-use Rattle.accepted_plans.proofs.AcceptedLaws.Stated.{plans_accepted}
-use Rattle.journal_laws.proofs.accepted_runs.accepted_laws.plan_laws.read_plans_are_accepted.Goals as goal
-
-pub returns : goal.returns
-returns c = plans_accepted

@@ -1,5 +1,0 @@
-use Rattle.journal_facts.proofs.GhostLaws.GhostRows.Steps.{ghost_is_the_altered}
-use Rattle.journal_laws.proofs.history_laws.ghost_laws.ghost_rows.ghosts_are_altered.Goals as goal
-
-pub returns : goal.returns
-returns c = ghost_is_the_altered

@@ -1,5 +1,0 @@
-use Rattle.journal_facts.proofs.MachineLaws.Calling.{given_calls}
-use Rattle.journal_laws.proofs.history_laws.machine_laws.laws.given_calls_come_well.Goals as goal
-
-pub returns : goal.returns
-returns c = given_calls

@@ -1,5 +1,0 @@
-use Rattle.migration_facts.proofs.AttemptLaws.VerdictLaws.Standing.{all_panics}
-use Rattle.journal_laws.proofs.revert_laws.attempt_laws.verdict_laws.panics_stand.Goals as goal
-
-pub returns : goal.returns
-returns c = record { stands = all_panics }

@@ -1,7 +1,0 @@
-use Rattle.std.proofs.Common.{◌≡◌, map, take}
-use Rattle.migration_program.specs.JournalWords.Clients.{new_client}
-use Rattle.journal_pasts.proofs.walking.clients_of.Given as goal
-
--- the clients so far
-abbrev pub invariant-loop-script : goal.invariant-loop-script
-invariant-loop-script l = l.clients.items ≡ map new_client (take l.script-index l.scripts)

@@ -1,6 +1,0 @@
-use Rattle.std.proofs.Common.{[], ap, sym}
-use Rattle.metadata_locks.specs.Granting.{before}
-use Rattle.metadata_locks.proofs.waiting.ahead_of.Goals as goal
-
-pub returns-in-Some : goal.returns-in-Some
-returns-in-Some c = ap (λ place. before place c.args.waiting.now) (sym (c.in-Some.ensures.place.place (record { session = 0; names = [] })))

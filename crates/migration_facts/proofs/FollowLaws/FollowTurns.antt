@@ -1,9 +1,0 @@
--- Each turn of a journal that follows the program is one of the migration's, so that the ghost relation goes on to the mark.
-pub mod Effects
-pub mod Reverting
-pub mod Seats
-pub mod Sizes
-pub mod Asked
-pub mod Others
-pub mod Goes
-pub mod Follows

@@ -1,9 +1,0 @@
-//! What comes before the copy, and the operator: the setup's steps, and what the operator's commands have done.
-
-mod altering;
-mod operator;
-mod setup;
-
-pub use altering::{new_map, new_table};
-pub use operator::Operator;
-pub use setup::{Setup, SetupTook};

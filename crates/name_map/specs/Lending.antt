@@ -1,9 +1,0 @@
--- What a map becomes, once a value that it lent is given back.
-use Rattle.std.specs.Prelude.{ℕ}
-use Rattle.std.specs.Borrow.{Fml, Lends, MutBor, RattleType}
-use Rattle.name_map.specs.NameMaps.{NamedValues, with_value}
-use Rattle.name_map.specs.contracts.map.NameMap.{the_row}
-
--- the value at the place is the last one that was written
-abbrev pub lends_value : (T : RattleType) → MutBor (NamedValues T.Denot) → ℕ → MutBor T.Denot → Fml
-lends_value T named place lent = Lends (the_row T) T named lent (with_value named.now place)

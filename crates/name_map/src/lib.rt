@@ -1,6 +1,0 @@
-//! Values by name, in order of adding: an ordered map of the kit, whose values contracts see as a list.
-#![tactic(auto)]
-
-mod map;
-
-pub use map::NameMap;

@@ -1,4 +1,0 @@
-//! What a report prints of the order of turns is read as that order: each function's contract is a law.
-#![tactic(auto)]
-
-pub mod laws;

@@ -1,9 +1,0 @@
-//! What a server answers of its committed tables, as they stand: ends of keys, chunks of a copy, the list of tables.
-#![tactic(auto)]
-
-mod answering;
-mod chunk;
-mod listing;
-
-pub use answering::{all_stand, end_of_chunk, ends, keys_of_span, refuses};
-pub use listing::tables_shown;

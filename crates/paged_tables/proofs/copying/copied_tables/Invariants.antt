@@ -1,8 +1,0 @@
-use Rattle.std.proofs.Common.{◌≡◌, take}
-use Rattle.row_store.specs.Databases.{database}
-use Rattle.paged_tables.specs.PagedDatabases.{stored, AreNamed}
-use Rattle.paged_tables.proofs.copying.copied_tables.Given as goal
-
--- the tables so far are copied, each under its name
-abbrev pub invariant-loop-place : goal.invariant-loop-place
-invariant-loop-place l = (database (stored l.copy.values) ≡ database (stored (take l.place l.tables.values))) × AreNamed l.copy

@@ -1,6 +1,0 @@
-use Rattle.std.proofs.Common.{◌∙◌}
-use Rattle.paged_tables.proofs.Paged.{stands_is}
-use Rattle.paged_tables.proofs.finding.has_name.Goals as goal
-
-pub returns : goal.returns
-returns c = c.is_some.ensures ∙ stands_is c.args.name.now c.named.result c.args.tables.now.values c.named.ensures

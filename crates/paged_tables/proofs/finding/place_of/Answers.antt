@@ -1,7 +1,0 @@
-use Rattle.std.proofs.Common.{◌∙◌, ap}
-use Rattle.name_map.specs.NameMaps.{names_before}
-use Rattle.paged_tables.proofs.Paged.{before_named}
-use Rattle.paged_tables.proofs.finding.place_of.Goals as goal
-
-pub returns : goal.returns
-returns c = c.place_of.ensures ∙ ap (λ name. names_before name c.args.tables.now.names) c.as_str.ensures ∙ ap (names_before c.args.name.now) c.requires.0 ∙ before_named c.args.name.now c.args.tables.now.values

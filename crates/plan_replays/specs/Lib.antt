@@ -1,2 +1,0 @@
-pub mod FinalServer
-pub mod WholeReplay

@@ -1,6 +1,0 @@
-//! The final server over committed tables in pages, and open transactions over them.
-
-mod opening;
-pub mod server_store;
-
-pub use opening::{FinalServer, open_server};

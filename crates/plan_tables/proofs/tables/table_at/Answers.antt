@@ -1,9 +1,0 @@
-use Rattle.row_store.specs.Databases.{database}
-use Rattle.plan_tables.proofs.Sound.{new_keyed, still_new}
-use Rattle.plan_tables.proofs.tables.table_at.Goals as goal
-
-pub read_rows-requires-clause-keyed : goal.read_rows-requires-clause-keyed
-read_rows-requires-clause-keyed c = new_keyed c.args.number (database c.args.tables.now) c.in_ok-schema.schema c.in_ok-table.table.table c.in_ok-schema.ensures.lawful c.in_ok-table.ensures.table
-
-pub returns-clause-new : goal.returns-clause-new
-returns-clause-new c = still_new c.read_rows.result c.in_ok-table.table.table.schema (database c.args.tables.now) c.read_rows.ensures.schema c.in_ok-table.ensures.new

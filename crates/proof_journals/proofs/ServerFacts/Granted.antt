@@ -1,0 +1,104 @@
+-- A session with what it was granted: what it wrote goes with the tables.
+use Rattle.std.proofs.Common.{◌≡◌, ℕ, true, List, [], ◌∷◌, ◌++◌, Option, Some, None, refl, sym, ap, ◌∙◌, subst}
+use Rattle.std.specs.Prelude.{is_some}
+use Rattle.std.proofs.lemmas.Bool.{true≢false}
+use Rattle.std.proofs.lemmas.List.{append-nil}
+use Rattle.std.specs.List.{list_any}
+use Rattle.std.specs.Str.{bytes_eq}
+use Rattle.base_values.specs.declared.value.Value.{Value}
+use Rattle.base_values.specs.declared.row_conversion.map.MapColumn.{MapColumn}
+use Rattle.base_values.specs.declared.event.Change.{Change}
+use Rattle.base_values.specs.declared.event.RowEvent.{RowEvent}
+use Rattle.server_locks.specs.declared.row_locks.lock.Lock.{Lock}
+use Rattle.table_store.specs.Databases.{TableRows, Database, find_table, with_change}
+use Rattle.base_script.specs.declared.statement.Statement.{Statement}
+use Rattle.server_model.specs.declared.need.Need.{Need}
+use Rattle.server_model.specs.Jobs.{Job, table_of, job_of, says, job_says, job_needs, row_needs, result_in, events_of, after_events, change_table, copy_job}
+use Rattle.server_model.specs.Saying.{tells}
+use Rattle.server_model.specs.StatementLaws.Agreeing.{Within}
+use Rattle.server_model.specs.StatementLaws.Databases.{IsWellFormedDatabase, TaskSound}
+use Rattle.server_model.proofs.StatementLaws.Points.{within-left, within-right, within-itself}
+use Rattle.server_model.proofs.StatementLaws.Finding.{agree_within, found_after, says_covered}
+use Rattle.server_model.proofs.StatementLaws.Stables.{covered_both, covered_more, covered_before, statement_sound}
+use Rattle.proof_journals.specs.Holdings.{Face}
+use Rattle.proof_journals.proofs.Words.{names_left, names_last, quiet_covered}
+use Rattle.proof_journals.proofs.Tooling.{copies_sound, names_two}
+use Rattle.proof_journals.specs.GhostLaws.Fitting.{EventsFit}
+use Rattle.proof_journals.proofs.GhostLaws.Fitting.{fitting_end, fitting_task, well_formed_events}
+use Rattle.proof_journals.proofs.ServerLaws.Others.{some_changed}
+use Rattle.proof_journals.specs.ServerFacts.Keeping.{AllStand, OwnFits}
+use Rattle.proof_journals.specs.ServerFacts.Granting.{grown}
+
+-- the tables as the session sees them
+abbrev pub seen_by : Database → Face → Database
+seen_by tables face = after_events tables face.hold.writes
+
+pub seen_well_formed : (tables : Database) (face : Face) → IsWellFormedDatabase tables → OwnFits tables face → IsWellFormedDatabase (seen_by tables face)
+seen_well_formed tables face is own = well_formed_events tables face.hold.writes is (fitting_end face.hold.names face.hold.locks face.hold.writes tables is own.fitting)
+
+-- nothing is written
+pub quiet_own : (tables : Database) (face : Face) (need : Need) → OwnFits tables face → OwnFits tables (grown face need [])
+quiet_own tables face need own = record {
+  rests = λ is. absurd (true≢false is);
+  fitting = record {
+    each = λ other is agree. subst (λ (w : List RowEvent). EventsFit other w) (sym (append-nil face.hold.writes))
+        (own.fitting.each other is (agree_within face.hold.names (face.hold.names ++ need.names) face.hold.locks (face.hold.locks ++ need.locks) tables other (names_left face.hold.names need.names) (within-left face.hold.locks face.hold.locks need.locks (within-itself face.hold.locks)) agree));
+  };
+  covered = quiet_covered tables face.hold need.names need.locks own.covered;
+  standing = subst (AllStand tables) (sym (append-nil face.hold.writes)) own.standing;
+}
+
+-- tables of events stand
+each_stands : (tables : Database) (name : List ℕ) (changes : List Change) → is_some (find_table name tables) ≡ true → AllStand tables (events_of name changes)
+each_stands tables name [] is = tt
+each_stands tables name (change ∷ changes) is = (is, each_stands tables name changes is)
+
+said_in : (tables : Database) (job : Job) (found : Option TableRows) → find_table job.table tables ≡ found → AllStand tables (result_in job found).events
+said_in tables job None is = tt
+said_in tables job (Some table) is = each_stands tables job.table (tells table.schema table.rows (job.work table.schema)).changes (ap is_some is)
+
+pub said_stand : (tables : Database) (job : Job) → AllStand tables (job_says tables job).events
+unfolding job_says
+said_stand tables job = said_in tables job (find_table job.table tables) refl
+
+pub stands_after : (name : List ℕ) (tables : Database) (events : List RowEvent) → is_some (find_table name (after_events tables events)) ≡ is_some (find_table name tables)
+unfolding after_events
+stands_after name tables [] = refl
+stands_after name tables (event ∷ events) =
+    stands_after name (with_change event.table (change_table event.change) tables) events ∙ ap is_some (found_after event.table name event.change tables) ∙ some_changed (bytes_eq event.table name) event.change (find_table name tables)
+
+stand_before : (tables : Database) (writes events : List RowEvent) → AllStand (after_events tables writes) events → AllStand tables events
+stand_before tables writes [] stand = tt
+stand_before tables writes (event ∷ events) stand = (sym (stands_after event.table tables writes) ∙ stand.0, stand_before tables writes events stand.1)
+
+stand_both : (tables : Database) (a b : List RowEvent) → AllStand tables a → AllStand tables b → AllStand tables (a ++ b)
+stand_both tables [] b one two = two
+stand_both tables (event ∷ a) b one two = (one.0, stand_both tables a b one.1 two)
+
+-- *What a job writes goes with the tables*, where the locks that it needs were granted.
+pub job_own : (tables : Database) (face : Face) (need : Need) (job : Job) → IsWellFormedDatabase tables → OwnFits tables face → TaskSound job (seen_by tables face) → list_any (bytes_eq job.table) (face.hold.names ++ need.names) ≡ true → need.locks ≡ job_needs (seen_by tables face) job
+    → OwnFits tables (grown face need (job_says (seen_by tables face) job).events)
+job_own tables face need job well_formed own sound mine locks =
+    let names = names_left face.hold.names need.names in
+    let all = within-left face.hold.locks face.hold.locks need.locks (within-itself face.hold.locks) in
+    let needed : Within (job_needs (seen_by tables face) job) (face.hold.locks ++ need.locks) = subst (λ (l : List Lock). Within l (face.hold.locks ++ need.locks)) locks (within-right need.locks face.hold.locks need.locks (within-itself need.locks)) in
+    let events = (job_says (seen_by tables face) job).events in
+    record {
+      rests = λ is. absurd (true≢false is);
+      fitting = fitting_task face.hold.names (face.hold.names ++ need.names) face.hold.locks (face.hold.locks ++ need.locks) face.hold.writes tables job own.fitting well_formed sound names all mine needed;
+      covered = covered_both (face.hold.names ++ need.names) (face.hold.locks ++ need.locks) tables face.hold.writes events (covered_more face.hold.names (face.hold.names ++ need.names) face.hold.locks (face.hold.locks ++ need.locks) tables face.hold.writes names all own.covered)
+          (covered_before (face.hold.names ++ need.names) (face.hold.locks ++ need.locks) tables face.hold.writes events (says_covered (face.hold.names ++ need.names) (face.hold.locks ++ need.locks) (seen_by tables face) job mine needed));
+      standing = stand_both tables face.hold.writes events own.standing (stand_before tables face.hold.writes events (said_stand (seen_by tables face) job));
+    }
+
+-- a statement
+pub statement_own : (tables : Database) (face : Face) (need : Need) (statement : Statement) → IsWellFormedDatabase tables → OwnFits tables face → need.names ≡ table_of statement ∷ [] → need.locks ≡ row_needs (seen_by tables face) statement
+    → OwnFits tables (grown face need (says (seen_by tables face) statement).events)
+statement_own tables face need statement well_formed own names locks =
+    job_own tables face need (job_of statement) well_formed own (statement_sound (seen_by tables face) statement (seen_well_formed tables face well_formed own)) (rw names (names_last face.hold.names (table_of statement))) locks
+
+-- a row that is copied
+pub copy_own : (tables : Database) (face : Face) (need : Need) (from into : List ℕ) (map : List MapColumn) (key : List Value) → IsWellFormedDatabase tables → OwnFits tables face → need.names ≡ from ∷ into ∷ []
+    → need.locks ≡ job_needs (seen_by tables face) (copy_job (seen_by tables face) from into map key) → OwnFits tables (grown face need (job_says (seen_by tables face) (copy_job (seen_by tables face) from into map key)).events)
+copy_own tables face need from into map key well_formed own names locks =
+    job_own tables face need (copy_job (seen_by tables face) from into map key) well_formed own (copies_sound (seen_by tables face) from into map key (seen_well_formed tables face well_formed own)) (rw names (names_two face.hold.names from into)) locks

@@ -1,0 +1,12 @@
+pub mod Asking
+pub mod Scenes
+pub mod Turns
+pub mod Holdings
+pub mod Laws
+pub mod Plans
+pub mod ServerLaws
+pub mod GhostLaws
+pub mod RunLaws
+pub mod SentryLaws
+pub mod MachineLaws
+pub mod ServerFacts

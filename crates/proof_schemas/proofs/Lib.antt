@@ -1,0 +1,9 @@
+pub mod Columns
+pub mod Grammar
+pub mod Keys
+pub mod Valid
+pub mod Parts
+pub mod PrintLaws
+pub mod RereadLaws
+pub mod AlterLaws
+pub mod Stored

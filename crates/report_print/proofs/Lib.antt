@@ -1,3 +1,0 @@
-mod BareNames
-pub mod Left
-pub mod Joining

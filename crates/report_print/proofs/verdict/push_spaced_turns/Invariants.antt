@@ -1,7 +1,0 @@
-use Rattle.std.proofs.Common.{◌≡◌, ◌++◌, drop}
-use Rattle.report_print.specs.Verdicts.{spaced_turns}
-use Rattle.report_print.proofs.verdict.push_spaced_turns.Given as goal
-
--- what stands with what is left is all
-abbrev pub invariant-loop-turn : goal.invariant-loop-turn
-invariant-loop-turn l = l.into ++ spaced_turns (drop l.turn-index l.turns) ≡ l.fn.into ++ spaced_turns l.turns

@@ -1,5 +1,0 @@
-pub mod Verdicts
-pub mod Tables
-pub mod Turns
-pub mod Runs
-pub mod Reports

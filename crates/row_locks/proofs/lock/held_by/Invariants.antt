@@ -1,7 +1,0 @@
-use Rattle.std.proofs.Common.{◌≡◌, take, map}
-use Rattle.row_locks.specs.Holding.{held_by}
-use Rattle.row_locks.proofs.lock.held_by.Given as goal
-
--- the locks so far are copied
-abbrev pub invariant-loop-lock : goal.invariant-loop-lock
-invariant-loop-lock l = l.held.items ≡ map (held_by l.session) (take l.lock-index l.set)

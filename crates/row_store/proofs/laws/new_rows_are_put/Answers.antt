@@ -1,5 +1,0 @@
-use Rattle.row_store.proofs.ChangedTables.{new_put}
-use Rattle.row_store.proofs.laws.new_rows_are_put.Goals as goal
-
-pub returns : goal.returns
-returns c = new_put

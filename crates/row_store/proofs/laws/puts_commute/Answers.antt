@@ -1,5 +1,0 @@
-use Rattle.row_store.proofs.RowLaws.{puts_commute}
-use Rattle.row_store.proofs.laws.puts_commute.Goals as goal
-
-pub returns : goal.returns
-returns c = puts_commute

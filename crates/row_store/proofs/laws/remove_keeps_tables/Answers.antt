@@ -1,5 +1,0 @@
-use Rattle.row_store.proofs.TableLaws.{remove_keeps}
-use Rattle.row_store.proofs.laws.remove_keeps_tables.Goals as goal
-
-pub returns : goal.returns
-returns c = remove_keeps

@@ -1,5 +1,0 @@
-use Rattle.row_store.proofs.RowLaws.{filters_commute}
-use Rattle.row_store.proofs.laws.tests_commute.Goals as goal
-
-pub returns : goal.returns
-returns c = filters_commute

@@ -1,5 +1,0 @@
-pub mod ClusteredKeys
-pub mod Databases
-pub mod KeptByName
-pub mod Laws
-pub mod RowLists

@@ -1,0 +1,2 @@
+-- How far a client is in its script, and what it asks next.
+pub mod ActorStates

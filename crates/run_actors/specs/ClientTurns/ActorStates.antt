@@ -1,0 +1,26 @@
+-- What the code keeps of a client, in the words of how far it is in its script. (This project's rule.)
+use Rattle.std.specs.Prelude.{◌≡◌, if◌then◌else◌, List, drop, Option, None}
+use Rattle.base_script.specs.declared.script.ScriptLine.{ScriptLine}
+use Rattle.server_model.specs.declared.entry.Asked.{Asked}
+use Rattle.tool_program.specs.JournalWords.Clients as clients
+use Rattle.run_actors.specs.declared.client_turns.actor_state.ClientState.{ClientState}
+use Rattle.run_actors.specs.declared.client_turns.outcome.LineOutcome.{LineOutcome}
+use Rattle.run_actors.specs.declared.client_turns.outcome.LineOutcome.TheVariants.{Nothing, Waits, Marked, Broken}
+
+-- what became of a line, without its reply
+abbrev pub line_outcome_as : clients.Became → LineOutcome
+line_outcome_as clients.Nothing = Nothing
+line_outcome_as clients.Waits = Waits
+line_outcome_as (clients.Marked mark reply) = Marked mark
+line_outcome_as clients.Broken = Broken
+
+-- *Reached*: the seat has how far the client is in this script
+pub record IsReached (script : List ScriptLine) (actor_state : ClientState) (client : clients.Reached) : Type 0 where
+  pub left : client.left ≡ drop actor_state.place script
+  pub inside : clients.is_inside client.lines ≡ actor_state.is_inside
+  pub waits : client.waits ≡ actor_state.waits
+  pub lost : client.is_lost ≡ actor_state.is_lost
+
+-- what a client that is so far asks next
+abbrev pub asks_so : clients.Reached → Option Asked
+asks_so client = if client.is_lost then None else clients.line_asks client.waits client.left

@@ -1,0 +1,2 @@
+pub mod ActorStates
+pub mod ClientTurns

@@ -1,0 +1,8 @@
+//! How far a client is in its script, and what it asks next.
+
+mod actor_state;
+mod answers;
+mod outcome;
+mod requests;
+
+pub use actor_state::ClientState;

@@ -1,0 +1,67 @@
+//! What a turn makes of a client's line. Nothing here takes memory.
+
+ghost use Rattle.std.specs.Prelude.{◌≡◌, Some};
+ghost use Rattle.tool_program.specs.JournalWords.Clients.{became_of, was_done, lost_side, became_in};
+ghost use Rattle.run_actors.specs.ClientTurns.ActorStates.{line_outcome_as};
+
+use base_script::Side;
+use server_model::{Answer, Asked, Entry, Mark};
+
+/// What became of a client's line in a turn.
+#[derive(Clone, Copy)]
+pub(crate) enum LineOutcome {
+    /// Nothing.
+    Nothing,
+    /// It waits.
+    Waits,
+    /// It got a mark.
+    Marked(Mark),
+    /// The session was lost between lines.
+    Broken,
+}
+
+/// By the answer of a turn in which no session was lost.
+fn line_outcome_of_answer(answer: &Answer) -> LineOutcome
+    ensures { result ≡ line_outcome_as (became_of answer.now) }
+{
+    match answer {
+        Answer::Ok(_) | Answer::Rows(_) | Answer::Refused { .. } => LineOutcome::Marked(
+            Mark::Answered,
+        ),
+        Answer::TimedOut { .. } => LineOutcome::Marked(Mark::TimedOut),
+        Answer::Waits { .. } => LineOutcome::Waits,
+        _ => LineOutcome::Nothing,
+    }
+}
+
+/// Whether a lost call was done.
+fn was_done(missed: &Option<Answer>) -> bool
+    ensures { result ≡ was_done missed.now }
+{
+    match missed {
+        None | Some(Answer::Waits { .. } | Answer::TimedOut { .. }) => false,
+        Some(_) => true,
+    }
+}
+
+/// On which side of its call a session was lost, as the client's transaction has it.
+fn lost_side(side: Side, missed: &Option<Answer>) -> Side
+    ensures { result ≡ lost_side (Some side) missed.now }
+{
+    match side {
+        Side::After if was_done(missed) => Side::After,
+        _ => Side::Before,
+    }
+}
+
+/// What became of the client's line in its turn, where it waited before or didn't.
+pub(crate) fn line_outcome_of(waits: bool, entry: &Entry) -> LineOutcome
+    ensures { result ≡ line_outcome_as (became_in waits entry.now.asked entry.now.side entry.now.answer entry.now.missed) }
+{
+    match (&entry.asked, entry.side) {
+        (Asked::Cut, _) if waits => LineOutcome::Marked(Mark::Lost(Side::Before)),
+        (Asked::Cut, _) => LineOutcome::Broken,
+        (_, None) => line_outcome_of_answer(&entry.answer),
+        (_, Some(side)) => LineOutcome::Marked(Mark::Lost(lost_side(side, &entry.missed))),
+    }
+}

@@ -1,0 +1,10 @@
+pub mod Counting
+pub mod Fitting
+pub mod Keeps
+pub mod Starts
+pub mod Ends
+pub mod Turning
+pub mod Dealing
+pub mod Gathering
+pub mod Meeting
+pub mod TurnQueueWorkers

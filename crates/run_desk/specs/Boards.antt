@@ -1,0 +1,51 @@
+-- What a seat at the board has, between two steps of a turn.
+use Rattle.std.specs.Prelude.{◌≡◌, ℕ, List, [], ◌∷◌, ◌++◌, Option, Some}
+use Rattle.atomic_table.specs.Table.{Me}
+use Rattle.atomic_table.specs.Seated.{TableId}
+use Rattle.atomic_table.specs.declared.shared.Seat.{Seat}
+use Rattle.run_desk.specs.declared.shared_state.Entry.{Entry}
+use Rattle.run_desk.specs.declared.shared_state.Turned.{Turned}
+use Rattle.run_desk.specs.declared.shared_state.Turned.TheVariants.{Took, Over, NoMemory}
+use Rattle.run_desk.specs.declared.hand.Stage.{Stage}
+use Rattle.run_desk.specs.declared.hand.Stage.TheVariants.{Rests, Holds}
+use Rattle.run_desk.specs.declared.hand.Hand.{Hand}
+use Rattle.run_desk.specs.Views.{worker_view}
+
+module _ {S V : Type 0} where
+  -- The seat is at this table, which has the words and the slot of a desk.
+  abbrev pub IsAt : TableId → Seat S V → Type 0
+  IsAt table seat = (seat.table_id ≡ table) × (table.words ≡ 3) × (table.slots ≡ 1)
+
+  -- One seat before and after a step.
+  abbrev pub IsSameSeat : Seat S V → Seat S V → Type 0
+  IsSameSeat before after = (after.table_id ≡ before.table_id) × (after.id ≡ before.id)
+
+-- The view of one worker at this stage.
+abbrev pub IsWorkerAt : {O E : Type 0} → List (Hand O E) → Stage → Type 0
+IsWorkerAt {O} {E} view stage = (opening : O) × (seen : List (Entry E)) × (number : ℕ) × (own : List (Entry E)) × (view ≡ worker_view opening seen number own stage)
+
+module _ {B O E : Type 0} (opening_of : B → O) (entries_in : B → List (Entry E)) where
+  -- The worker holds the turn, and the book with these entries.
+  abbrev pub HoldsSharedState : O → List (Entry E) → ℕ → List (Entry E) → List (Entry E) → Me (Option B) (List (Hand O E)) → Type 0
+  HoldsSharedState opening seen number own entries me =
+      (ticket : ℕ) × (shared_state : B) × (me ≡ (worker_view opening seen number own (Holds ticket), (0, Some shared_state) ∷ [])) × (opening_of shared_state ≡ opening) × (entries_in shared_state ≡ entries)
+
+  -- It holds the book, of which it has seen all but one entry of its own.
+  abbrev pub HoldsMore : Me (Option B) (List (Hand O E)) → Type 0
+  HoldsMore me =
+      (opening : O) × (seen : List (Entry E)) × (number : ℕ) × (own : List (Entry E)) × (event : E)
+      × HoldsSharedState opening seen number own (seen ++ record { worker = number; event = event } ∷ []) me
+
+  -- It holds the book, of which it has seen all.
+  abbrev pub HoldsAll : Me (Option B) (List (Hand O E)) → Type 0
+  HoldsAll me = (opening : O) × (seen : List (Entry E)) × (number : ℕ) × (own : List (Entry E)) × HoldsSharedState opening seen number own seen me
+
+module _ {S O E : Type 0} (is_over : O → List (Entry E) → Type 0) (opening : O) (entries : List (Entry E)) (number : ℕ) (own : List (Entry E)) where
+  -- The worker rests after a turn at a book of these entries, and has seen them all, with its own new one where the turn was taken.
+  abbrev pub Ends : Turned → Me S (List (Hand O E)) → Type 0
+  Ends Took me =
+      (event : E)
+      × (me ≡ (worker_view opening (entries ++ record { worker = number; event = event } ∷ []) number (own ++ record { worker = number; event = event } ∷ []) Rests, []))
+      × ¬ is_over opening entries
+  Ends Over me = (me ≡ (worker_view opening entries number own Rests, [])) × is_over opening entries
+  Ends NoMemory me = (me ≡ (worker_view opening entries number own Rests, [])) × ¬ is_over opening entries

@@ -1,0 +1,19 @@
+use Rattle.std.proofs.Common.{◌≡◌, ◌≤◌, length, refl, sym, ap, ◌∙◌, arith}
+use Rattle.plan_data.specs.declared.options.Options.{Options}
+use Rattle.plan_data.specs.PlanData.{PlanData}
+use Rattle.run_replay.proofs.WholeReplay.GoingOn.{begins, full_over}
+use Rattle.run_replay.proofs.whole_replay.replays.replay.Goals as goal
+
+pub loop-turn-init : goal.loop-turn-init
+loop-turn-init g c = record {
+  replaying = begins c.args.run.now c.actor_count.result c.requires c.actor_count.ensures;
+  plan = refl;
+  count = omega arith;
+}
+
+pub returns-clause-over : goal.returns-clause-over
+returns-clause-over g c =
+    let told : c.options-limit.result.turn_limit ≡ c.plan.result.now.options.turn_limit = ap (λ (o : Options). o.turn_limit) c.options-limit.ensures in
+    let limit : c.plan.result.now.options.turn_limit ≡ c.loop-turn.run.plan.options.turn_limit = ap (λ (p : PlanData). p.options.turn_limit) (c.plan.ensures ∙ sym c.loop-turn.invariant.plan) in
+    let full : c.loop-turn.run.plan.options.turn_limit ≤ length c.loop-turn.run.journal = omega (arith, told, limit, c.loop-turn.invariant.count, c.loop-turn-test.false) in
+    λ same. full_over c.loop-turn.run.plan c.loop-turn.run.journal full

@@ -1,0 +1,14 @@
+use Rattle.std.proofs.Common.{◌≡◌, ℕ, ◌≤◌, length}
+use Rattle.run_turns.specs.Runs.{RunView}
+use Rattle.run_replay.specs.declared.whole_replay.place.Place.{Place}
+use Rattle.run_replay.specs.WholeReplay.Replays.{IsReplaying}
+use Rattle.run_replay.proofs.whole_replay.replays.replay.Given as goal
+
+pub record Replaying (before now : RunView) (place : Place) (turn : ℕ) : Type 0 where
+  pub replaying : IsReplaying now place
+  pub plan : now.plan ≡ before.plan
+  pub count : turn ≤ length now.journal
+
+-- so many turns were taken, all of them the replay's
+abbrev pub invariant-loop-turn : goal.invariant-loop-turn
+invariant-loop-turn g l = Replaying l.fn.run l.run l.place l._turn

@@ -1,0 +1,23 @@
+//! How far a replay is in its order of turns.
+
+use base_script::Actor;
+
+/// What is left of a replay's order: the plan's words from one on, and the actors of a pass from one on.
+#[derive(Clone, Copy)]
+pub(crate) struct Place {
+    /// The plan's run of words that comes next.
+    pub(crate) run: usize,
+    /// How many of its words are behind.
+    pub(crate) used: u32,
+    /// The place in the fixed order of the actor that comes next in the pass.
+    pub(crate) actor: usize,
+}
+
+/// The actor whose turn comes next, and what is left behind that turn.
+#[derive(Clone, Copy)]
+pub(crate) struct NextTurn {
+    /// The actor.
+    pub(crate) actor: Actor,
+    /// What is left behind its turn.
+    pub(crate) behind: Place,
+}

@@ -1,0 +1,83 @@
+//! The turns of a replay.
+
+ghost use Rattle.std.specs.Prelude.{◌≡◌, ◌≢◌, None, true};
+ghost use Rattle.tool_program.specs.JournalWords.Journals.{state_at};
+ghost use Rattle.tool_program.specs.JournalWords.Keeping.{cut_due};
+ghost use Rattle.tool_program.specs.Orders.{next_actor, IsReplay};
+ghost use Rattle.run_turns.specs.Runs.{is_over, Stops};
+ghost use Rattle.run_replay.specs.declared.whole_replay.replays.Replayed.TheVariants as replayed;
+ghost use Rattle.run_replay.specs.WholeReplay.Replays.{IsFresh, IsReplaying, Passes, IsStalled};
+
+use crate::whole_replay::choice::choose;
+use crate::whole_replay::passes::actor_count;
+use crate::whole_replay::place::Place;
+use base_script::Actor;
+use run_turns::{Run, Stepped};
+use server_api::Serve;
+
+/// What became of a replay.
+#[derive(Clone, Copy)]
+pub enum Replayed {
+    /// The run has ended, or has as many turns as the plan allows.
+    Over,
+    /// Nobody is ready, and no loss between calls is due.
+    Stalled,
+    /// There was no memory for a turn.
+    NoMemory,
+}
+
+/// Takes the turn that comes next: a loss between calls where one is due, which uses up no word and no place; else the next
+/// actor's.
+#[tactic(auto, using(crate::proofs::WholeReplay::Passing::pass_cut, crate::proofs::WholeReplay::Passing::pass_turn, crate::proofs::WholeReplay::Passing::pass_stalls))]
+fn pass<V: Serve>(run: &mut Run<'_, V>, place: &mut Place) -> Stepped
+    requires { IsReplaying run.old place.old }
+    ensures { Passes run.old result run.new place.new }
+{
+    if run.is_over() {
+        return Stepped::Over;
+    }
+    if run.is_cut_due() {
+        return run.step(Actor::Op);
+    }
+    let Some(next) = choose(run, *place) else {
+        return Stepped::Idle;
+    };
+    match run.step(next.actor) {
+        Stepped::Took => {
+            *place = next.behind;
+            Stepped::Took
+        }
+        Stepped::Idle => Stepped::Idle,
+        Stepped::Over => Stepped::Over,
+        Stepped::NoMemory => Stepped::NoMemory,
+    }
+}
+
+/// Takes the turns of the plan's replay until its run is over, or nobody is ready. Where there is no memory for a turn, those
+/// before it stay.
+#[tactic(auto, using(crate::proofs::WholeReplay::GoingOn::begins, crate::proofs::WholeReplay::GoingOn::is_replay, crate::proofs::WholeReplay::GoingOn::still_replay, crate::proofs::WholeReplay::GoingOn::it_stops, crate::proofs::WholeReplay::GoingOn::still_stops))]
+pub fn replay<V: Serve>(run: &mut Run<'_, V>) -> Replayed
+    requires { IsFresh run.old }
+    ensures plan { run.new.plan ≡ run.old.plan }
+    ensures replay { IsReplay run.new.plan run.new.journal }
+    ensures stops { Stops run.new.plan run.new.journal }
+    ensures over { result ≡ replayed.Over → is_over run.new.plan run.new.journal ≡ true }
+    ensures stalled { result ≡ replayed.Stalled → IsStalled run.new.plan run.new.journal }
+    ensures server { result ≢ replayed.NoMemory → run.new.server ≡ state_at run.new.plan run.new.journal }
+{
+    let mut place = Place {
+        run: 0,
+        used: 0,
+        actor: actor_count(run),
+    };
+    let limit = run.plan().options().turn_limit;
+    for _turn in 0..limit {
+        match pass(run, &mut place) {
+            Stepped::Took => {}
+            Stepped::Over => return Replayed::Over,
+            Stepped::Idle => return Replayed::Stalled,
+            Stepped::NoMemory => return Replayed::NoMemory,
+        }
+    }
+    Replayed::Over
+}

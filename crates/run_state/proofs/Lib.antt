@@ -1,0 +1,5 @@
+pub mod Clients
+pub mod Givens
+pub mod Keeping
+pub mod ActorStates
+pub mod Seen

@@ -1,0 +1,23 @@
+use Rattle.std.proofs.Common.{List, sym, ap, ◌∙◌}
+use Rattle.std.specs.Prelude.{is_some}
+use Rattle.server_model.specs.declared.entry.Entry.{Entry}
+use Rattle.tool_program.specs.JournalWords.Sessions.{live_session}
+use Rattle.tool_program.specs.Programs.{tool_asks}
+use Rattle.tool_state.specs.ToolState.Meanings.{tool_of}
+use Rattle.run_state.proofs.Givens.{asks_is}
+use Rattle.run_state.proofs.Seen.{seen}
+use Rattle.run_state.proofs.run_state.RunState.is_tool_ready.Goals as goal
+
+pub is_ready-requires-clause-seen : goal.is_ready-requires-clause-seen
+is_ready-requires-clause-seen g c = seen c.args.self.now.plan.now c.args.self.now.journal.items c.args.self.now (g.V.Serve.state c.args.server.now) c.requires.run_state c.requires.state
+
+pub is_ready-requires-clause-session : goal.is_ready-requires-clause-session
+is_ready-requires-clause-session g c = c.session.ensures ∙ ap (λ (journal : List Entry). live_session journal c.args.actor) (sym c.as_slice.ensures.value)
+
+pub returns : goal.returns
+returns g c =
+    let run_state = c.args.self.now in
+    let state = g.V.Serve.state c.args.server.now in
+    c.is_ready.ensures
+    ∙ ap (λ (journal : List Entry). is_some (tool_asks run_state.plan.now journal (record { server = state; tool = tool_of run_state.tool }) c.args.actor)) c.as_slice.ensures.value
+    ∙ ap is_some (asks_is run_state.plan.now run_state.journal.items state (tool_of run_state.tool) c.args.actor c.requires.state c.requires.run_state.tool)

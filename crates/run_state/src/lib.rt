@@ -1,0 +1,12 @@
+//! The journal of a run, with what is kept of it so that no turn reads it anew. In `run_state_turns` what one turn makes of it.
+#![tactic(auto)]
+
+mod losses;
+mod opening;
+mod program;
+mod reader;
+mod run_state;
+pub mod run_state_turns;
+
+pub use reader::script_of;
+pub use run_state::RunState;

@@ -1,0 +1,105 @@
+//! The book of a plan without turns.
+
+ghost use Rattle.std.specs.Prelude.{◌≡◌, [], ◌∷◌, map, IfOk};
+ghost use Rattle.base_script.specs.declared.actor.Actor.TheVariants.{Op, Insp, Copy, Apply, Lock, Ren};
+ghost use Rattle.tool_program.specs.Orders.{actors};
+ghost use Rattle.base_values.specs.ToolNames.{log_name};
+ghost use Rattle.run_state.specs.Books.{free_actor_state, free_client, IsRunState};
+
+use crate::run_state::RunState;
+use base_script::Actor;
+use base_values::tool_names::log_name;
+use base_values::{Duplicate, Name, Names, Sequence};
+use plan_data::Plan;
+use run_actors::ActorState;
+use run_actors::client_turns::ClientState;
+use std::alloc::{AllocError, Global};
+use tool_state::tool_state::Tool;
+
+/// The seat of an actor before the first turn.
+fn free_actor_state(actor: Actor) -> ActorState
+    ensures { result ≡ free_actor_state actor }
+{
+    ActorState {
+        actor,
+        session: None,
+        turns: 0,
+        renames: false,
+    }
+}
+
+/// The seats of the tool's actors before the first turn.
+fn tool_actor_states(alloc: Global) -> Result<Vec<ActorState>, AllocError>
+    ensures { IfOk result (λ actor_states. actor_states.items ≡ map free_actor_state (Op ∷ Insp ∷ Copy ∷ Apply ∷ Lock ∷ Ren ∷ [])) }
+{
+    let mut actor_states = Vec::with_capacity(alloc, 6)?;
+    for actor in &[
+        Actor::Op,
+        Actor::Insp,
+        Actor::Copy,
+        Actor::Apply,
+        Actor::Lock,
+        Actor::Ren,
+    ] {
+        actor_states.push(free_actor_state(*actor))?;
+    }
+    Ok(actor_states)
+}
+
+/// The seats of all actors before the first turn, in the fixed order.
+#[tactic(auto, unfolding(tool_program::specs::Orders::actors, tool_program::specs::Orders::clients_from))]
+fn actor_states_of(alloc: Global, plan: &Plan) -> Result<Vec<ActorState>, AllocError>
+    ensures { IfOk result (λ actor_states. actor_states.items ≡ map free_actor_state (actors plan.now)) }
+{
+    let mut actor_states = tool_actor_states(alloc)?;
+    let mut client = 1;
+    for _script in plan.clients().as_slice() {
+        actor_states.push(free_actor_state(Actor::Client(client)))?;
+        client += 1;
+    }
+    Ok(actor_states)
+}
+
+/// The seats of the clients before the first turn.
+fn client_states(alloc: Global, plan: &Plan) -> Result<Vec<ClientState>, AllocError>
+    ensures { IfOk result (λ actor_states. actor_states.items ≡ map free_client plan.now.clients) }
+{
+    let mut actor_states = Vec::new(alloc);
+    for _script in plan.clients().as_slice() {
+        actor_states.push(ClientState {
+            place: 0,
+            is_inside: false,
+            waits: false,
+            is_lost: false,
+        })?;
+    }
+    Ok(actor_states)
+}
+
+/// The tables whose events the applier reads.
+fn names_of(alloc: Global, table: &Name) -> Result<Names, AllocError>
+    ensures { IfOk result (λ names. names ≡ table.now ∷ log_name table.now ∷ []) }
+{
+    Ok(Sequence::from_vec(vec![in alloc; table.copy()?, log_name(alloc, table)?]?))
+}
+
+impl<'a> RunState<'a> {
+    /// The book of the plan without turns.
+    pub fn open(alloc: Global, plan: &'a Plan) -> Result<RunState<'a>, AllocError>
+        ensures run_state { IfOk result (λ run_state. IsRunState plan.now [] run_state) }
+        ensures plan { IfOk result (λ run_state. run_state.plan.now ≡ plan.now) }
+        ensures journal { IfOk result (λ run_state. run_state.journal.items ≡ []) }
+    {
+        Ok(RunState {
+            plan,
+            journal: Vec::new(alloc),
+            tool: Tool::new(alloc, plan)?,
+            names: names_of(alloc, plan.table())?,
+            actor_states: actor_states_of(alloc, plan)?,
+            clients: client_states(alloc, plan)?,
+            load: 0,
+            busy: 0,
+            is_altered: false,
+        })
+    }
+}

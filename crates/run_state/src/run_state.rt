@@ -1,0 +1,31 @@
+//! The record.
+
+use base_values::Names;
+use plan_data::Plan;
+use run_actors::ActorState;
+use run_actors::client_turns::ClientState;
+use server_model::Entry;
+use tool_state::tool_state::Tool;
+
+/// The journal of a run of a plan, with what is kept of it.
+#[derive(Drop)]
+pub struct RunState<'a> {
+    /// The plan.
+    pub plan: &'a Plan,
+    /// The turns so far.
+    pub journal: Vec<Entry>,
+    /// How far the tool is.
+    pub tool: Tool,
+    /// The tables whose events the applier reads.
+    pub names: Names,
+    /// What is kept of each actor, in the fixed order.
+    pub actor_states: Vec<ActorState>,
+    /// How far each client is in its script, in the clients' order.
+    pub clients: Vec<ClientState>,
+    /// How many transactions of clients are open.
+    pub load: u64,
+    /// How many sessions of the tool's wait or are in a transaction.
+    pub busy: u64,
+    /// Whether the ALTER was done.
+    pub is_altered: bool,
+}

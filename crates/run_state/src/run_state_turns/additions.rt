@@ -1,0 +1,127 @@
+//! What one turn makes of the book. Nothing here takes memory but room for a turn, which is made before it.
+
+ghost use Rattle.std.specs.Prelude.{◌≡◌, ◌+◌, ◌<◌, ◌^◌, [], ◌∷◌, ◌++◌, length, true, OnOk};
+ghost use Rattle.base_script.specs.declared.actor.Actor.TheVariants.{Client};
+ghost use Rattle.server_model.specs.States.{load, has_work};
+ghost use Rattle.tool_program.specs.JournalWords.Journals.{after_entry};
+ghost use Rattle.tool_program.specs.Tools.{moment};
+ghost use Rattle.tool_program.specs.ToolSetup.Meanings.{range_told};
+ghost use Rattle.tool_state.specs.ToolState.Sound.{HasRoom};
+ghost use Rattle.proof_journals.specs.RunLaws.Counting.{busy_count};
+ghost use Rattle.run_state.specs.Books.{is_planned, actor_state_in, renames_of, AreReached, HasRoomFor, IsRunState};
+
+use crate::{RunState, script_of};
+use base_script::Actor;
+use run_actors::{is_alter_turn, take_turn};
+use server_model::{Entry, KeyRange};
+use std::alloc::AllocError;
+
+/// What a turn told besides its entry.
+#[derive(Drop)]
+pub struct TurnFacts {
+    /// A copy of the range of keys that its answer tells.
+    pub range: Option<KeyRange>,
+    /// Whether its session had a transaction, a table lock or a wait before it.
+    pub had_work: bool,
+    /// How many transactions of clients are open behind it.
+    pub load: u64,
+    /// How many sessions of the tool's wait or are in a transaction behind it.
+    pub busy: u64,
+}
+
+/// Makes room for one turn more. Where there is no memory, the book says what it said.
+#[tactic(auto, using(crate::proofs::Keeping::roomed))]
+pub fn reserve(run_state: &mut RunState<'_>) -> Result<(), AllocError>
+    requires { IsRunState run_state.old.plan.now run_state.old.journal.items run_state.old }
+    ensures run_state { IsRunState run_state.old.plan.now run_state.old.journal.items run_state.new }
+    ensures journal { run_state.new.journal.items ≡ run_state.old.journal.items }
+    ensures rest { run_state.new ≡ record run_state.old { journal = run_state.new.journal; tool = run_state.new.tool } }
+    ensures ok { OnOk result (HasRoomFor run_state.new) }
+{
+    run_state.journal.reserve(1)?;
+    run_state.tool.reserve()
+}
+
+/// How far a client is behind its turn.
+#[tactic(auto, using(crate::proofs::Clients::scripted, crate::proofs::Clients::actor_state_within))]
+fn client_took(run_state: &mut RunState<'_>, client: u32, entry: &Entry)
+    requires actor { entry.now.actor ≡ Client client }
+    requires planned { is_planned run_state.old.plan.now (Client client) ≡ true }
+    requires clients { AreReached run_state.old.plan.now run_state.old.journal.items 1 run_state.old.plan.now.clients run_state.old.clients.items }
+    ensures clients { AreReached run_state.old.plan.now (run_state.old.journal.items ++ entry.now ∷ []) 1 run_state.old.plan.now.clients run_state.new.clients.items }
+    ensures rest { run_state.new ≡ record run_state.old { clients = run_state.new.clients } }
+{
+    let Some(script) = script_of(run_state.plan, client) else {
+        unreachable!();
+    };
+    run_state.clients[client as usize - 1].took(script, entry);
+}
+
+/// How far the clients are behind a turn.
+#[tactic(auto, using(crate::proofs::Clients::no_client, crate::proofs::Clients::reached_still))]
+fn clients_took(run_state: &mut RunState<'_>, entry: &Entry)
+    requires planned { is_planned run_state.old.plan.now entry.now.actor ≡ true }
+    requires clients { AreReached run_state.old.plan.now run_state.old.journal.items 1 run_state.old.plan.now.clients run_state.old.clients.items }
+    ensures clients { AreReached run_state.old.plan.now (run_state.old.journal.items ++ entry.now ∷ []) 1 run_state.old.plan.now.clients run_state.new.clients.items }
+    ensures rest { run_state.new ≡ record run_state.old { clients = run_state.new.clients } }
+{
+    match entry.actor {
+        Actor::Client(client) => client_took(run_state, client, entry),
+        _ => {}
+    }
+}
+
+/// Whether the request that the actor waits with takes the migrated table's name away.
+fn renames(run_state: &RunState<'_>, actor: Actor) -> bool
+    ensures { result ≡ renames_of (actor_state_in run_state.now.actor_states.items actor) }
+{
+    match run_state.actor_state(actor) {
+        Some(actor_state) => actor_state.renames,
+        None => false,
+    }
+}
+
+/// Keeps what the next turn changes.
+#[tactic(auto, using(crate::proofs::ActorStates::renames_is))]
+fn keep(run_state: &mut RunState<'_>, entry: &Entry, told: TurnFacts)
+    requires run_state { IsRunState run_state.old.plan.now run_state.old.journal.items run_state.old }
+    requires planned { is_planned run_state.old.plan.now entry.now.actor ≡ true }
+    requires few { length run_state.old.journal.items + 1 < 2 ^ 32 }
+    requires room { HasRoom run_state.old.tool }
+    requires range { told.range ≡ range_told entry.now.answer }
+    requires work { told.had_work ≡ has_work (moment run_state.old.plan.now run_state.old.journal.items).server entry.now.session }
+    requires load { told.load ≡ load (after_entry (moment run_state.old.plan.now run_state.old.journal.items).server entry.now) }
+    requires busy { told.busy ≡ busy_count (after_entry (moment run_state.old.plan.now run_state.old.journal.items).server entry.now) }
+    ensures run_state { IsRunState run_state.old.plan.now (run_state.old.journal.items ++ entry.now ∷ []) run_state.new }
+    ensures plan { run_state.new.plan.now ≡ run_state.old.plan.now }
+    ensures journal { run_state.new.journal ≡ run_state.old.journal }
+{
+    let plan = run_state.plan;
+    let takes_away = renames(run_state, entry.actor);
+    let alters = is_alter_turn(plan.table(), entry, takes_away);
+    run_state.tool.took(plan, entry, told.range, told.had_work);
+    clients_took(run_state, entry);
+    take_turn(&mut run_state.actor_states, plan.table(), entry);
+    run_state.load = told.load;
+    run_state.busy = told.busy;
+    run_state.is_altered = run_state.is_altered || alters;
+}
+
+/// Writes the next turn behind the others, and keeps what it changes.
+#[tactic(auto, using(crate::proofs::Keeping::written))]
+pub fn take(run_state: &mut RunState<'_>, entry: Entry, told: TurnFacts)
+    requires run_state { IsRunState run_state.old.plan.now run_state.old.journal.items run_state.old }
+    requires planned { is_planned run_state.old.plan.now entry.actor ≡ true }
+    requires few { length run_state.old.journal.items + 1 < 2 ^ 32 }
+    requires room { HasRoomFor run_state.old }
+    requires range { told.range ≡ range_told entry.answer }
+    requires work { told.had_work ≡ has_work (moment run_state.old.plan.now run_state.old.journal.items).server entry.session }
+    requires load { told.load ≡ load (after_entry (moment run_state.old.plan.now run_state.old.journal.items).server entry) }
+    requires busy { told.busy ≡ busy_count (after_entry (moment run_state.old.plan.now run_state.old.journal.items).server entry) }
+    ensures run_state { IsRunState run_state.old.plan.now (run_state.old.journal.items ++ entry ∷ []) run_state.new }
+    ensures plan { run_state.new.plan.now ≡ run_state.old.plan.now }
+    ensures journal { run_state.new.journal.items ≡ run_state.old.journal.items ++ entry ∷ [] }
+{
+    keep(run_state, &entry, told);
+    run_state.journal.push_reserved(entry);
+}

@@ -1,0 +1,159 @@
+-- The turn that is due may be taken.
+use Rattle.std.proofs.Common.{◌≡◌, ◌≤◌, ◌<◌, ℕ, Bool, false, not, List, length, Option, Some, None, refl, sym, ap, ◌∙◌, subst, arith}
+use Rattle.std.proofs.lemmas.Bool.{true≢false}
+use Rattle.base_script.specs.declared.actor.Actor.{Actor}
+use Rattle.base_script.specs.declared.actor.Side.{Side}
+use Rattle.server_model.specs.declared.entry.Asked.{Asked}
+use Rattle.server_model.specs.declared.entry.Asked.TheVariants.{Call, Poll, Command, Cut}
+use Rattle.server_model.specs.declared.entry.Entry.{Entry}
+use Rattle.server_model.specs.declared.request.Request.{Request}
+use Rattle.server_model.specs.Conditions.{MayCall, MayPoll, MayLose, LosesWell}
+use Rattle.server_model.specs.Entries.{is_client, is_command}
+use Rattle.server_model.specs.States.{State}
+use Rattle.plan_data.specs.PlanData.{PlanData}
+use Rattle.tool_program.specs.JournalWords.Journals.{opens_if, state_at}
+use Rattle.tool_program.specs.JournalWords.Sessions.{live_session, sessions_named}
+use Rattle.tool_program.specs.Programs.{given}
+use Rattle.proof_journals.specs.MachineLaws.Laws.{MayLoseAny}
+use Rattle.proof_journals.specs.MachineLaws.Runnable.{IsRunnable}
+use Rattle.proof_journals.specs.MachineLaws.Standings.{MayTake, opened_for}
+use Rattle.proof_journals.proofs.MachineLaws.Whole.{given_called, given_polled, losses as losses_may}
+use Rattle.proof_journals.specs.RunLaws.Counting.{numbered, IsAfter, AreApart}
+use Rattle.proof_journals.specs.RunLaws.Kept.{IsKept}
+use Rattle.proof_journals.specs.RunLaws.Laws.{Living, NoneWaits}
+use Rattle.proof_journals.proofs.RunLaws.Living.{all_living}
+use Rattle.proof_journals.proofs.RunLaws.Waits.{all_waits}
+use Rattle.run_turns.specs.declared.due_turns.migration_run.turn.Turn.{Turn}
+use Rattle.run_turns.specs.DueTurns.MigrationRun.Asking.{MayAsk}
+use Rattle.run_turns.specs.DueTurns.MigrationRun.Sessions.{IsSessionOf}
+use Rattle.run_turns.specs.DueTurns.MigrationRun.Turning.{session_for, opened_on, MayTurn}
+use Rattle.run_turns.proofs.DueTurns.MigrationRun.Connecting.{opened_live}
+use Rattle.run_turns.proofs.DueTurns.Coming.{Comes, Cuts, Gives, comes, given_uncut, Lives, cut_lives}
+use Rattle.run_turns.proofs.DueTurns.Serving.{opened_numbered}
+use Rattle.run_turns.specs.DueTurns.DueCalls.Laws.{DueTurnsMayBe}
+
+-- WHATEVER NUMBER WAS MADE LAST
+
+call_numbered : (made : ℕ) (state : State) (n : ℕ) (request : Request) → MayCall state n request → MayCall (numbered made state) n request
+call_numbered made state n request may = record { live = may.live; idle = may.idle; comes = may.comes; formed = may.formed }
+
+poll_numbered : (made : ℕ) (state : State) (n : ℕ) → MayPoll state n → MayPoll (numbered made state) n
+poll_numbered made state n may = record { live = may.live; waiting = may.waiting; waits = may.waits; formed = may.formed }
+
+loses_numbered : (made : ℕ) (state : State) (n : ℕ) (side : Option Side) (asked : Asked) → LosesWell state n side asked → LosesWell (numbered made state) n side asked
+loses_numbered made state n None asked well = well
+loses_numbered made state n (Some side) Poll well = poll_numbered made state n well
+loses_numbered made state n (Some side) (Call request) well = call_numbered made state n request well
+loses_numbered made state n (Some side) (Command word) well = absurd well
+loses_numbered made state n (Some side) Cut well = absurd well
+
+lose_numbered : (made : ℕ) (state : State) (n : ℕ) (side : Option Side) (asked : Asked) → MayLose state n side asked → MayLose (numbered made state) n side asked
+lose_numbered made state n side asked may = record { live = may.live; well = loses_numbered made state n side asked may.well }
+
+ask_numbered : (made : ℕ) (state : State) (n : ℕ) (side : Option Side) (asked : Asked) → MayAsk state n side asked → MayAsk (numbered made state) n side asked
+ask_numbered made state n None (Call request) may = call_numbered made state n request may
+ask_numbered made state n None Poll may = poll_numbered made state n may
+ask_numbered made state n None (Command word) may = tt
+ask_numbered made state n None Cut may = lose_numbered made state n None Cut may
+ask_numbered made state n (Some side) asked may = lose_numbered made state n (Some side) asked may
+
+module _ (plan : PlanData) (journal : List Entry) (server : State) (actor : Actor) (turn : Turn) (runs : IsRunnable plan) (kept : IsKept plan journal) (behind : IsAfter (state_at plan journal) server) (room : server.made < 4294967295) (comes_so : Comes plan journal actor turn) (called : is_command turn.asked ≡ false) where
+  abbrev now : State
+  now = state_at plan journal
+
+  abbrev live : Option ℕ
+  live = live_session journal turn.actor
+
+  abbrev n : ℕ
+  n = session_for live server.made
+
+  living : Living journal now
+  living = all_living plan journal kept.faithful kept.sessions
+
+  -- THE SESSION
+
+  own_told : (session : Option ℕ) → live ≡ session → IsSessionOf (numbered server.made now) turn.actor session
+  own_told (Some own) is = living.kinds turn.actor own is
+  own_told None is = λ k more. living.fresh k (omega (arith, more, behind.made))
+
+  own : IsSessionOf server turn.actor live
+  own = subst (λ (s : State). IsSessionOf s turn.actor live) (sym behind.same) (own_told live refl)
+
+  may_take : (session : Option ℕ) → MayTake journal (session_for session server.made) session
+  may_take (Some own) = refl
+  may_take None = let named : now.made ≡ sessions_named journal = living.named in omega (arith, named, behind.made)
+
+  take_own : MayTake journal n live
+  take_own = may_take live
+
+  -- WHAT IS ASKED
+
+  abbrev open_told : State
+  open_told = opened_for plan journal turn.actor n
+
+  -- the session that lives already
+  stays_open : (own : ℕ) → live ≡ Some own → (n ≡ own) × (open_told ≡ now)
+  stays_open own is =
+      let same : n ≡ own = ap (λ (o : Option ℕ). session_for o server.made) is in
+      (same, ap (λ (k : ℕ). opens_if false (not (is_client turn.actor)) k now) same ∙ sym (opened_live now own (not (is_client turn.actor)) (living.kinds turn.actor own is)))
+
+  losses : MayLoseAny plan journal turn.actor
+  losses = losses_may plan journal turn.actor runs kept.faithful kept.follows
+
+  cut_may : (own : ℕ) → live ≡ Some own → MayAsk open_told n None Cut
+  cut_may own is =
+      let at = stays_open own is in
+      subst (λ (s : State). MayLose s n None Cut) (sym at.1) (subst (λ (k : ℕ). MayLose now k None Cut) (sym at.0) (losses.between own is))
+
+  poll_may : (side : Option Side) → given plan journal turn.actor ≡ Some Poll → MayAsk open_told n side Poll
+  poll_may None gives =
+      let told = given_polled plan journal turn.actor runs kept.faithful kept.follows gives in
+      let at = stays_open told.0 told.1 in
+      subst (λ (s : State). MayPoll s n) (sym at.1) (subst (λ (k : ℕ). MayPoll now k) (sym at.0) told.2)
+  poll_may (Some side) gives =
+      let told = given_polled plan journal turn.actor runs kept.faithful kept.follows gives in
+      let at = stays_open told.0 told.1 in
+      subst (λ (s : State). MayLose s n (Some side) Poll) (sym at.1) (subst (λ (k : ℕ). MayLose now k (Some side) Poll) (sym at.0) (losses.polled told.0 side gives told.1))
+
+  call_may : (side : Option Side) (request : Request) → given plan journal turn.actor ≡ Some (Call request) → MayAsk open_told n side (Call request)
+  call_may None request gives = given_called plan journal turn.actor request n runs kept.faithful kept.follows gives take_own
+  call_may (Some side) request gives = losses.called request n side gives take_own
+
+  given_may : (side : Option Side) (asked : Asked) → is_command asked ≡ false → given plan journal turn.actor ≡ Some asked → MayAsk open_told n side asked
+  given_may side (Call request) none gives = call_may side request gives
+  given_may side Poll none gives = poll_may side gives
+  given_may side (Command word) none gives = absurd (true≢false none)
+  given_may side Cut none gives = absurd (true≢false (given_uncut plan journal turn.actor Cut gives))
+
+  told_may : MayAsk open_told n turn.side turn.asked
+  told_may = by comes_so
+    where
+      by : Comes plan journal actor turn → MayAsk open_told n turn.side turn.asked
+      by (Cuts at none cut) =
+          let lives : Lives journal turn.actor = cut_lives plan journal turn.actor at in
+          subst (λ (side : Option Side). MayAsk open_told n side turn.asked) (sym none) (subst (MayAsk open_told n None) (sym cut) (cut_may lives.number lives.is))
+      by (Gives none same gives side) = given_may turn.side turn.asked called gives
+
+  may : MayAsk (opened_on server n turn) n turn.side turn.asked
+  may =
+      subst (λ (s : State). MayAsk s n turn.side turn.asked)
+      (sym (ap (λ (b : Bool). opens_if b (not (is_client turn.actor)) n server) called ∙ ap (opens_if false (not (is_client turn.actor)) n) behind.same ∙ opened_numbered false (not (is_client turn.actor)) n server.made now))
+      (ask_numbered _ open_told n turn.side turn.asked told_may)
+
+  few : length server.sessions ≤ server.made
+  few = subst (λ (s : State). length s.sessions ≤ server.made) (sym behind.same) (omega (arith, living.few, behind.made))
+
+  pub turn_may : MayTurn server live turn
+  turn_may = record {
+    own = own;
+    apart = subst (λ (s : State). AreApart s.sessions) (sym behind.same) living.apart;
+    few = few;
+    waits = subst NoneWaits (sym behind.same) (all_waits plan journal kept.faithful kept.sessions);
+    room = room;
+    called = called;
+    may = may;
+  }
+
+-- *Due turns may be taken*
+pub turns_may_be : DueTurnsMayBe
+turns_may_be plan journal server actor turn runs kept behind room is called = turn_may plan journal server actor turn runs kept behind room (comes plan journal actor turn is) called

@@ -1,0 +1,149 @@
+-- A journal that a run keeps is kept with the turn that is due.
+use Rattle.std.proofs.Common.{◌≡◌, ◌≢◌, ℕ, ◌+◌, ◌<◌, false, not, List, [], Option, Some, None, refl, sym, ap, ◌∙◌, subst, arith}
+use Rattle.std.proofs.lemmas.Bool.{true≢false, false≢true}
+use Rattle.std.proofs.lemmas.Option.{none-some}
+use Rattle.base_script.specs.declared.actor.Actor.{Actor}
+use Rattle.base_script.specs.declared.actor.Actor.TheVariants.{Op, Insp, Copy, Apply, Lock, Ren, Client}
+use Rattle.server_model.specs.Along.{Along-more}
+use Rattle.server_model.specs.declared.entry.Asked.{Asked}
+use Rattle.server_model.specs.declared.entry.Asked.TheVariants.{Call, Poll, Command, Cut}
+use Rattle.server_model.specs.declared.entry.Entry.{Entry}
+use Rattle.server_model.specs.Entries.{is_client, is_command, is_cut}
+use Rattle.server_model.specs.States.{State}
+use Rattle.server_model.specs.Serving.{given_at}
+use Rattle.plan_data.specs.PlanData.{PlanData}
+use Rattle.tool_program.specs.JournalWords.Journals.{opening, state_at, after_entry, inner_answer, heard, missed, may_lose, IsAnswered}
+use Rattle.tool_program.specs.JournalWords.Keeping.{side_due, TakesNext, IsStruck, IsPlanned}
+use Rattle.tool_program.specs.JournalWords.Sessions.{live_session, sessions_named, IsInSession, IsNumbered, NumbersSessions}
+use Rattle.tool_program.specs.Programs.{given, IsGiven, IsFollowed}
+use Rattle.proof_journals.specs.RunLaws.Counting.{IsAfter}
+use Rattle.proof_journals.specs.RunLaws.Kept.{IsKept}
+use Rattle.proof_journals.specs.RunLaws.Laws.{Living}
+use Rattle.proof_journals.proofs.RunLaws.Keeping.{kept_more, next_of}
+use Rattle.proof_journals.proofs.Journals.{state_more}
+use Rattle.proof_journals.proofs.RunLaws.Living.{all_living}
+use Rattle.run_turns.specs.declared.due_turns.migration_run.turn.Turn.{Turn}
+use Rattle.run_turns.specs.DueTurns.MigrationRun.Turning.{answer_on, entry_on}
+use Rattle.run_turns.specs.DueTurns.Due.{session_at, next_entry}
+use Rattle.run_turns.specs.DueTurns.Laws.{IsKeptWith, DueTurnsAreKept, DueTurnsAreNumbered}
+use Rattle.run_turns.proofs.DueTurns.Coming.{Comes, Cuts, Gives, comes, Asks, Commands, Called, given_asks, given_uncut, operator_unstruck, Lives, cut_lives}
+use Rattle.run_turns.proofs.DueTurns.Serving.{answers_same, after_more}
+
+module _ (plan : PlanData) (journal : List Entry) (server : State) (actor : Actor) (turn : Turn) (kept : IsKept plan journal) (behind : IsAfter (state_at plan journal) server) (comes_so : Comes plan journal actor turn) where
+  abbrev session : ℕ
+  session = session_at turn.asked (live_session journal turn.actor) server.made
+
+  abbrev entry : Entry
+  entry = entry_on server session turn
+
+  -- THE ANSWER
+
+  unlost : (word : Asked) → turn.asked ≡ word → may_lose word ≡ false → turn.side ≡ None
+  unlost word is lost = by comes_so
+    where
+      by : Comes plan journal actor turn → turn.side ≡ None
+      by (Cuts at none cut) = none
+      by (Gives none same gives side) = asks (given_asks plan journal turn.actor turn.asked gives)
+        where
+          asks : Asks turn.actor turn.asked → turn.side ≡ None
+          asks (Commands word own same) = side ∙ ap (side_due plan journal) own ∙ operator_unstruck plan journal
+          asks (Called called) = absurd (false≢true (sym lost ∙ ap may_lose (sym is) ∙ called))
+
+  same_answer : answer_on server session turn ≡ inner_answer (state_at plan journal) entry
+  unfolding entry_on inner_answer
+  same_answer = ap (given_at turn.side turn.asked) (answers_same (state_at plan journal) server (is_command turn.asked) (not (is_client turn.actor)) session turn.asked behind)
+
+  answered : IsAnswered (state_at plan journal) entry
+  unfolding entry_on
+  answered = record { sides = λ lost. unlost turn.asked refl lost; answer = ap (heard turn.side) same_answer; missed = ap (missed turn.side) same_answer }
+
+  -- THE PLAN
+
+  cut_next : (one : Actor) → TakesNext plan journal one Cut
+  cut_next (Client client) = tt
+  cut_next Op = tt
+  cut_next Insp = tt
+  cut_next Copy = tt
+  cut_next Apply = tt
+  cut_next Lock = tt
+  cut_next Ren = tt
+
+  planned : IsPlanned plan journal entry
+  unfolding entry_on
+  planned = by comes_so
+    where
+      cuts_not : (asked : Asked) → is_cut asked ≡ false → asked ≢ Cut
+      cuts_not asked uncut same = false≢true (sym uncut ∙ ap is_cut same)
+
+      by : Comes plan journal actor turn → IsPlanned plan journal entry
+      by (Cuts at none cut) = record { next = subst (TakesNext plan journal turn.actor) (sym cut) (cut_next turn.actor); struck = subst (IsStruck plan journal entry) (sym at) (refl, cut, none) }
+      by (Gives none same gives side) =
+          record { next = next_of plan journal turn.actor turn.asked gives; struck = subst (IsStruck plan journal entry) (sym none) (cuts_not turn.asked (given_uncut plan journal turn.actor turn.asked gives), side) }
+
+  -- THE PROGRAM
+
+  living : Living journal (state_at plan journal)
+  living = all_living plan journal kept.faithful kept.sessions
+
+  new_number : sessions_named journal < server.made + 1
+  new_number = let named : (state_at plan journal).made ≡ sessions_named journal = living.named in omega (arith, named, behind.made)
+
+  given_of : (asked : Asked) → given plan journal turn.actor ≡ Some asked → IsGiven plan journal entry asked
+  unfolding entry_on
+  given_of (Call request) is = is
+  given_of Poll is = is
+  given_of (Command word) is = is
+  given_of Cut is = tt
+
+  follows_given : IsGiven plan journal entry turn.asked
+  follows_given = by comes_so
+    where
+      by : Comes plan journal actor turn → IsGiven plan journal entry turn.asked
+      by (Cuts at none cut) = subst (IsGiven plan journal entry) (sym cut) tt
+      by (Gives none same gives side) = given_of turn.asked gives
+
+  cut_session : turn.asked ≡ Cut → Lives journal turn.actor
+  cut_session cut = by comes_so
+    where
+      by : Comes plan journal actor turn → Lives journal turn.actor
+      by (Cuts at none same) = cut_lives plan journal turn.actor at
+      by (Gives none same gives side) = absurd (true≢false (ap is_cut (sym cut) ∙ given_uncut plan journal turn.actor turn.asked gives))
+
+  seated : (asked : Asked) (live : Option ℕ) → (asked ≡ Cut → live ≢ None) → entry.session ≡ session_at asked live server.made → IsInSession journal entry asked live
+  seated (Command word) (Some own) lives is = is
+  seated (Command word) None lives is = is
+  seated (Call request) (Some own) lives is = is
+  seated (Call request) None lives is = subst (λ (n : ℕ). sessions_named journal < n) (sym is) new_number
+  seated Poll (Some own) lives is = is
+  seated Poll None lives is = subst (λ (n : ℕ). sessions_named journal < n) (sym is) new_number
+  seated Cut (Some own) lives is = is
+  seated Cut None lives is = lives refl refl
+
+  followed : IsFollowed plan journal entry
+  unfolding entry_on
+  followed = record { given = follows_given; session = seated turn.asked (live_session journal turn.actor) (λ cut none. none-some (cut_session cut).number (sym none ∙ (cut_session cut).is)) refl }
+
+  pub turn_kept : IsKeptWith plan journal server entry
+  turn_kept = record {
+    kept = kept_more plan journal entry kept answered planned followed;
+    behind = subst (λ (s : State). IsAfter s (after_entry server entry)) (sym (state_more (opening plan) journal entry)) (after_more (state_at plan journal) server entry behind);
+  }
+
+-- *Due turns are kept*
+pub turns_kept : DueTurnsAreKept
+turns_kept plan journal server actor turn kept behind is = turn_kept plan journal server actor turn kept behind (comes plan journal actor turn is)
+
+numbered_so : (journal : List Entry) (entry : Entry) (made : ℕ) (asked : Asked) (live : Option ℕ) → made ≡ sessions_named journal → entry.session ≡ session_at asked live made → IsNumbered journal entry asked live
+numbered_so journal entry made (Command word) live named is = tt
+numbered_so journal entry made Cut live named is = tt
+numbered_so journal entry made (Call request) (Some own) named is = tt
+numbered_so journal entry made (Call request) None named is = is ∙ ap (λ (n : ℕ). n + 1) named
+numbered_so journal entry made Poll (Some own) named is = tt
+numbered_so journal entry made Poll None named is = is ∙ ap (λ (n : ℕ). n + 1) named
+
+-- *Sessions are numbered one by one*
+pub turns_numbered : DueTurnsAreNumbered
+unfolding NumbersSessions entry_on
+turns_numbered plan journal turn kept numbers =
+    Along-more (λ (before : List Entry) (entry : Entry). IsNumbered before entry entry.asked (live_session before entry.actor)) [] journal (next_entry journal (state_at plan journal) turn) numbers
+    (numbered_so journal (next_entry journal (state_at plan journal) turn) (state_at plan journal).made turn.asked (live_session journal turn.actor) (all_living plan journal kept.faithful kept.sessions).named refl)

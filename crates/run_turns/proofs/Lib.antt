@@ -1,0 +1,3 @@
+mod Steps
+pub mod RunTurns
+pub mod DueTurns

@@ -1,0 +1,42 @@
+-- What a step reads of the server that stands behind the journal.
+use Rattle.std.proofs.Common.{◌≡◌, ◌<◌, ℕ, ◌+◌, Bool, true, false, ◌||◌, List, [], ◌∷◌, ◌++◌, length, Option, Some, None, refl, sym, ap, ◌∙◌, subst, arith}
+use Rattle.std.specs.Prelude.{is_some, nat_le, Result, Ok, Err, OnOk, OnErr}
+use Rattle.std.proofs.lemmas.Bool.{true≢false, leb-false}
+use Rattle.base_script.specs.declared.actor.Actor.{Actor}
+use Rattle.server_model.specs.declared.entry.Entry.{Entry}
+use Rattle.server_model.specs.States.{State}
+use Rattle.plan_data.specs.PlanData.{PlanData}
+use Rattle.tool_program.specs.JournalWords.Journals.{state_at, after_entry}
+use Rattle.tool_program.specs.Programs.{waits}
+use Rattle.tool_program.specs.Tools.{moment}
+use Rattle.tool_program.specs.Verdicts.{has_ended}
+use Rattle.proof_journals.specs.RunLaws.Counting.{IsAfter}
+use Rattle.proof_journals.proofs.RunLaws.Taking.{server_is}
+use Rattle.run_turns.specs.declared.due_turns.migration_run.turn.Turn.{Turn}
+use Rattle.run_turns.specs.DueTurns.Due.{due, next_entry}
+use Rattle.run_state.proofs.Givens.{waits_same}
+use Rattle.run_turns.specs.Runs.{RunView, is_over, TakesTurn, IsUnmoved}
+
+-- it stands behind the moment's
+pub after_moment : (plan : PlanData) (journal : List Entry) (server : State) → IsAfter (state_at plan journal) server → IsAfter (moment plan journal).server server
+after_moment plan journal server behind = subst (λ (s : State). IsAfter s server) (sym (server_is plan journal)) behind
+
+-- the same sessions wait
+pub waits_after : (told server : State) (session : Option ℕ) → IsAfter told server → waits server session ≡ waits told session
+waits_after told server session behind = ap (λ (s : State). waits s session) behind.same ∙ waits_same server.made told session
+
+pub none_some : {A : Type 0} (x : Option A) → is_some x ≡ false → x ≡ None
+none_some None is = refl
+none_some (Some x) is = absurd (true≢false is)
+
+-- a run that isn't over has room for a turn more
+room_at : (ended : Bool) (count limit : ℕ) → (ended || nat_le limit count) ≡ false → count < limit
+room_at true count limit is = absurd (true≢false is)
+room_at false count limit is = leb-false limit count is
+
+pub has_room : (plan : PlanData) (journal : List Entry) → is_over plan journal ≡ false → length journal < plan.options.turn_limit
+unfolding is_over
+has_room plan journal is = room_at (has_ended plan journal) (length journal) plan.options.turn_limit is
+
+pub few_more : (count limit : ℕ) → limit < 4294967296 → nat_le limit count ≡ false → count + 1 < 4294967296
+few_more count limit few less = let below : count < limit = leb-false limit count less in omega (arith, few, below)

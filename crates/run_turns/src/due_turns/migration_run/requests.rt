@@ -1,0 +1,67 @@
+//! What one turn asks of the server.
+
+ghost use Rattle.std.specs.Prelude.{◌≡◌, None, IfOk, OnOk, OnErr};
+ghost use Rattle.server_model.specs.declared.answer.Answer.TheVariants.{Lost};
+ghost use Rattle.server_model.specs.Serving.{serves, leaves, given_at};
+ghost use Rattle.tool_program.specs.JournalWords.Journals.{heard, missed};
+ghost use Rattle.run_turns.specs.DueTurns.MigrationRun.Asking.{MayAsk};
+
+use base_script::Side;
+use server_api::Serve;
+use server_model::{Answer, Asked};
+use std::alloc::AllocError;
+
+/// What an actor hears of the server's answer, and what it misses.
+#[derive(Drop)]
+pub struct Heard {
+    /// The answer; `Lost` where the session was lost.
+    pub answer: Answer,
+    /// The answer that nobody heard, where the session was lost behind it.
+    pub missed: Option<Answer>,
+}
+
+/// The actor hears the answer.
+fn told(answer: Answer) -> Heard
+    ensures answer { result.answer ≡ answer }
+    ensures missed { result.missed ≡ None }
+{
+    Heard {
+        answer,
+        missed: None,
+    }
+}
+
+/// The session is lost, and nobody hears the answer.
+fn lost(side: Option<Side>, inner: Option<Answer>) -> Heard
+    ensures answer { result.answer ≡ Lost }
+    ensures missed { result.missed ≡ missed side inner }
+{
+    Heard {
+        answer: Answer::Lost,
+        missed: match side {
+            Some(Side::After) => inner,
+            _ => None,
+        },
+    }
+}
+
+/// Asks in the session, which may be lost in the turn. Where there is no memory, the server is as before.
+pub fn ask<V: Serve>(
+    server: &mut V,
+    session: u32,
+    side: Option<Side>,
+    asked: &Asked,
+) -> Result<Heard, AllocError>
+    requires { MayAsk (V.state server.old) session side asked.now }
+    ensures answer { IfOk result (λ told. told.answer ≡ heard side (given_at side asked.now (serves (V.state server.old) session asked.now).answer)) }
+    ensures missed { IfOk result (λ told. told.missed ≡ missed side (given_at side asked.now (serves (V.state server.old) session asked.now).answer)) }
+    ensures ok { OnOk result (V.state server.new ≡ leaves side (V.state server.old) session asked.now) }
+    ensures err { OnErr result (V.state server.new ≡ V.state server.old) }
+{
+    match (side, asked) {
+        (None, Asked::Call(request)) => Ok(told(server.call(session, request)?)),
+        (None, Asked::Poll) => Ok(told(server.poll(session)?)),
+        (None, Asked::Command(_)) => Ok(told(Answer::Ok(0))),
+        _ => Ok(lost(side, server.lose(session, side, asked)?)),
+    }
+}

@@ -1,0 +1,103 @@
+//! One turn in a session.
+
+ghost use Rattle.std.specs.Prelude.{◌≡◌, ◌≤◌, ℕ, Bool, true, false, Some, None, IfOk, OnOk, OnErr};
+ghost use Rattle.server_model.specs.States.{State, connected, is_live, is_waiting, has_work};
+ghost use Rattle.server_model.specs.Serving.{serves, leaves, given_at};
+ghost use Rattle.tool_program.specs.JournalWords.Journals.{after_entry, heard, missed};
+ghost use Rattle.proof_journals.specs.RunLaws.Counting.{IsAfter, kind_of};
+ghost use Rattle.run_turns.specs.DueTurns.MigrationRun.Asking.{MayAsk};
+ghost use Rattle.run_turns.specs.DueTurns.MigrationRun.Turning.{session_for, made_for, entry_on, counts_of, MayTurn};
+
+use crate::due_turns::migration_run::counting::{Counts, has_work, share_after, share_of};
+use crate::due_turns::migration_run::opening::{close_session, open_session};
+use crate::due_turns::migration_run::requests::{Heard, ask};
+use crate::due_turns::migration_run::turn::Turn;
+use server_api::Serve;
+use server_model::Entry;
+use std::alloc::AllocError;
+
+/// A turn that was taken in a session.
+#[derive(Drop)]
+pub struct Taken {
+    /// Its entry.
+    pub entry: Entry,
+    /// Whether the session had a transaction, a table lock or a wait before it.
+    pub had_work: bool,
+    /// The counts behind it.
+    pub counts: Counts,
+}
+
+/// The entry of a turn in this session, with what its actor heard.
+fn entry_of(turn: Turn, session: u32, heard: Heard) -> Entry
+    ensures actor { result.actor ≡ turn.actor }
+    ensures session { result.session ≡ session }
+    ensures asked { result.asked ≡ turn.asked }
+    ensures side { result.side ≡ turn.side }
+    ensures answer { result.answer ≡ heard.answer }
+    ensures missed { result.missed ≡ heard.missed }
+{
+    Entry {
+        actor: turn.actor,
+        session,
+        side: turn.side,
+        answer: heard.answer,
+        missed: heard.missed,
+        asked: turn.into_asked(),
+    }
+}
+
+/// Asks in the session of a turn, of this number. Where there is no memory, the server is as before; a session that was opened
+/// for the turn, since its actor had none, is lost again.
+fn ask_in<V: Serve>(
+    server: &mut V,
+    session: Option<u32>,
+    number: u32,
+    turn: &Turn,
+) -> Result<Heard, AllocError>
+    requires may { MayAsk (V.state server.old) number turn.now.side turn.now.asked }
+    requires live { is_live (V.state server.old) number ≡ true }
+    ensures answer { IfOk result (λ told. told.answer ≡ heard turn.now.side (given_at turn.now.side turn.now.asked (serves (V.state server.old) number turn.now.asked).answer)) }
+    ensures missed { IfOk result (λ told. told.missed ≡ missed turn.now.side (given_at turn.now.side turn.now.asked (serves (V.state server.old) number turn.now.asked).answer)) }
+    ensures ok { OnOk result (V.state server.new ≡ leaves turn.now.side (V.state server.old) number turn.now.asked) }
+    ensures own { OnErr result ((own : ℕ) → session ≡ Some own → V.state server.new ≡ V.state server.old) }
+    ensures new { OnErr result (session ≡ None → (told : State) (is_tool : Bool) → kind_of number told.sessions ≡ None → is_waiting told number ≡ false → IsAfter (connected number is_tool told) (V.state server.old) → IsAfter told (V.state server.new)) }
+    ensures made { OnErr result ((V.state server.new).made ≡ (V.state server.old).made) }
+{
+    match (ask(server, number, turn.side, &turn.asked), session) {
+        (Ok(heard), _) => Ok(heard),
+        (Err(error), Some(_)) => Err(error),
+        (Err(error), None) => {
+            close_session(server, number);
+            Err(error)
+        }
+    }
+}
+
+/// Takes a turn in the actor's session, or in a new one where it has none. Where there is no memory, the server is as before,
+/// but for the number of a session that was opened for the turn and is lost again.
+pub fn take_turn<V: Serve>(
+    server: &mut V,
+    session: Option<u32>,
+    counts: Counts,
+    turn: Turn,
+) -> Result<Taken, AllocError>
+    requires may { MayTurn (V.state server.old) session turn }
+    requires counts { counts ≡ counts_of (V.state server.old) }
+    ensures entry { IfOk result (λ taken. taken.entry ≡ entry_on (V.state server.old) (session_for session (V.state server.old).made) turn) }
+    ensures work { IfOk result (λ taken. taken.had_work ≡ has_work (V.state server.old) (session_for session (V.state server.old).made)) }
+    ensures counts { IfOk result (λ taken. taken.counts ≡ counts_of (V.state server.new)) }
+    ensures ok { OnOk result (V.state server.new ≡ after_entry (V.state server.old) (entry_on (V.state server.old) (session_for session (V.state server.old).made) turn)) }
+    ensures err { OnErr result (IsAfter (V.state server.old) (V.state server.new)) }
+    ensures made { (V.state server.new).made ≤ made_for session (V.state server.old).made }
+{
+    let number = open_session(server, session, turn.actor)?;
+    let had_work = has_work(server, number);
+    let before = share_of(server, turn.actor, number);
+    let heard = ask_in(server, session, number, &turn)?;
+    let after = share_after(server, &turn, number);
+    Ok(Taken {
+        entry: entry_of(turn, number, heard),
+        had_work,
+        counts: counts.behind(before, after),
+    })
+}

@@ -1,0 +1,210 @@
+//! A run.
+
+ghost use Rattle.std.specs.Prelude.{◌≡◌, ◌≤◌, ◌+◌, ◌<◌, ◌^◌, [], length, is_some, true, false, IfOk, OnOk, OnErr};
+ghost use Rattle.tool_program.specs.JournalWords.Journals.{opening, state_at, IsFaithful};
+ghost use Rattle.tool_program.specs.JournalWords.Keeping.{cut_due, KeepsPlan};
+ghost use Rattle.tool_program.specs.JournalWords.Sessions.{live_session, KeepsSessions};
+ghost use Rattle.tool_program.specs.Orders.{is_ready};
+ghost use Rattle.tool_program.specs.Programs.{waits, Follows};
+ghost use Rattle.tool_program.specs.Verdicts.{has_ended, verdict_of};
+ghost use Rattle.proof_journals.specs.MachineLaws.Runnable.{IsRunnable};
+ghost use Rattle.proof_journals.specs.RunLaws.Counting.{IsAfter};
+ghost use Rattle.run_turns.specs.DueTurns.Due.{due};
+ghost use Rattle.run_turns.specs.Runs.{is_over, TakesTurn, IsUnmoved, Steps};
+
+use crate::due::{due, is_due};
+use crate::run_turns::take;
+use base_script::Actor;
+use plan_data::Plan;
+use run_state::RunState;
+use server_api::Serve;
+use server_model::{Entry, Journal, Verdict};
+use std::alloc::{AllocError, Global};
+use std::marker::Model;
+
+/// What became of a step.
+#[derive(Clone, Copy)]
+pub enum Stepped {
+    /// A turn was taken: the journal has one entry more.
+    Took,
+    /// Nothing: nothing is given to the actor, and no loss is due.
+    Idle,
+    /// Nothing: the run has ended, or has as many turns as the plan allows.
+    Over,
+    /// There was no memory for the turn, and none was taken.
+    NoMemory,
+}
+
+/// A run of a plan on a server: turns are taken one by one, and each of them is written into the journal.
+#[derive(Drop)]
+pub struct Run<'a, V: Serve> {
+    alloc: Global,
+    run_state: RunState<'a>,
+    server: V,
+    sessions: u32,
+}
+
+impl<'a, V: Serve> Model for Run<'a, V> {
+    ghost use Rattle.run_turns.specs.RunTurns.Running.{IsRun};
+    ghost use Rattle.run_turns.specs.Runs.{RunView};
+
+    ghost Value = { RunView };
+
+    ghost view = { λ r. record { plan = r.run_state.plan.now; journal = r.run_state.journal.items; server = V.state r.server } };
+
+    ghost invariant = { λ r. IsRun r.run_state.plan.now r.run_state.journal.items r.run_state r.sessions (V.state r.server) };
+}
+
+/// The journal of a book. It takes no memory.
+fn into_journal(run_state: RunState<'_>) -> Journal
+    ensures { result ≡ run_state.entry.journal.items }
+{
+    Journal::from_vec(run_state.journal)
+}
+
+impl<'a, V: Serve> Run<'a, V> {
+    /// A run of the plan without turns, on a server at the plan's opening.
+    pub fn open(alloc: Global, plan: &'a Plan, server: V) -> Result<Run<'a, V>, AllocError>
+        requires runs { IsRunnable plan.now }
+        requires server { V.state server ≡ opening plan.now }
+        ensures { IfOk result (λ run. run ≡ record { plan = plan.now; journal = []; server = opening plan.now }) }
+    {
+        Ok(Run {
+            alloc,
+            run_state: RunState::open(alloc, plan)?,
+            server,
+            sessions: 0,
+        })
+    }
+
+    /// Whether the actor is ready: something is given to it. It takes no memory.
+    #[tactic(auto, using(crate::proofs::Steps::after_moment))]
+    pub fn ready(&self, actor: Actor) -> bool
+        ensures { result ≡ is_ready self.now.plan self.now.journal actor }
+    {
+        self.run_state.is_ready(&self.server, actor)
+    }
+
+    /// Whether the actor's request waits. It takes no memory.
+    #[tactic(auto, using(crate::proofs::Steps::waits_after))]
+    pub fn waiting(&self, actor: Actor) -> bool
+        ensures { result ≡ waits (state_at self.now.plan self.now.journal) (live_session self.now.journal actor) }
+    {
+        match self.run_state.session(actor) {
+            Some(session) => self.server.waits(session),
+            None => false,
+        }
+    }
+
+    /// Whether the tool and every client are over. It takes no memory.
+    pub fn ended(&self) -> bool
+        ensures { result ≡ has_ended self.now.plan self.now.journal }
+    {
+        self.run_state.has_ended()
+    }
+
+    /// The plan.
+    pub fn plan(&self) -> &Plan
+        ensures { result.now ≡ self.now.plan }
+    {
+        self.run_state.plan
+    }
+
+    /// Whether a loss between calls is due in the next turn, which a step of any actor takes. It takes no memory.
+    pub fn is_cut_due(&self) -> bool
+        ensures { result ≡ is_some (cut_due self.now.plan self.now.journal) }
+    {
+        self.run_state.cut_due().is_some()
+    }
+
+    /// Whether no further turn is taken: the run has ended, or has as many turns as the plan allows. It takes no memory.
+    #[tactic(auto, using(crate::proofs::Steps::few_more), unfolding(crate::specs::Runs::is_over))]
+    pub fn is_over(&self) -> bool
+        ensures over { result ≡ is_over self.now.plan self.now.journal }
+        ensures few { result ≡ false → length self.now.journal + 1 < 2 ^ 32 }
+    {
+        self.ended()
+            || self.run_state.plan.options().turn_limit as usize <= self.run_state.journal.len()
+    }
+
+    /// Takes the turn that is due.
+    #[tactic(auto, using(crate::proofs::Steps::after_moment, crate::proofs::Steps::has_room))]
+    fn take_due(&mut self, actor: Actor) -> Result<(), AllocError>
+        requires going { is_over self.old.plan self.old.journal ≡ false }
+        requires few { length self.old.journal + 1 < 2 ^ 32 }
+        requires due { is_some (due self.old.plan self.old.journal actor) ≡ true }
+        ensures ok { OnOk result (TakesTurn self.old actor self.new) }
+        ensures err { OnErr result (IsUnmoved self.old self.new) }
+    {
+        match due(self.alloc, &self.run_state, &self.server, actor)? {
+            None => unreachable!(),
+            Some(turn) => take(
+                self.alloc,
+                &mut self.server,
+                &mut self.sessions,
+                &mut self.run_state,
+                turn,
+            ),
+        }
+    }
+
+    /// Takes the turn that is due where the actor is to take one: a loss between calls, whosever session it takes, or else
+    /// the actor's turn with what is given to it. `NoMemory` leaves the run as it was, but for a session that the server may
+    /// have made for the turn and that is lost again; it comes too once the server gave its last number to a session.
+    #[tactic(auto, using(crate::proofs::Steps::after_moment, crate::proofs::Steps::none_some))]
+    pub fn step(&mut self, actor: Actor) -> Stepped
+        ensures { Steps self.old actor result self.new }
+    {
+        if self.is_over() {
+            return Stepped::Over;
+        }
+        if !is_due(&self.run_state, &self.server, actor) {
+            return Stepped::Idle;
+        }
+        match self.take_due(actor) {
+            Ok(()) => Stepped::Took,
+            Err(_) => Stepped::NoMemory,
+        }
+    }
+
+    /// How the migration ended, and why; unfinished until the run has ended.
+    pub fn verdict(&self) -> Result<Verdict, AllocError>
+        ensures { IfOk result (λ verdict. verdict ≡ verdict_of self.now.plan self.now.journal) }
+    {
+        self.run_state.verdict(self.alloc)
+    }
+
+    /// The turns so far. The server's answers are in them; each is a turn that the plan allows and that was given, in its
+    /// actor's session. It takes no memory.
+    pub fn journal(&self) -> &[Entry]
+        ensures turns { result.now ≡ self.now.journal }
+        ensures faithful { IsFaithful self.now.plan self.now.journal }
+        ensures planned { KeepsPlan self.now.plan self.now.journal }
+        ensures follows { Follows self.now.plan self.now.journal }
+        ensures sessions { KeepsSessions self.now.journal }
+        ensures bound { length self.now.journal ≤ self.now.plan.options.turn_limit }
+    {
+        self.run_state.journal.as_slice()
+    }
+
+    /// The server, behind the journal's turns. It takes no memory.
+    pub fn server(&self) -> &V
+        ensures server { V.state result.now ≡ self.now.server }
+        ensures behind { IsAfter (state_at self.now.plan self.now.journal) self.now.server }
+    {
+        &self.server
+    }
+
+    /// The server and the journal. It takes no memory.
+    pub fn stop(self) -> (V, Journal)
+        ensures server { V.state result.0 ≡ self.entry.server }
+        ensures turns { result.1 ≡ self.entry.journal }
+        ensures behind { IsAfter (state_at self.entry.plan self.entry.journal) self.entry.server }
+        ensures faithful { IsFaithful self.entry.plan self.entry.journal }
+        ensures planned { KeepsPlan self.entry.plan self.entry.journal }
+        ensures follows { Follows self.entry.plan self.entry.journal }
+        ensures bound { length self.entry.journal ≤ self.entry.plan.options.turn_limit }
+    {
+        (self.server, into_journal(self.run_state))
+    }
+}

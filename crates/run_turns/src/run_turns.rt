@@ -1,0 +1,8 @@
+//! One turn of a run that is due: all memory first, then the server's answer, then the book.
+
+mod answers;
+mod ranges;
+mod records;
+mod taking;
+
+pub use taking::take;

@@ -1,0 +1,43 @@
+//! A turn that is due, taken: all memory first, then the server's answer, then the book.
+
+ghost use Rattle.std.specs.Prelude.{◌≡◌, ◌+◌, ◌<◌, ◌^◌, [], ◌∷◌, ◌++◌, length, OnOk, OnErr};
+ghost use Rattle.tool_program.specs.JournalWords.Journals.{after_entry};
+ghost use Rattle.proof_journals.specs.RunLaws.Counting.{IsAfter};
+ghost use Rattle.run_turns.specs.DueTurns.Due.{next_entry};
+ghost use Rattle.run_turns.specs.RunTurns.Running.{IsDue, IsRun};
+
+use crate::due_turns::migration_run::Turn;
+use crate::run_turns::answers::serve_turn;
+use crate::run_turns::ranges::ahead_of;
+use crate::run_turns::records::keep;
+use run_state::RunState;
+use run_state::run_state_turns::reserve;
+use server_api::Serve;
+use std::alloc::{AllocError, Global};
+
+/// Takes the turn that is due. Where there is no memory, all is as before, but for a session that was made and is lost
+/// again.
+pub fn take<V: Serve>(
+    alloc: Global,
+    server: &mut V,
+    sessions: &mut u32,
+    run_state: &mut RunState<'_>,
+    turn: Turn,
+) -> Result<(), AllocError>
+    requires run { IsRun run_state.old.plan.now run_state.old.journal.items run_state.old sessions.old (V.state server.old) }
+    requires due { IsDue run_state.old.plan.now run_state.old.journal.items turn }
+    requires room { length run_state.old.journal.items < run_state.old.plan.now.options.turn_limit }
+    requires few { length run_state.old.journal.items + 1 < 2 ^ 32 }
+    ensures run { IsRun run_state.new.plan.now run_state.new.journal.items run_state.new sessions.new (V.state server.new) }
+    ensures plan { run_state.new.plan.now ≡ run_state.old.plan.now }
+    ensures journal { OnOk result (run_state.new.journal.items ≡ run_state.old.journal.items ++ next_entry run_state.old.journal.items (V.state server.old) turn ∷ []) }
+    ensures state { OnOk result (V.state server.new ≡ after_entry (V.state server.old) (next_entry run_state.old.journal.items (V.state server.old) turn)) }
+    ensures still { OnErr result (run_state.new.journal.items ≡ run_state.old.journal.items) }
+    ensures behind { OnErr result (IsAfter (V.state server.old) (V.state server.new)) }
+{
+    let ahead = ahead_of(alloc, run_state.plan, server.tables(), turn.actor)?;
+    reserve(run_state)?;
+    let taken = serve_turn(server, sessions, run_state, turn)?;
+    keep(run_state, ahead, taken);
+    Ok(())
+}

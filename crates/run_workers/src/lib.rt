@@ -1,0 +1,8 @@
+//! A run whose turns are taken by worker threads, at one desk. In `worker_run` the run as the book of that desk.
+#![tactic(auto)]
+
+mod runs;
+pub mod worker_run;
+
+pub use run_desk::turn_queue_workers::Ending;
+pub use runs::{Ran, run_by_workers};

@@ -1,0 +1,64 @@
+//! A run by worker threads.
+
+ghost use Rattle.std.specs.Prelude.{◌≡◌, ◌≤◌, [], true, IfOk};
+ghost use Rattle.run_desk.specs.declared.turn_queue_workers.ending.Ending.TheVariants.{Over};
+ghost use Rattle.tool_program.specs.JournalWords.Journals.{opening, state_at};
+ghost use Rattle.tool_program.specs.JournalWords.Sessions.{NumbersSessions};
+ghost use Rattle.tool_program.specs.Orders.{RunOrder};
+ghost use Rattle.proof_journals.specs.RunLaws.Kept.{IsKept};
+ghost use Rattle.run_turns.specs.Runs.{is_over, Stops};
+ghost use Rattle.run_workers.specs.WorkerRun.Workers.{IsGoing};
+ghost use Rattle.run_workers.specs.Passes.{IsByPasses};
+
+use crate::worker_run::{Turns, Worked};
+use base_edges::Gate;
+use run_desk::turn_queue_workers::{Ending, take_turns};
+use run_turns::Run;
+use server_api::Serve;
+use std::alloc::{AllocError, Global};
+use std::sync::Wait;
+use std::thread::Threads;
+
+/// What workers leave of a run.
+#[derive(Drop)]
+pub struct Ran<'a, V: Serve> {
+    /// The run.
+    pub run: Run<'a, V>,
+    /// The worker of each of its turns.
+    pub turns: Turns,
+    /// How the workers' turns ended.
+    pub ending: Ending,
+}
+
+/// Lets so many workers take the turns of a run, each in a thread of its own, until it is over or there is no memory for a turn;
+/// what is left is the run, and the worker of each of its turns. Workers wait for each other's turns at the desk.
+pub fn run_by_workers<'a, V: Serve + Send, R: Threads + Wait + Sync, G: Gate + Sync>(
+    rt: &R,
+    alloc: Global,
+    run: Run<'a, V>,
+    workers: u32,
+    gate: &G,
+) -> Result<Ran<'a, V>, AllocError>
+    requires some { 1 ≤ workers }
+    requires few { workers ≤ 16 }
+    requires going { IsGoing run.plan }
+    requires fresh { run.journal ≡ [] }
+    requires server { run.server ≡ opening run.plan }
+    ensures plan { IfOk result (λ ran. ran.run.plan ≡ run.entry.plan) }
+    ensures kept { IfOk result (λ ran. IsKept run.entry.plan ran.run.journal) }
+    ensures numbered { IfOk result (λ ran. NumbersSessions ran.run.journal) }
+    ensures stops { IfOk result (λ ran. Stops run.entry.plan ran.run.journal) }
+    ensures order { IfOk result (λ ran. RunOrder run.entry.plan ran.run.journal ran.turns.items workers) }
+    ensures passes { IfOk result (λ ran. IsByPasses ran.run.journal ran.turns.items workers) }
+    ensures over { IfOk result (λ ran. ran.ending ≡ Over → is_over run.entry.plan ran.run.journal ≡ true) }
+    ensures server { IfOk result (λ ran. ran.ending ≡ Over → ran.run.server ≡ state_at run.entry.plan ran.run.journal) }
+{
+    let worked = Worked::open(alloc, run, workers)?;
+    let done = take_turns(rt, alloc, worked, workers, gate)?;
+    let (run, turns) = done.shared_state.stop();
+    Ok(Ran {
+        run,
+        turns,
+        ending: done.ending,
+    })
+}

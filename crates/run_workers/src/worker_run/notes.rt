@@ -1,0 +1,84 @@
+//! What is noted of the turns that workers took.
+
+ghost use Rattle.std.specs.Prelude.{◌≡◌, ◌<◌, ◌+◌, ◌^◌, [], ◌∷◌, ◌++◌, length, vec_len, vec_capacity, slice_index};
+ghost use Rattle.server_model.specs.Entries.{is_cut};
+ghost use Rattle.run_workers.specs.WorkerRun.Workers.{places_after};
+
+use crate::worker_run::seats::{Member, Seat};
+use base_script::Actor;
+use server_model::{Asked, Entry};
+use std::marker::Model;
+
+/// A turn of a run: the worker that took it, and whose turn it was.
+#[derive(Drop)]
+pub struct WorkerTurn {
+    worker: u32,
+    actor: Actor,
+}
+
+impl Model for WorkerTurn {
+    ghost use Rattle.tool_program.specs.Orders.{WorkerTurn};
+
+    ghost Value = { WorkerTurn };
+
+    ghost view = { λ turn. record { worker = turn.worker; actor = turn.actor } };
+}
+
+/// The turns of a run, in order.
+pub type Turns = Vec<WorkerTurn>;
+
+impl WorkerTurn {
+    /// The number of the worker that took it, from 0.
+    pub fn worker(&self) -> u32
+        ensures { result ≡ self.now.worker }
+    {
+        self.worker
+    }
+
+    /// Whose turn it was.
+    pub fn actor(&self) -> Actor
+        ensures { result ≡ self.now.actor }
+    {
+        self.actor
+    }
+}
+
+/// The place from which the worker's rotation goes on; a worker beyond those that there are begins anew.
+pub(crate) fn place_from(places: &[usize], worker: u32) -> usize
+    ensures { result ≡ slice_index places.now worker }
+{
+    places.get(worker as usize).copied().unwrap_or(0)
+}
+
+/// Whether the turn is a loss between calls.
+fn is_cut(entry: &Entry) -> bool
+    ensures { result ≡ is_cut entry.now.asked }
+{
+    matches!(entry.asked, Asked::Cut)
+}
+
+/// Notes the worker's turn; behind an own actor's, but for a loss between calls, its rotation goes on from the next place.
+pub(crate) fn note(
+    turns: &mut Turns,
+    places: &mut [usize],
+    member: Member,
+    seat: Seat,
+    entry: &Entry,
+)
+    requires some { 0 < member.workers }
+    requires room { vec_len turns.old < vec_capacity turns.old }
+    requires places { length places.old ≡ member.workers }
+    requires next { seat.place + 1 < 2 ^ 64 }
+    ensures turns { turns.new.items ≡ turns.old.items ++ record { worker = member.worker; actor = entry.now.actor } ∷ [] }
+    ensures count { vec_len turns.new ≡ vec_len turns.old + 1 }
+    ensures room { vec_capacity turns.new ≡ vec_capacity turns.old }
+    ensures places { places.new ≡ places_after places.old member seat.place (is_cut entry.now.asked) }
+{
+    turns.push_reserved(WorkerTurn {
+        worker: member.worker,
+        actor: entry.actor,
+    });
+    if !is_cut(entry) && member.owns(seat.place) {
+        places[member.worker as usize] = seat.place + 1;
+    }
+}

@@ -1,0 +1,154 @@
+//! A run whose turns workers take.
+
+ghost use Rattle.std.specs.Prelude.{◌≡◌, ◌≢◌, ◌≤◌, ◌↔◌, ◌-◌, [], length, slice_get, Some, true, false, IfOk};
+ghost use Rattle.tool_program.specs.JournalWords.Journals.{opening, state_at};
+ghost use Rattle.run_desk.specs.declared.shared_state.Turned.TheVariants as turned;
+ghost use Rattle.run_workers.specs.WorkerRun.Workers.{IsGoing};
+ghost use Rattle.run_workers.specs.WorkerRun.WorkedRuns.{journal_of, listed, turns_of, WasOver, Works, IsWorkersRun};
+ghost use Rattle.run_turns.specs.Runs.{is_over};
+
+use crate::worker_run::choice::pick;
+use crate::worker_run::notes::{Turns, note, place_from};
+use crate::worker_run::seats::{Member, actor_count};
+use plan_data::Plan;
+use run_desk::{SharedState, Turned};
+use run_turns::{Run, Stepped};
+use server_api::Serve;
+use server_model::Entry;
+use std::alloc::{AllocError, Global};
+use std::marker::Model;
+
+/// What a worked run begins with, for the desk's contracts alone. No value of it is made.
+#[derive(Drop)]
+pub struct Opening {
+    /// The plan.
+    pub plan: Plan,
+    /// How many workers there are.
+    pub workers: u32,
+}
+
+/// A run whose turns workers take, each that of the actor that the rule gives its worker: its own next ready one in rotation,
+/// else the first ready one of others that doesn't wait, else the first one of others that waits.
+#[derive(Drop)]
+pub struct Worked<'a, V: Serve> {
+    run: Run<'a, V>,
+    workers: u32,
+    turns: Turns,
+    places: Vec<usize>,
+    is_short: bool,
+}
+
+impl<'a, V: Serve> Model for Worked<'a, V> {
+    ghost use Rattle.std.specs.Prelude.{vec_len, vec_capacity};
+    ghost use Rattle.run_workers.specs.WorkerRun.WorkedRuns.{WorkedView, listed, IsWorked};
+
+    ghost Value = { WorkedView };
+
+    ghost view = { λ worked. record { plan = worked.run.plan; workers = worked.workers; list = listed worked.turns.items worked.run.journal; is_short = worked.is_short } };
+
+    ghost invariant = { λ worked. IsWorked worked.run worked.workers worked.turns.items (vec_len worked.turns) (vec_capacity worked.turns) worked.places.items worked.is_short };
+}
+
+/// The entry of the last turn.
+fn last_entry<'r, V: Serve>(run: &'r Run<'_, V>) -> &'r Entry
+    requires { run.now.journal ≢ [] }
+    ensures { slice_get run.now.journal (length run.now.journal - 1) ≡ Some result.now }
+{
+    match run.journal().last() {
+        Some(entry) => entry,
+        None => unreachable!(),
+    }
+}
+
+impl<'a, V: Serve> Worked<'a, V> {
+    /// A run without turns, on a server at the plan's opening, for so many workers. The memory for the turns' workers is taken
+    /// here.
+    pub fn open(alloc: Global, run: Run<'a, V>, workers: u32) -> Result<Worked<'a, V>, AllocError>
+        requires some { 1 ≤ workers }
+        requires going { IsGoing run.plan }
+        requires fresh { run.journal ≡ [] }
+        requires server { run.server ≡ opening run.plan }
+        ensures { IfOk result (λ worked. worked ≡ record { plan = run.entry.plan; workers = workers; list = []; is_short = false }) }
+    {
+        let limit = run.plan().options().turn_limit;
+        Ok(Worked {
+            turns: Vec::with_capacity(alloc, limit as usize)?,
+            places: vec![in alloc; actor_count(&run); workers as usize]?,
+            run,
+            workers,
+            is_short: false,
+        })
+    }
+
+    /// Takes one turn for this worker, unless the run is over: a loss between calls that is due, whosever session it takes, or
+    /// else the turn of the actor that the rule gives the worker. Once there was no memory for a turn, none is taken any more.
+    pub fn take(&mut self, worker: u32) -> Turned
+        ensures over { (result ≡ turned.Over) ↔ WasOver self.old.plan (journal_of self.old.list) }
+        ensures works { Works self.old worker result self.new }
+    {
+        if self.run.is_over() {
+            return Turned::Over;
+        }
+        if self.is_short {
+            return Turned::NoMemory;
+        }
+        let member = Member {
+            workers: self.workers,
+            worker,
+        };
+        let from = place_from(self.places.as_slice(), worker);
+        let Some(seat) = pick(&self.run, member, from) else {
+            unreachable!()
+        };
+        match self.run.step(seat.actor) {
+            Stepped::Took => {
+                let entry = last_entry(&self.run);
+                note(
+                    &mut self.turns,
+                    self.places.as_mut_slice(),
+                    member,
+                    seat,
+                    entry,
+                );
+                Turned::Took
+            }
+            Stepped::NoMemory => {
+                self.is_short = true;
+                Turned::NoMemory
+            }
+            Stepped::Idle | Stepped::Over => unreachable!(),
+        }
+    }
+
+    /// The run, and the worker of each of its turns. It takes no memory.
+    pub fn stop(self) -> (Run<'a, V>, Turns)
+        ensures plan { result.0.plan ≡ self.entry.plan }
+        ensures journal { result.0.journal ≡ journal_of self.entry.list }
+        ensures turns { result.1.items ≡ turns_of self.entry.list }
+        ensures worked { IsWorkersRun self.entry.plan self.entry.workers self.entry.list }
+        ensures list { listed result.1.items result.0.journal ≡ self.entry.list }
+        ensures server { is_over result.0.plan result.0.journal ≡ true → result.0.server ≡ state_at result.0.plan result.0.journal }
+    {
+        (self.run, self.turns)
+    }
+}
+
+impl<'a, V: Serve> SharedState for Worked<'a, V> {
+    type Opening = Opening;
+
+    type Event = Entry;
+
+    ghost use Rattle.run_workers.specs.WorkerRun.WorkedRuns.{journal_of, WasOver, stays_over};
+
+    ghost opening = { λ worked. record { plan = worked.plan; workers = worked.workers } };
+
+    ghost entries = { λ worked. worked.list };
+
+    ghost is_over = { λ opening list. WasOver opening.plan (journal_of list) };
+
+    fn take_turn(&mut self, worker: u32) -> Turned {
+        self.take(worker)
+    }
+
+    ghost stays_over = { λ opening before after over. stays_over opening.plan before after over };
+}

@@ -1,9 +1,0 @@
-pub mod Columns
-pub mod Grammar
-pub mod Keys
-pub mod Lawful
-pub mod Parts
-pub mod PrintLaws
-pub mod RereadLaws
-pub mod AlterLaws
-pub mod Stored

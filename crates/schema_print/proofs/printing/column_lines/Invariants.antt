@@ -1,7 +1,0 @@
-use Rattle.std.proofs.Common.{◌≡◌, map, take}
-use Rattle.schema_print.specs.Printing.{column_line}
-use Rattle.schema_print.proofs.printing.column_lines.Given as goal
-
--- the lines so far
-abbrev pub invariant-loop-column : goal.invariant-loop-column
-invariant-loop-column l = l.lines ≡ map column_line (take l.column-index l.columns)

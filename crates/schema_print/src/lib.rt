@@ -1,6 +1,0 @@
-//! The text of a schema.
-#![tactic(auto)]
-
-mod printing;
-
-pub use printing::print_schema;

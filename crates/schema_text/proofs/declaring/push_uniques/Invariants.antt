@@ -1,8 +1,0 @@
-use Rattle.std.proofs.Common.{◌≡◌, ◌++◌, map, take}
-use Rattle.std.specs.Prelude.{filter}
-use Rattle.schema_text.specs.Declaring.{key_index}
-use Rattle.schema_text.proofs.declaring.push_uniques.Given as goal
-
--- the keys so far
-abbrev pub invariant-loop-key : goal.invariant-loop-key
-invariant-loop-key l = l.indexes ≡ l.fn.indexes ++ map (key_index l.names) (filter (λ key. key.is_unique) (take l.key-index l.keys))

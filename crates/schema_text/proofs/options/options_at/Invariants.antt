@@ -1,8 +1,0 @@
-use Rattle.std.proofs.Common.{◌≡◌, ◌-◌, [], length}
-use Rattle.table_words.specs.Listed.{gathered}
-use Rattle.schema_text.specs.Options.{with_option, option_at}
-use Rattle.schema_text.proofs.options.options_at.Given as goal
-
--- what is read from here on makes the same of what stands so far
-abbrev pub invariant-loop : goal.invariant-loop
-invariant-loop l = gathered option_at with_option (length l.words - l.counter) l.comment l.rest ≡ gathered option_at with_option (length l.words) [] l.fn.words

@@ -1,7 +1,0 @@
-use Rattle.std.proofs.Common.{◌≡◌, drop}
-use Rattle.script_reader.specs.Scope.{has_next_row}
-use Rattle.script_reader.proofs.scope.has_next_row.Given as goal
-
--- what stands from here on gives the answer to all
-abbrev pub invariant-loop-i : goal.invariant-loop-i
-invariant-loop-i l = has_next_row (drop l.i l.words) ≡ has_next_row l.words

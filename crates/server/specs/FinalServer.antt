@@ -1,0 +1,1 @@
+-- The final server over committed tables in pages, and open transactions over them.

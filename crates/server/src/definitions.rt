@@ -1,0 +1,84 @@
+//! Requests that change which tables stand, and LOCK TABLES.
+
+ghost use Rattle.std.specs.Prelude.{◌≡◌, ℕ, [], ◌∷◌, IfOk, OnOk, OnErr};
+ghost use Rattle.table_store.specs.Databases.{has_table, rename_tables};
+ghost use Rattle.server_model.specs.declared.request.Request.TheVariants as requests;
+ghost use Rattle.server_model.specs.Conditions.{IsWellFormed};
+ghost use Rattle.server_model.specs.Effects.{all_stand, created, defined, dropped, locks_if, renamed_or};
+ghost use Rattle.server_model.specs.Serving.{does};
+ghost use Rattle.server_model.specs.States.{State, pair_names};
+ghost use Rattle.server_transaction.specs.ServerData.Fitting.{NoneOf};
+ghost use Rattle.server.specs.Parts.{state_of, HaveWritten};
+
+use base_values::gho_schema::Schema;
+use base_values::{Name, Names};
+use server_api::paged_answers::{all_stand, refuses};
+use server_model::Answer;
+use server_sessions::live_sessions::Sessions;
+use server_transaction::server_data::Data;
+use std::alloc::AllocError;
+use table_store::{Pairs, RenameFault};
+
+/// LOCK TABLES .. WRITE.
+pub fn lock_tables<D: Data>(
+    store: &D,
+    all_sessions: &mut Sessions,
+    session: u32,
+    names: &Names,
+) -> Result<Answer, AllocError>
+    requires { HaveWritten (D.written store.now) all_sessions.old }
+    ensures answer { IfOk result (λ answer. answer ≡ (does (locks_if (all_stand names.now (D.committed store.now)) names.now) (state_of (D.committed store.now) all_sessions.old) session).answer) }
+    ensures ok { OnOk result (state_of (D.committed store.now) all_sessions.new ≡ (does (locks_if (all_stand names.now (D.committed store.now)) names.now) (state_of (D.committed store.now) all_sessions.old) session).after) }
+    ensures err { OnErr result (all_sessions.new ≡ all_sessions.old) }
+    ensures have { HaveWritten (D.written store.now) all_sessions.new }
+{
+    if !all_stand(store.tables(), names.as_slice()) {
+        return Ok(refuses(1146));
+    }
+    all_sessions.lock(session, names)?;
+    Ok(Answer::Ok(0))
+}
+
+/// CREATE TABLE.
+pub fn create<D: Data>(store: &mut D, schema: &Schema) -> Result<Answer, AllocError>
+    requires { IsWellFormed (D.committed store.old) (requests.Create schema.now) }
+    ensures answer { (all_sessions : State) (session : ℕ) → IfOk result (λ answer. answer ≡ (does (defined (created (has_table schema.now.name (D.committed store.old)) schema.now (D.committed store.old))) (state_of (D.committed store.old) all_sessions) session).answer) }
+    ensures ok { (all_sessions : State) (session : ℕ) → OnOk result (state_of (D.committed store.new) all_sessions ≡ (does (defined (created (has_table schema.now.name (D.committed store.old)) schema.now (D.committed store.old))) (state_of (D.committed store.old) all_sessions) session).after) }
+    ensures err { OnErr result (D.committed store.new ≡ D.committed store.old) }
+    ensures written { (session : ℕ) → D.written store.new session ≡ D.written store.old session }
+{
+    if store.tables().stands(&schema.name) {
+        return Ok(refuses(1050));
+    }
+    store.create(schema)?;
+    Ok(Answer::Ok(0))
+}
+
+/// DROP TABLE. It takes no memory.
+pub fn drop_table<D: Data>(store: &mut D, name: &Name) -> Answer
+    requires { (session : ℕ) → NoneOf (name.now ∷ []) (D.written store.old session) }
+    ensures answer { (all_sessions : State) (session : ℕ) → result ≡ (does (defined (dropped (has_table name.now (D.committed store.old)) name.now (D.committed store.old))) (state_of (D.committed store.old) all_sessions) session).answer }
+    ensures after { (all_sessions : State) (session : ℕ) → state_of (D.committed store.new) all_sessions ≡ (does (defined (dropped (has_table name.now (D.committed store.old)) name.now (D.committed store.old))) (state_of (D.committed store.old) all_sessions) session).after }
+    ensures written { (session : ℕ) → D.written store.new session ≡ D.written store.old session }
+{
+    if !store.tables().stands(name) {
+        return refuses(1051);
+    }
+    store.drop_table(name);
+    Answer::Ok(0)
+}
+
+/// RENAME TABLE, all pairs or none.
+pub fn rename<D: Data>(store: &mut D, pairs: &Pairs) -> Result<Answer, AllocError>
+    requires { (session : ℕ) → NoneOf (pair_names pairs.now) (D.written store.old session) }
+    ensures answer { (all_sessions : State) (session : ℕ) → IfOk result (λ answer. answer ≡ (does (defined (renamed_or (rename_tables pairs.now (D.committed store.old)))) (state_of (D.committed store.old) all_sessions) session).answer) }
+    ensures ok { (all_sessions : State) (session : ℕ) → OnOk result (state_of (D.committed store.new) all_sessions ≡ (does (defined (renamed_or (rename_tables pairs.now (D.committed store.old)))) (state_of (D.committed store.old) all_sessions) session).after) }
+    ensures err { OnErr result (D.committed store.new ≡ D.committed store.old) }
+    ensures written { (session : ℕ) → D.written store.new session ≡ D.written store.old session }
+{
+    match store.rename(pairs) {
+        Ok(()) => Ok(Answer::Ok(0)),
+        Err(RenameFault::Refused(reason)) => Ok(refuses(reason.number())),
+        Err(RenameFault::Memory) => Err(AllocError),
+    }
+}

@@ -1,0 +1,5 @@
+//! The final server over committed tables in pages, and open transactions over them.
+
+mod opening;
+
+pub use opening::{FinalServer, open_server};

@@ -1,0 +1,61 @@
+//! Losses of sessions.
+
+ghost use Rattle.std.specs.Prelude.{◌≡◌, ◌≢◌, Some, IfOk, IsOk, OnOk, OnErr};
+ghost use Rattle.base_script.specs.declared.actor.Side.TheVariants.{After};
+ghost use Rattle.server_model.specs.Conditions.{MayLose};
+ghost use Rattle.server_model.specs.Serving.{given_at, leaves, serves};
+ghost use Rattle.server.specs.Parts.{before_loss, state_of, GoTogether, HaveWritten};
+
+use crate::calls::{call, poll};
+use crate::commits::lose;
+use base_script::Side;
+use server_model::{Answer, Asked};
+use server_sessions::live_sessions::Sessions;
+use server_transaction::server_data::Data;
+use std::alloc::AllocError;
+
+/// What is done before the session is lost, and the answer that nobody hears.
+fn serve_before<D: Data>(
+    store: &mut D,
+    all_sessions: &mut Sessions,
+    session: u32,
+    side: Option<Side>,
+    asked: &Asked,
+) -> Result<Option<Answer>, AllocError>
+    requires together { GoTogether (D.committed store.old) (D.written store.old) all_sessions.old }
+    requires may { MayLose (state_of (D.committed store.old) all_sessions.old) session side asked.now }
+    ensures answer { IfOk result (λ answer. answer ≡ given_at side asked.now (serves (state_of (D.committed store.old) all_sessions.old) session asked.now).answer) }
+    ensures ok { OnOk result (state_of (D.committed store.new) all_sessions.new ≡ before_loss side (state_of (D.committed store.old) all_sessions.old) session asked.now) }
+    ensures err { OnErr result (state_of (D.committed store.new) all_sessions.new ≡ state_of (D.committed store.old) all_sessions.old) }
+    ensures have { HaveWritten (D.written store.new) all_sessions.new }
+    ensures free { side ≢ Some After → IsOk result }
+{
+    match (side, asked) {
+        (Some(Side::After), Asked::Call(request)) => {
+            Ok(Some(call(store, all_sessions, session, request)?))
+        }
+        (Some(Side::After), Asked::Poll) => Ok(Some(poll(store, all_sessions, session)?)),
+        _ => Ok(None),
+    }
+}
+
+/// The session is lost, before or after what it asks is done, or between calls.
+pub fn lose_session<D: Data>(
+    store: &mut D,
+    all_sessions: &mut Sessions,
+    session: u32,
+    side: Option<Side>,
+    asked: &Asked,
+) -> Result<Option<Answer>, AllocError>
+    requires together { GoTogether (D.committed store.old) (D.written store.old) all_sessions.old }
+    requires may { MayLose (state_of (D.committed store.old) all_sessions.old) session side asked.now }
+    ensures answer { IfOk result (λ answer. answer ≡ given_at side asked.now (serves (state_of (D.committed store.old) all_sessions.old) session asked.now).answer) }
+    ensures ok { OnOk result (state_of (D.committed store.new) all_sessions.new ≡ leaves side (state_of (D.committed store.old) all_sessions.old) session asked.now) }
+    ensures err { OnErr result (state_of (D.committed store.new) all_sessions.new ≡ state_of (D.committed store.old) all_sessions.old) }
+    ensures have { HaveWritten (D.written store.new) all_sessions.new }
+    ensures free { side ≢ Some After → IsOk result }
+{
+    let missed = serve_before(store, all_sessions, session, side, asked)?;
+    lose(store, all_sessions, session);
+    Ok(missed)
+}

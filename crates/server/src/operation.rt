@@ -1,0 +1,139 @@
+//! What a request does, once nobody blocks what it needs.
+
+ghost use Rattle.std.specs.Prelude.{◌≡◌, Bool, true, IfOk, OnOk, OnErr};
+ghost use Rattle.table_store.specs.Databases.{Database};
+ghost use Rattle.server_model.specs.Conditions.{IsWellFormed};
+ghost use Rattle.server_model.specs.Effects.{Rests, effect_within};
+ghost use Rattle.server_model.specs.Serving.{does, done};
+ghost use Rattle.server_model.specs.States.{is_in_transaction, session_of, view};
+ghost use Rattle.server.specs.Parts.{is_look, state_of, GoTogether, HaveWritten, MayDo};
+
+use crate::commits::{commit, roll_back};
+use crate::definitions::{create, drop_table, lock_tables, rename};
+use crate::results::{begin, begin_span, copy_row, statement};
+use server_api::paged_answers::{end_of_chunk, ends, refuses, tables_shown};
+use server_locks::row_locks::LockSet;
+use server_model::{Answer, Request};
+use server_sessions::live_sessions::Sessions;
+use server_transaction::server_data::Data;
+use std::alloc::AllocError;
+
+/// What is answered without a change: ends of keys, the log, and what stands or waits.
+fn look<D: Data>(
+    store: &D,
+    all_sessions: &Sessions,
+    request: &Request,
+) -> Result<Answer, AllocError>
+    requires look { is_look request.now ≡ true }
+    requires formed { IsWellFormed (D.committed store.now) request.now }
+    ensures { (busy : Bool) (seen : Database) → IfOk result (λ answer. effect_within busy seen (state_of (D.committed store.now) all_sessions.now) request.now ≡ Rests answer) }
+{
+    let alloc = all_sessions.allocator();
+    let tables = store.tables();
+    match request {
+        Request::Ends(table) => ends(alloc, tables, table),
+        Request::ChunkEnd {
+            table,
+            low,
+            top,
+            size,
+        } => end_of_chunk(alloc, tables, table, low, top, *size),
+        Request::LogEnd => Ok(Answer::At(all_sessions.log_end())),
+        Request::ReadLog {
+            position,
+            limit,
+            tables,
+        } => all_sessions.read_log(*position, *limit, tables),
+        Request::ShowTables => Ok(Answer::Tables(tables_shown(alloc, tables)?)),
+        Request::ShowWaiting => Ok(Answer::Waiting(all_sessions.waits_shown()?)),
+        _ => unreachable!(),
+    }
+}
+
+/// The request is done, where it is of tables that the session may use.
+fn do_inside<D: Data>(
+    store: &mut D,
+    all_sessions: &mut Sessions,
+    session: u32,
+    request: &Request,
+    locks: LockSet,
+) -> Result<Answer, AllocError>
+    requires together { GoTogether (D.committed store.old) (D.written store.old) all_sessions.old }
+    requires may { MayDo (state_of (D.committed store.old) all_sessions.old) session request.now locks }
+    ensures answer { IfOk result (λ answer. answer ≡ (does (effect_within (is_in_transaction (session_of session all_sessions.old.sessions)) (view session (state_of (D.committed store.old) all_sessions.old)) (state_of (D.committed store.old) all_sessions.old) request.now) (state_of (D.committed store.old) all_sessions.old) session).answer) }
+    ensures ok { OnOk result (state_of (D.committed store.new) all_sessions.new ≡ (does (effect_within (is_in_transaction (session_of session all_sessions.old.sessions)) (view session (state_of (D.committed store.old) all_sessions.old)) (state_of (D.committed store.old) all_sessions.old) request.now) (state_of (D.committed store.old) all_sessions.old) session).after) }
+    ensures err { OnErr result (state_of (D.committed store.new) all_sessions.new ≡ state_of (D.committed store.old) all_sessions.old) }
+    ensures have { HaveWritten (D.written store.new) all_sessions.new }
+{
+    match request {
+        Request::Begin => begin(store, all_sessions, session),
+        Request::Commit => {
+            commit(store, all_sessions, session);
+            Ok(Answer::Ok(0))
+        }
+        Request::Rollback => {
+            roll_back(store, all_sessions, session);
+            Ok(Answer::Ok(0))
+        }
+        Request::Do(told) => statement(store, all_sessions, session, request, told, locks),
+        Request::BeginSpan { table, span, size } => {
+            begin_span(
+                store,
+                all_sessions,
+                session,
+                request,
+                table,
+                span,
+                *size,
+                locks,
+            )
+        }
+        Request::CopyRow {
+            from,
+            into,
+            map,
+            key,
+        } => copy_row(
+            store,
+            all_sessions,
+            session,
+            request,
+            from,
+            into,
+            map,
+            key,
+            locks,
+        ),
+        Request::LockTables(names) => lock_tables(store, all_sessions, session, names),
+        Request::Unlock => {
+            all_sessions.unlock(session);
+            Ok(Answer::Ok(0))
+        }
+        Request::Create(schema) => create(store, schema),
+        Request::Drop(name) => Ok(drop_table(store, name)),
+        Request::Rename(pairs) => rename(store, pairs),
+        _ => look(store, all_sessions, request),
+    }
+}
+
+/// The request is done; it is refused with 1100 where the session holds LOCK TABLES and it names a table that isn't locked.
+pub fn do_request<D: Data>(
+    store: &mut D,
+    all_sessions: &mut Sessions,
+    session: u32,
+    request: &Request,
+    locks: LockSet,
+) -> Result<Answer, AllocError>
+    requires together { GoTogether (D.committed store.old) (D.written store.old) all_sessions.old }
+    requires may { MayDo (state_of (D.committed store.old) all_sessions.old) session request.now locks }
+    ensures answer { IfOk result (λ answer. answer ≡ (done (state_of (D.committed store.old) all_sessions.old) session request.now).answer) }
+    ensures ok { OnOk result (state_of (D.committed store.new) all_sessions.new ≡ (done (state_of (D.committed store.old) all_sessions.old) session request.now).after) }
+    ensures err { OnErr result (state_of (D.committed store.new) all_sessions.new ≡ state_of (D.committed store.old) all_sessions.old) }
+    ensures have { HaveWritten (D.written store.new) all_sessions.new }
+{
+    if all_sessions.is_outside(session, request) {
+        Ok(refuses(1100))
+    } else {
+        do_inside(store, all_sessions, session, request, locks)
+    }
+}

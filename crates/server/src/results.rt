@@ -1,0 +1,118 @@
+//! Requests of a transaction: statements, copies of rows, and its beginning.
+
+ghost use Rattle.std.specs.Prelude.{◌≡◌, [], true, IfOk, OnOk, OnErr};
+ghost use Rattle.table_store.specs.Databases.{find_table};
+ghost use Rattle.server_model.specs.declared.request.Request.TheVariants as requests;
+ghost use Rattle.server_model.specs.Answers.{ok};
+ghost use Rattle.server_model.specs.Effects.{begins, nothing_needed, result_effect};
+ghost use Rattle.server_model.specs.Jobs.{copy_job, job_says, says};
+ghost use Rattle.server_model.specs.Serving.{does, goes_on};
+ghost use Rattle.server_model.specs.States.{is_in_transaction, is_live, session_of, view};
+ghost use Rattle.server.specs.Parts.{needed, state_of, GoTogether, HaveWritten, MayDo};
+
+use crate::records::keep;
+use base_script::Statement;
+use base_values::row_conversion::ColumnMap;
+use base_values::{Key, Name, Sequence, Span};
+use server_api::paged_answers::{keys_of_span, refuses};
+use server_locks::row_locks::LockSet;
+use server_model::{Answer, Request};
+use server_sessions::live_sessions::Sessions;
+use server_transaction::server_data::Data;
+use std::alloc::AllocError;
+
+/// One statement.
+pub fn statement<D: Data>(
+    store: &mut D,
+    all_sessions: &mut Sessions,
+    session: u32,
+    request: &Request,
+    statement: &Statement,
+    locks: LockSet,
+) -> Result<Answer, AllocError>
+    requires together { GoTogether (D.committed store.old) (D.written store.old) all_sessions.old }
+    requires may { MayDo (state_of (D.committed store.old) all_sessions.old) session request.now locks }
+    requires request { request.now ≡ requests.Do statement.now }
+    ensures answer { IfOk result (λ answer. answer ≡ (says (view session (state_of (D.committed store.old) all_sessions.old)) statement.now).answer) }
+    ensures ok { OnOk result (state_of (D.committed store.new) all_sessions.new ≡ (does (result_effect (is_in_transaction (session_of session all_sessions.old.sessions)) (needed request.now locks) (says (view session (state_of (D.committed store.old) all_sessions.old)) statement.now)) (state_of (D.committed store.old) all_sessions.old) session).after) }
+    ensures err { OnErr result (state_of (D.committed store.new) all_sessions.new ≡ state_of (D.committed store.old) all_sessions.old) }
+    ensures have { HaveWritten (D.written store.new) all_sessions.new }
+{
+    let told = store.say(session, statement)?;
+    keep(store, all_sessions, session, request, locks, told)
+}
+
+/// INSERT IGNORE of the image of one row.
+pub fn copy_row<D: Data>(
+    store: &mut D,
+    all_sessions: &mut Sessions,
+    session: u32,
+    request: &Request,
+    from: &Name,
+    into: &Name,
+    map: &ColumnMap,
+    key: &Key,
+    locks: LockSet,
+) -> Result<Answer, AllocError>
+    requires together { GoTogether (D.committed store.old) (D.written store.old) all_sessions.old }
+    requires may { MayDo (state_of (D.committed store.old) all_sessions.old) session request.now locks }
+    requires request { request.now ≡ requests.CopyRow from.now into.now map.now key.now }
+    ensures answer { IfOk result (λ answer. answer ≡ (job_says (view session (state_of (D.committed store.old) all_sessions.old)) (copy_job (view session (state_of (D.committed store.old) all_sessions.old)) from.now into.now map.now key.now)).answer) }
+    ensures ok { OnOk result (state_of (D.committed store.new) all_sessions.new ≡ (does (result_effect (is_in_transaction (session_of session all_sessions.old.sessions)) (needed request.now locks) (job_says (view session (state_of (D.committed store.old) all_sessions.old)) (copy_job (view session (state_of (D.committed store.old) all_sessions.old)) from.now into.now map.now key.now))) (state_of (D.committed store.old) all_sessions.old) session).after) }
+    ensures err { OnErr result (state_of (D.committed store.new) all_sessions.new ≡ state_of (D.committed store.old) all_sessions.old) }
+    ensures have { HaveWritten (D.written store.new) all_sessions.new }
+{
+    let told = store.copy_row(session, from, into, map, key)?;
+    keep(store, all_sessions, session, request, locks, told)
+}
+
+/// BEGIN.
+pub fn begin<D: Data>(
+    store: &D,
+    all_sessions: &mut Sessions,
+    session: u32,
+) -> Result<Answer, AllocError>
+    requires live { is_live all_sessions.old session ≡ true }
+    requires have { HaveWritten (D.written store.now) all_sessions.old }
+    ensures answer { IfOk result (λ answer. answer ≡ ok) }
+    ensures ok { OnOk result (state_of (D.committed store.now) all_sessions.new ≡ goes_on session nothing_needed [] (state_of (D.committed store.now) all_sessions.old)) }
+    ensures err { OnErr result (all_sessions.new ≡ all_sessions.old) }
+    ensures have { HaveWritten (D.written store.now) all_sessions.new }
+{
+    let alloc = all_sessions.allocator();
+    all_sessions.go_on(
+        session,
+        &Request::Begin,
+        Sequence::new(alloc),
+        Sequence::new(alloc),
+    )?;
+    Ok(Answer::Ok(0))
+}
+
+/// Begins a transaction with the share lock on a span, and gives its keys.
+pub fn begin_span<D: Data>(
+    store: &D,
+    all_sessions: &mut Sessions,
+    session: u32,
+    request: &Request,
+    table: &Name,
+    span: &Span,
+    size: u32,
+    locks: LockSet,
+) -> Result<Answer, AllocError>
+    requires live { is_live all_sessions.old session ≡ true }
+    requires have { HaveWritten (D.written store.now) all_sessions.old }
+    ensures answer { IfOk result (λ answer. answer ≡ (does (begins (find_table table.now (D.committed store.now)) span.now size (needed request.now locks)) (state_of (D.committed store.now) all_sessions.old) session).answer) }
+    ensures ok { OnOk result (state_of (D.committed store.now) all_sessions.new ≡ (does (begins (find_table table.now (D.committed store.now)) span.now size (needed request.now locks)) (state_of (D.committed store.now) all_sessions.old) session).after) }
+    ensures err { OnErr result (all_sessions.new ≡ all_sessions.old) }
+    ensures have { HaveWritten (D.written store.now) all_sessions.new }
+{
+    let alloc = all_sessions.allocator();
+    match keys_of_span(alloc, store.tables(), table, span, size)? {
+        Some(answer) => {
+            all_sessions.go_on(session, request, locks, Sequence::new(alloc))?;
+            Ok(answer)
+        }
+        None => Ok(refuses(1146)),
+    }
+}

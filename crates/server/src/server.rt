@@ -1,0 +1,107 @@
+//! The server.
+
+ghost use Rattle.std.specs.Prelude.{◌≡◌, ◌≤◌, ℕ, []};
+ghost use Rattle.server_model.specs.States.{opened};
+ghost use Rattle.server_model.specs.StatementLaws.Databases.{IsWellFormedDatabase};
+
+use crate::calls::{call, poll};
+use crate::losses::lose_session;
+use base_script::Side;
+use base_values::Names;
+use server_api::Serve;
+use server_model::{Answer, Asked, Limits, Request};
+use server_sessions::live_sessions::Sessions;
+use server_transaction::server_data::Data;
+use std::alloc::{AllocError, Global};
+use std::marker::Model;
+use table_store::paged_tables::Tables;
+
+/// A server over any data. Contracts see the plain server's state.
+#[derive(Drop)]
+pub struct Server<D: Data> {
+    store: D,
+    all_sessions: Sessions,
+}
+
+impl<D: Data> Model for Server<D> {
+    ghost use Rattle.server_model.specs.States.{State};
+    ghost use Rattle.server.specs.Parts.{state_of, GoTogether};
+
+    ghost Value = { State };
+
+    ghost view = { λ s. state_of (D.committed s.store) s.all_sessions };
+
+    ghost invariant = { λ s. GoTogether (D.committed s.store) (D.written s.store) s.all_sessions };
+}
+
+impl<D: Data> Server<D> {
+    /// The server at its start, over data to which no transaction wrote yet. A wait may be polled once at least. How many
+    /// events are unread is known at once of the tables that are watched. It takes no memory.
+    pub fn open(alloc: Global, store: D, limits: Limits, watched: Names) -> Server<D>
+        requires clients { 1 ≤ limits.client_wait }
+        requires tools { 1 ≤ limits.tool_wait }
+        requires well_formed { IsWellFormedDatabase (D.committed store) }
+        requires unwritten { (session : ℕ) → D.written store session ≡ [] }
+        ensures { result ≡ opened limits (D.committed store) }
+    {
+        Server {
+            store,
+            all_sessions: Sessions::new(alloc, limits, watched),
+        }
+    }
+}
+
+impl<D: Data> Serve for Server<D> {
+    ghost state = { λ s. s };
+
+    fn connect(&mut self, is_tool: bool) -> Result<u32, AllocError> {
+        self.all_sessions.connect(is_tool)
+    }
+
+    fn call(&mut self, session: u32, request: &Request) -> Result<Answer, AllocError> {
+        call(&mut self.store, &mut self.all_sessions, session, request)
+    }
+
+    fn poll(&mut self, session: u32) -> Result<Answer, AllocError> {
+        poll(&mut self.store, &mut self.all_sessions, session)
+    }
+
+    fn lose(
+        &mut self,
+        session: u32,
+        side: Option<Side>,
+        asked: &Asked,
+    ) -> Result<Option<Answer>, AllocError> {
+        lose_session(
+            &mut self.store,
+            &mut self.all_sessions,
+            session,
+            side,
+            asked,
+        )
+    }
+
+    fn live(&self, session: u32) -> bool {
+        self.all_sessions.is_live(session)
+    }
+
+    fn waits(&self, session: u32) -> bool {
+        self.all_sessions.is_waiting(session)
+    }
+
+    fn in_transaction(&self, session: u32) -> bool {
+        self.all_sessions.is_in_transaction(session)
+    }
+
+    fn locked(&self, session: u32) -> bool {
+        self.all_sessions.holds_tables(session)
+    }
+
+    fn unread(&self, position: u64, tables: &Names) -> u64 {
+        self.all_sessions.unread(position, tables)
+    }
+
+    fn tables(&self) -> &Tables {
+        self.store.tables()
+    }
+}

@@ -1,0 +1,82 @@
+//! What the tool and the clients use of a server.
+
+ghost use Rattle.std.specs.Prelude.{◌≡◌, ◌≢◌, ◌+◌, ◌<◌, true, Some, IfOk, IsOk, OnOk, OnErr};
+ghost use Rattle.base_script.specs.declared.actor.Side.TheVariants.{After};
+ghost use Rattle.table_store.specs.Databases.{database};
+ghost use Rattle.server_model.specs.States.{State, connected, session_of, is_live, is_waiting, is_in_transaction, holds_tables, unread};
+ghost use Rattle.server_model.specs.Serving.{calls, polls, serves, leaves, given_at};
+ghost use Rattle.server_model.specs.Conditions.{MayCall, MayPoll, MayLose, is_free, is_freely_polled};
+
+use base_script::Side;
+use base_values::Names;
+use server_model::{Answer, Asked, Request};
+use std::alloc::AllocError;
+use table_store::paged_tables::Tables;
+
+/// A server whose answers are those of the plain server. Where there is no memory for a call, all is as before.
+pub trait Serve: Drop {
+    /// The plain server's state.
+    ghost state: { Self → State };
+
+    /// Makes a session, of the tool's or of a client's, and gives its number.
+    fn connect(&mut self, is_tool: bool) -> Result<u32, AllocError>
+        requires { (state self.old).made < u32.MAX }
+        ensures number { IfOk result (λ number. number ≡ (state self.old).made + 1) }
+        ensures ok { OnOk result (state self.new ≡ connected ((state self.old).made + 1) is_tool (state self.old)) }
+        ensures err { OnErr result (state self.new ≡ state self.old) };
+
+    /// Answers a request of a session. COMMIT, ROLLBACK and UNLOCK TABLES take no memory.
+    fn call(&mut self, session: u32, request: &Request) -> Result<Answer, AllocError>
+        requires { MayCall (state self.old) session request.now }
+        ensures answer { IfOk result (λ answer. answer ≡ (calls (state self.old) session request.now).answer) }
+        ensures ok { OnOk result (state self.new ≡ (calls (state self.old) session request.now).after) }
+        ensures err { OnErr result (state self.new ≡ state self.old) }
+        ensures free { is_free request.now ≡ true → IsOk result };
+
+    /// Tries the request of a session that waits once more. A poll of LOCK TABLES, CREATE, DROP or RENAME that stays
+    /// blocked takes no memory.
+    fn poll(&mut self, session: u32) -> Result<Answer, AllocError>
+        requires { MayPoll (state self.old) session }
+        ensures answer { IfOk result (λ answer. answer ≡ (polls (state self.old) session).answer) }
+        ensures ok { OnOk result (state self.new ≡ (polls (state self.old) session).after) }
+        ensures err { OnErr result (state self.new ≡ state self.old) }
+        ensures free { is_freely_polled (state self.old) session ≡ true → IsOk result };
+
+    /// Loses a session before or after what it asks is done, or between calls, and gives the answer that nobody hears.
+    /// A loss before a call or between calls takes no memory.
+    fn lose(
+        &mut self,
+        session: u32,
+        side: Option<Side>,
+        asked: &Asked,
+    ) -> Result<Option<Answer>, AllocError>
+        requires { MayLose (state self.old) session side asked.now }
+        ensures answer { IfOk result (λ answer. answer ≡ given_at side asked.now (serves (state self.old) session asked.now).answer) }
+        ensures ok { OnOk result (state self.new ≡ leaves side (state self.old) session asked.now) }
+        ensures err { OnErr result (state self.new ≡ state self.old) }
+        ensures free { side ≢ Some After → IsOk result };
+
+    /// Whether the session is live.
+    fn live(&self, session: u32) -> bool
+        ensures { result ≡ is_live (state self.now) session };
+
+    /// Whether the session's request waits.
+    fn waits(&self, session: u32) -> bool
+        ensures { result ≡ is_waiting (state self.now) session };
+
+    /// Whether the session is in a transaction.
+    fn in_transaction(&self, session: u32) -> bool
+        ensures { result ≡ is_in_transaction (session_of session (state self.now).sessions) };
+
+    /// Whether the session holds LOCK TABLES.
+    fn locked(&self, session: u32) -> bool
+        ensures { result ≡ holds_tables (session_of session (state self.now).sessions) };
+
+    /// How many events of these tables stand at the position or behind it.
+    fn unread(&self, position: u64, tables: &Names) -> u64
+        ensures { result ≡ unread (state self.now) position tables.now };
+
+    /// The committed tables.
+    fn tables(&self) -> &Tables
+        ensures { database result.now ≡ (state self.now).tables };
+}

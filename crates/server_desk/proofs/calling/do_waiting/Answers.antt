@@ -1,6 +1,0 @@
-use Rattle.std.proofs.Common.{ap}
-use Rattle.plain_server.specs.Serving.{without_waiting}
-use Rattle.server_desk.proofs.calling.do_waiting.Goals as goal
-
-pub returns-clause-ok : goal.returns-clause-ok
-returns-clause-ok g c = rw c.end_wait.ensures (ap (without_waiting c.args.session) c.in_ok-answer.ensures.ok)

@@ -1,5 +1,0 @@
-use Rattle.server_desk.proofs.Steps.{locks_have}
-use Rattle.server_desk.proofs.defining.lock_tables.Goals as goal
-
-pub returns-clause-have : goal.returns-clause-have
-returns-clause-have g c = locks_have (g.D.Data.written c.args.store.now) c.args.desk.now c.lock.new.self c.args.session c.args.names.now c.requires c.in_ok-lock.ensures.ok

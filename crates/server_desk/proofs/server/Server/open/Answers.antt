@@ -1,5 +1,0 @@
-use Rattle.server_desk.proofs.Steps.{opened_together}
-use Rattle.server_desk.proofs.server.Server.open.Goals as goal
-
-pub invariant_of-result : goal.invariant_of-result
-invariant_of-result g c = opened_together c.args.limits (g.D.Data.committed c.args.store) (g.D.Data.written c.args.store) c.new.result c.requires.orderly c.requires.unwritten c.new.ensures

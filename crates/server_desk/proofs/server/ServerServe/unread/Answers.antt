@@ -1,6 +1,0 @@
-use Rattle.std.proofs.Common.{◌∙◌, sym}
-use Rattle.server_desk.proofs.Steps.{unread_same}
-use Rattle.server_desk.proofs.server.ServerServe.unread.Goals as goal
-
-pub returns : goal.returns
-returns g c = rw (← c.self.view_is) (c.unread.ensures ∙ sym (unread_same (g.D.Data.committed c.self.inside.store) c.self.inside.desk c.args.position c.args.tables.now))

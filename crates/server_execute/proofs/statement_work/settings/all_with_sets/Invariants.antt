@@ -1,0 +1,7 @@
+use Rattle.std.proofs.Common.{◌≡◌, map, take}
+use Rattle.server_model.specs.Saying.{with_sets}
+use Rattle.server_execute.proofs.statement_work.settings.all_with_sets.Given as goal
+
+-- the new rows so far
+abbrev pub invariant-loop-row : goal.invariant-loop-row
+invariant-loop-row l = l.all ≡ map (with_sets l.sets) (take l.row-index l.rows)

@@ -1,0 +1,10 @@
+use Rattle.std.proofs.Common.{◌≡◌, drop}
+use Rattle.server_execute.proofs.UpdatedRows.{IsGoing}
+use Rattle.server_execute.proofs.updates.updates.Given as goal
+
+-- what is changed so far, and what is left
+abbrev pub invariant-loop-old : goal.invariant-loop-old
+invariant-loop-old l = record {
+  schema : l.written.schema ≡ l.seen.schema;
+  going : IsGoing l.seen.schema l.sets l.met l.seen.rows l.written.written l.all (drop l.old-index l.met);
+}

@@ -1,0 +1,123 @@
+//! What a statement says.
+
+ghost use Rattle.std.specs.Prelude.{◌≡◌, ◌∷◌, [], IfOk};
+ghost use Rattle.std.specs.List.{list_any};
+ghost use Rattle.base_values.specs.GhoSchema.Tables.{clash};
+ghost use Rattle.base_values.specs.declared.event.Change.TheVariants as changes;
+ghost use Rattle.server_model.specs.declared.answer.Answer.TheVariants as answers;
+ghost use Rattle.server_model.specs.declared.work.Work.TheVariants as works;
+ghost use Rattle.server_model.specs.Saying.{tells};
+ghost use Rattle.server_model.specs.StatementLaws.Covering.{IsWellFormedTable, IsSound};
+ghost use Rattle.server_execute.specs.ReadyResult.{as_result};
+
+use crate::changing::{ReadyResult, deletes, only};
+use crate::selection::selected;
+use crate::updates::updated;
+use base_values::{Change, Duplicate, Row, Sequence};
+use server_model::{Answer, Reach, Selection, Work};
+use server_prepare::refuses;
+use server_seen::SeenTable;
+use std::alloc::{AllocError, Global};
+
+/// Whether the new row clashes with one.
+#[tactic(auto, using(crate::proofs::ChangedRows::some_pass))]
+fn clashes(alloc: Global, seen: &SeenTable<'_>, row: &Row) -> Result<bool, AllocError>
+    ensures { IfOk result (λ clashes. clashes ≡ list_any (clash seen.now.schema.uniques row.now) seen.now.rows) }
+{
+    Ok(!seen.displaced(alloc, row)?.is_empty())
+}
+
+/// A row is written that clashes with none.
+fn one_written(alloc: Global, row: &Row) -> Result<ReadyResult, AllocError>
+    ensures { IfOk result (λ told. as_result told ≡ record { answer = answers.Ok 1; changes = changes.Write row.now ∷ [] }) }
+{
+    let mut changes = Sequence::new(alloc);
+    changes.push(Change::Write(row.copy()?))?;
+    Ok(ReadyResult {
+        answer: Answer::Ok(1),
+        changes,
+    })
+}
+
+/// What an INSERT says: 1062 where its row clashes with one.
+#[tactic(auto, unfolding(server_model::specs::Saying::tells))]
+fn insert(alloc: Global, seen: &SeenTable<'_>, row: &Row) -> Result<ReadyResult, AllocError>
+    ensures { IfOk result (λ told. as_result told ≡ tells seen.now.schema seen.now.rows (works.Insert row.now)) }
+{
+    if clashes(alloc, seen, row)? {
+        return Ok(only(alloc, refuses(1062)));
+    }
+    one_written(alloc, row)
+}
+
+/// What an INSERT IGNORE says: nothing is done where its row clashes with one.
+#[tactic(auto, unfolding(server_model::specs::Saying::tells))]
+fn copy(alloc: Global, seen: &SeenTable<'_>, row: &Row) -> Result<ReadyResult, AllocError>
+    ensures { IfOk result (λ told. as_result told ≡ tells seen.now.schema seen.now.rows (works.Copy row.now)) }
+{
+    if clashes(alloc, seen, row)? {
+        return Ok(only(alloc, Answer::Ok(0)));
+    }
+    one_written(alloc, row)
+}
+
+/// What a REPLACE says: the rows that clash with its row are removed, and counted with it.
+#[tactic(auto, unfolding(server_model::specs::Saying::tells))]
+fn replace(alloc: Global, seen: &SeenTable<'_>, row: &Row) -> Result<ReadyResult, AllocError>
+    ensures { IfOk result (λ told. as_result told ≡ tells seen.now.schema seen.now.rows (works.Replace row.now)) }
+{
+    let displaced = seen.displaced(alloc, row)?;
+    let count = displaced.as_slice().len() as u64;
+    let mut changes = deletes(alloc, displaced)?;
+    changes.push(Change::Write(row.copy()?))?;
+    Ok(ReadyResult {
+        answer: Answer::Ok(1 + count),
+        changes,
+    })
+}
+
+/// What a DELETE says: the rows that it reaches are removed.
+#[tactic(auto, unfolding(server_model::specs::Saying::tells))]
+fn delete(alloc: Global, seen: &SeenTable<'_>, reach: &Reach) -> Result<ReadyResult, AllocError>
+    ensures { IfOk result (λ told. as_result told ≡ tells seen.now.schema seen.now.rows (works.Delete reach.now)) }
+{
+    let met = seen.met(alloc, reach)?;
+    let count = met.len() as u64;
+    Ok(ReadyResult {
+        answer: Answer::Ok(count),
+        changes: deletes(alloc, met)?,
+    })
+}
+
+/// What a SELECT says.
+#[tactic(auto, unfolding(server_model::specs::Saying::tells))]
+fn select(
+    alloc: Global,
+    seen: &SeenTable<'_>,
+    reach: &Reach,
+    selection: &Selection,
+) -> Result<ReadyResult, AllocError>
+    ensures { IfOk result (λ told. as_result told ≡ tells seen.now.schema seen.now.rows (works.Select reach.now selection.now)) }
+{
+    let met = seen.met(alloc, reach)?;
+    Ok(only(alloc, selected(alloc, selection, met)?))
+}
+
+/// What a statement says of its table. The table has a clustered key, its rows are rows of it, and so are the statement's
+/// new rows.
+#[tactic(auto, unfolding(server_model::specs::Saying::tells))]
+pub fn tells(alloc: Global, seen: &SeenTable<'_>, work: &Work) -> Result<ReadyResult, AllocError>
+    requires well_formed { IsWellFormedTable seen.now }
+    requires sound { IsSound seen.now.schema.columns work.now }
+    ensures { IfOk result (λ told. as_result told ≡ tells seen.now.schema seen.now.rows work.now) }
+{
+    match work {
+        Work::Refuse(refusal) => Ok(only(alloc, refusal.copy()?)),
+        Work::Insert(row) => insert(alloc, seen, row),
+        Work::Copy(row) => copy(alloc, seen, row),
+        Work::Replace(row) => replace(alloc, seen, row),
+        Work::Delete(reach) => delete(alloc, seen, reach),
+        Work::Update { reach, sets } => updated(alloc, seen, reach, sets),
+        Work::Select { reach, selection } => select(alloc, seen, reach, selection),
+    }
+}

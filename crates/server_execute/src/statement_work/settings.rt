@@ -1,0 +1,50 @@
+//! The new rows of an UPDATE.
+
+ghost use Rattle.std.specs.Prelude.{◌≡◌, map, unwrap_or, IfOk};
+ghost use Rattle.server_model.specs.Saying.{with_sets};
+
+use base_values::{Duplicate, Row, Rows, Sequence, Value};
+use std::alloc::{AllocError, Global};
+
+/// A copy of what the column is set to, or else of the value that it has.
+fn set_or(set: &Option<Value>, value: &Value) -> Result<Value, AllocError>
+    ensures { IfOk result (λ new. new ≡ unwrap_or set.now value.now) }
+{
+    match set {
+        Some(new) => new.copy(),
+        None => value.copy(),
+    }
+}
+
+/// A copy of the row with its columns set to these values, where there are such.
+#[tactic(auto, using(server_model::proofs::StatementLaws::Sets::with_sets_more, crate::proofs::StatementWork::Pieces::with_no_sets), unfolding(server_model::specs::Saying::with_sets))]
+pub fn with_sets(alloc: Global, sets: &[Option<Value>], row: &[Value]) -> Result<Row, AllocError>
+    ensures { IfOk result (λ new. new ≡ with_sets sets.now row.now) }
+{
+    let mut new = Sequence::new(alloc);
+    let mut rest = sets;
+    for value in row {
+        let Some((set, others)) = rest.split_first() else {
+            new.push(value.copy()?)?;
+            continue;
+        };
+        new.push(set_or(set, value)?)?;
+        rest = others;
+    }
+    Ok(new)
+}
+
+/// The new rows.
+pub fn all_with_sets(
+    alloc: Global,
+    sets: &[Option<Value>],
+    rows: &[Row],
+) -> Result<Rows, AllocError>
+    ensures { IfOk result (λ new. new ≡ map (with_sets sets.now) rows.now) }
+{
+    let mut all = Sequence::new(alloc);
+    for row in rows {
+        all.push(with_sets(alloc, sets, row.as_slice())?)?;
+    }
+    Ok(all)
+}

@@ -1,0 +1,160 @@
+//! What an UPDATE says: its rows change one by one, each seen as the changes before have left the table.
+
+ghost use Rattle.std.specs.Prelude.{◌≡◌, ◌++◌, ◌∷◌, [], not, IfOk, OnOk};
+ghost use Rattle.std.specs.List.{list_any};
+ghost use Rattle.base_values.specs.GhoSchema.Rows.{key_places};
+ghost use Rattle.base_values.specs.declared.event.Change.TheVariants as changes;
+ghost use Rattle.server_model.specs.declared.work.Work.TheVariants as works;
+ghost use Rattle.server_model.specs.Rows.{rows_met, same_row};
+ghost use Rattle.server_model.specs.Saying.{clashes_besides, updates, result_or_refusal, updated};
+ghost use Rattle.server_model.specs.StatementLaws.Covering.{IsWellFormedTable, IsSound, SetsFit};
+ghost use Rattle.server_execute.specs.ReadyResult.{as_result};
+ghost use Rattle.server_execute.specs.Updating.{row_update, AreMet};
+ghost use Rattle.server_seen.specs.Written.{wrote};
+ghost use Rattle.server_seen.specs.Written as writes;
+
+use crate::changing::{Changes, ReadyResult, only};
+use crate::statement_work::with_sets;
+use base_values::row_conversion::UnfitAt;
+use base_values::{Change, Duplicate, Row, Sequence, Value};
+use server_model::{Answer, ColumnSets, Reach};
+use server_prepare::{Checked, refuses, refuses_value};
+use server_seen::{SeenTable, WrittenRows};
+use std::alloc::{AllocError, Global};
+
+/// What an UPDATE makes of one row.
+#[derive(Drop)]
+pub enum RowUpdate {
+    /// It stays as it is.
+    Same,
+    /// Its new row clashes with another one.
+    Clashes,
+    /// It becomes this row.
+    Becomes(Row),
+}
+
+/// Whether one of the rows is another than this one.
+fn has_another(row: &Row, rows: &[Row]) -> bool
+    ensures { result ≡ list_any (λ other. not (same_row row.now other)) rows.now }
+{
+    rows.iter().any(|other| !row.cmp(other).is_eq())
+}
+
+/// Whether the new row clashes with one besides the row that it takes the place of, where the table is seen through what
+/// the changes before wrote.
+#[tactic(auto, using(crate::proofs::ChangedRows::any_among))]
+fn clashes_besides(
+    alloc: Global,
+    seen: &SeenTable<'_>,
+    written: &WrittenRows,
+    new: &Row,
+    old: &Row,
+) -> Result<bool, AllocError>
+    requires { written.now.schema ≡ seen.now.schema }
+    ensures { IfOk result (λ clashes. clashes ≡ clashes_besides seen.now.schema new.now old.now (writes.seen (key_places seen.now.schema) written.now.written seen.now.rows)) }
+{
+    let clashing = seen.displaced_through(alloc, written, new)?;
+    Ok(has_another(old, clashing.as_slice()))
+}
+
+/// What the UPDATE makes of one row, where the table is seen through what the changes before wrote.
+fn row_update(
+    alloc: Global,
+    seen: &SeenTable<'_>,
+    written: &WrittenRows,
+    sets: &[Option<Value>],
+    old: &Row,
+) -> Result<RowUpdate, AllocError>
+    requires { written.now.schema ≡ seen.now.schema }
+    ensures { IfOk result (λ update. update ≡ row_update seen.now.schema sets.now (writes.seen (key_places seen.now.schema) written.now.written seen.now.rows) old.now) }
+{
+    let new = with_sets(alloc, sets, old.as_slice())?;
+    if old.cmp(&new).is_eq() {
+        return Ok(RowUpdate::Same);
+    }
+    if clashes_besides(alloc, seen, written, &new, old)? {
+        return Ok(RowUpdate::Clashes);
+    }
+    Ok(RowUpdate::Becomes(new))
+}
+
+/// Writes a row's change down, and adds it to those before.
+fn push_change(
+    alloc: Global,
+    written: &mut WrittenRows,
+    all: &mut Changes,
+    old: &Row,
+    new: Row,
+) -> Result<(), AllocError>
+    ensures schema { written.new.schema ≡ written.old.schema }
+    ensures written { OnOk result (written.new.written ≡ wrote (key_places written.old.schema) (changes.Update old.now new) written.old.written) }
+    ensures all { OnOk result (all.new ≡ all.old ++ changes.Update old.now new ∷ []) }
+{
+    let change = Change::Update(old.copy()?, new);
+    written.write(alloc, &change)?;
+    all.push(change)
+}
+
+/// The changes of rows that an UPDATE reaches, or 1062.
+fn updates(
+    alloc: Global,
+    seen: &SeenTable<'_>,
+    sets: &[Option<Value>],
+    met: &[Row],
+) -> Result<Checked<Changes>, AllocError>
+    requires well_formed { IsWellFormedTable seen.now }
+    requires sets { SetsFit seen.now.schema.columns sets.now }
+    requires met { AreMet (key_places seen.now.schema) met.now seen.now.rows }
+    ensures { IfOk result (λ all. all ≡ updates seen.now.schema sets.now met.now seen.now.rows) }
+{
+    let mut all = Sequence::new(alloc);
+    let mut written = WrittenRows::new(alloc, seen.schema())?;
+    for old in met {
+        match row_update(alloc, seen, &written, sets, old)? {
+            RowUpdate::Same => {}
+            RowUpdate::Clashes => return Ok(Err(refuses(1062))),
+            RowUpdate::Becomes(new) => push_change(alloc, &mut written, &mut all, old, new)?,
+        }
+    }
+    Ok(Ok(all))
+}
+
+/// As many rows as are changed, or the refusal.
+fn result_or_refusal(alloc: Global, changes: Checked<Changes>) -> ReadyResult
+    ensures { as_result result ≡ result_or_refusal changes }
+{
+    match changes {
+        Ok(changes) => ReadyResult {
+            answer: Answer::Ok(changes.len() as u64),
+            changes,
+        },
+        Err(refusal) => only(alloc, refusal),
+    }
+}
+
+/// What an UPDATE says: where its values don't store, it is refused at the first row.
+pub fn updated(
+    alloc: Global,
+    seen: &SeenTable<'_>,
+    reach: &Reach,
+    sets: &Result<ColumnSets, UnfitAt>,
+) -> Result<ReadyResult, AllocError>
+    requires well_formed { IsWellFormedTable seen.now }
+    requires sets { IsSound seen.now.schema.columns (works.Update reach.now sets.now) }
+    ensures { IfOk result (λ told. as_result told ≡ updated seen.now.schema sets.now (rows_met seen.now.schema reach.now seen.now.rows) seen.now.rows) }
+{
+    let met = seen.met(alloc, reach)?;
+    match sets {
+        Ok(sets) => {
+            let changes = updates(alloc, seen, sets.as_slice(), met.as_slice())?;
+            Ok(result_or_refusal(alloc, changes))
+        }
+        Err(at) => {
+            if met.is_empty() {
+                Ok(only(alloc, Answer::Ok(0)))
+            } else {
+                Ok(only(alloc, refuses_value(*at)))
+            }
+        }
+    }
+}

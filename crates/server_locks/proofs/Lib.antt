@@ -1,0 +1,3 @@
+pub mod LeastSession
+pub mod RowLocks
+pub mod MetadataLocks

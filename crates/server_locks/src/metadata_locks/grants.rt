@@ -1,0 +1,78 @@
+//! What a granted request adds to what is held, and what a session that leaves takes away.
+
+ghost use Rattle.std.specs.Prelude.{◌≡◌, ◌==◌, ◌≤◌, not, false, filter, map, vec_len, vec_capacity, IfOk};
+ghost use Rattle.std.specs.List.{list_any};
+ghost use Rattle.server_locks.specs.MetadataLocks.Granting.{holds};
+ghost use Rattle.server_locks.specs.MetadataLocks.Holding.{added, held_by};
+ghost use Rattle.server_locks.specs.MetadataLocks.Requests.{locks_of, all_locks};
+
+use crate::metadata_locks::refusals::holds;
+use crate::metadata_locks::request::Request;
+use base_values::{Duplicate, Name, Names, Sequence};
+use std::alloc::{AllocError, Global};
+
+/// Those of the names that the session doesn't hold.
+fn lacked(
+    alloc: Global,
+    granted: &[Request],
+    session: u32,
+    names: &[Name],
+) -> Result<Names, AllocError>
+    ensures { IfOk result (λ lacked. lacked ≡ filter (λ name. not (holds (all_locks granted.now) session name false)) names.now) }
+{
+    let mut lacked = Sequence::new(alloc);
+    for name in names {
+        if !holds(granted, session, name, false) {
+            lacked.push(name.copy()?)?;
+        }
+    }
+    Ok(lacked)
+}
+
+/// The names that a granted request adds: all where they are held exclusively, else those that the session lacks.
+pub fn names_to_add(
+    alloc: Global,
+    granted: &[Request],
+    session: u32,
+    names: &Names,
+    exclusive: bool,
+) -> Result<Names, AllocError>
+    ensures { IfOk result (λ more. map (held_by session exclusive) more ≡ added (all_locks granted.now) session exclusive names.now) }
+{
+    if exclusive {
+        return names.copy();
+    }
+    let lacked = lacked(alloc, granted, session, names.as_slice())?;
+    Ok(lacked)
+}
+
+impl Request {
+    /// Whether the session holds a name by this request.
+    #[tactic(auto, using(crate::proofs::MetadataLocks::Leaving::of_request))]
+    fn is_of(&self, session: u32) -> bool
+        ensures { result ≡ list_any (λ held. held.session == session) (locks_of self.now) }
+    {
+        self.session == session && !self.names.is_empty()
+    }
+}
+
+/// Whether the session holds a name.
+#[tactic(auto, using(crate::proofs::MetadataLocks::Leaving::of_all))]
+pub fn is_holding(granted: &[Request], session: u32) -> bool
+    ensures { result ≡ list_any (λ held. held.session == session) (all_locks granted.now) }
+{
+    for request in granted {
+        if request.is_of(session) {
+            return true;
+        }
+    }
+    false
+}
+
+/// Takes away what the session was granted.
+pub fn take_away(granted: &mut Vec<Request>, session: u32)
+    ensures rest { all_locks granted.new.items ≡ filter (λ held. not (held.session == session)) (all_locks granted.old.items) }
+    ensures room { (vec_len granted.new ≤ vec_len granted.old) × (vec_capacity granted.new ≡ vec_capacity granted.old) }
+{
+    granted.retain(|request| request.session != session);
+}

@@ -1,0 +1,30 @@
+//! The requests that wait, in the order in which they came.
+
+ghost use Rattle.std.specs.Prelude.{◌≡◌, MatchOption, None, is_some};
+ghost use Rattle.server_locks.specs.MetadataLocks.Granting.{place_of, ahead_of};
+ghost use Rattle.server_locks.specs.MetadataLocks.Waiting.{IsAt};
+
+use crate::metadata_locks::request::Waiter;
+
+/// The place of the session's request, where it has one.
+pub fn place_of(waiting: &[Waiter], session: u32) -> Option<usize>
+    ensures variant { is_some result ≡ is_some (place_of session waiting.now) }
+    ensures place { MatchOption result (place_of session waiting.now ≡ None) (IsAt session waiting.now) }
+{
+    for (i, waiter) in waiting.iter().enumerate() {
+        if waiter.session == session {
+            return Some(i);
+        }
+    }
+    None
+}
+
+/// The requests that came before the session's.
+pub fn ahead_of(waiting: &[Waiter], session: u32) -> &[Waiter]
+    ensures { result.now ≡ ahead_of session waiting.now }
+{
+    match place_of(waiting, session) {
+        Some(place) => &waiting[..place],
+        None => waiting,
+    }
+}

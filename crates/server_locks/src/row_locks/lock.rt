@@ -1,0 +1,96 @@
+//! A row lock, a set of them, and the answer to who asks for one.
+
+ghost use Rattle.std.specs.Prelude.{◌≡◌, ◌==◌, not, map, filter, IfOk};
+ghost use Rattle.std.specs.List.{list_any};
+ghost use Rattle.server_locks.specs.RowLocks.Holding.{held_by};
+
+use base_values::{Duplicate, Name, Sequence, Span};
+use std::alloc::{AllocError, Global};
+
+/// A lock on the values of one key of a table that lie in a span, whether or not rows have them.
+pub struct Lock {
+    /// The table.
+    pub table: Name,
+    /// The key's place among the table's unique keys.
+    pub key: usize,
+    /// The key's values that are locked.
+    pub span: Span,
+    /// Whether the lock is exclusive (X), or else shared (S).
+    pub exclusive: bool,
+}
+
+impl Drop for Lock {
+    fn drop(self) {
+        let Lock {
+            table,
+            key: _,
+            span,
+            exclusive: _,
+        } = self;
+        drop(table);
+        drop(span);
+    }
+}
+
+impl Duplicate for Lock {
+    fn copy(&self) -> Result<Lock, AllocError> {
+        Ok(Lock {
+            table: self.table.copy()?,
+            key: self.key,
+            span: self.span.copy()?,
+            exclusive: self.exclusive,
+        })
+    }
+}
+
+/// The locks that one call needs.
+pub type LockSet = Sequence<Lock>;
+
+/// A lock and the session that holds it.
+#[derive(Drop)]
+pub struct HeldLock {
+    /// The session.
+    pub session: u32,
+    /// What it holds.
+    pub lock: Lock,
+}
+
+/// Copies of the locks, held by the session.
+pub fn held_by(alloc: Global, session: u32, set: &[Lock]) -> Result<Vec<HeldLock>, AllocError>
+    ensures { IfOk result (λ held. held.items ≡ map (held_by session) set.now) }
+{
+    let mut held = Vec::with_capacity(alloc, set.len())?;
+    for lock in set {
+        held.push(HeldLock {
+            session,
+            lock: lock.copy()?,
+        })?;
+    }
+    Ok(held)
+}
+
+/// Whether the session holds one of the locks.
+pub fn holds_one(held: &[HeldLock], session: u32) -> bool
+    ensures { result ≡ list_any (λ held. held.session == session) held.now }
+{
+    held.iter().any(|held| held.session == session)
+}
+
+/// Takes away all locks of the session.
+pub fn take_away(held: &mut Vec<HeldLock>, session: u32)
+    ensures { held.new.items ≡ filter (λ held. not (held.session == session)) held.old.items }
+{
+    held.retain(|held| held.session != session);
+}
+
+/// What is answered to a session that asks for locks.
+#[derive(Clone, Copy, PartialEq, Eq)]
+pub enum LockAnswer {
+    /// It has them all now.
+    Granted,
+    /// It has none of them now, and must wait.
+    Waits {
+        /// The least session that refuses one of them.
+        by: u32,
+    },
+}

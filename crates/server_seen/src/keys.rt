@@ -1,0 +1,143 @@
+//! Keys in order, each once.
+
+ghost use Rattle.std.specs.Prelude.{◌≡◌, ◌≤◌, ◌<◌, ◌+◌, ◌^◌, [], length, IfOk, OnOk};
+ghost use Rattle.std.specs.List.{AllByRecursion};
+ghost use Rattle.base_values.specs.GhoSchema.Rows.{key_places};
+ghost use Rattle.server_model.specs.Rows.{stands};
+ghost use Rattle.server_seen.specs.Stored.{counted};
+ghost use Rattle.server_seen.specs.Written.{with_key};
+ghost use Rattle.server_seen.specs.Fitting.{KeysAscend};
+
+use base_values::gho_schema::{Index, Places, Schema};
+use base_values::{Chars, Duplicate, Key, Keys, Name, Sequence};
+use std::alloc::{AllocError, Global};
+use std::marker::Model;
+use table_store::paged_tables::row_pages::{SpanRows, Table};
+
+/// Keys of one table in order, each once. Contracts see besides how many values a key has at most, and for how many more
+/// keys there is room.
+pub struct KeySet {
+    table: Table,
+}
+
+impl Drop for KeySet {
+    fn drop(self) {
+        let KeySet { table } = self;
+        drop(table);
+    }
+}
+
+impl Model for KeySet {
+    ghost use Rattle.std.specs.Prelude.{length};
+    ghost use Rattle.base_values.specs.GhoSchema.Rows.{key_places};
+    ghost use Rattle.server_seen.specs.Stored.{StoredKeys, IsKeyTable};
+
+    ghost Value = { StoredKeys };
+
+    ghost view = { λ s. record { keys = s.table.table.rows; width = length (key_places s.table.table.schema); spare = s.table.spare } };
+
+    ghost invariant = { λ s. IsKeyTable s.table.table };
+}
+
+/// The places 0, 1 .. of a key's values.
+fn first_places(alloc: Global, width: usize) -> Result<Places, AllocError>
+    ensures { IfOk result (λ places. places ≡ counted 0 width) }
+{
+    let mut places = Sequence::new(alloc);
+    for place in 0..width {
+        places.push(place)?;
+    }
+    Ok(places)
+}
+
+/// A schema whose clustered key is at these places.
+#[tactic(auto, unfolding(base_values::specs::GhoSchema::Clustering::clustered_among))]
+fn schema_of_keys(alloc: Global, places: Places) -> Result<Schema, AllocError>
+    ensures { IfOk result (λ schema. key_places schema ≡ places) }
+{
+    let mut uniques = Sequence::new(alloc);
+    uniques.push(Index { name: None, places })?;
+    Ok(Schema {
+        name: Name::new(alloc, "")?,
+        columns: Sequence::new(alloc),
+        uniques,
+        indexes: Sequence::new(alloc),
+        comment: Chars::new(alloc, "")?,
+    })
+}
+
+/// Copies of keys.
+fn copies_of(alloc: Global, mut keys: SpanRows<'_>) -> Result<Keys, AllocError>
+    ensures { IfOk result (λ copies. copies ≡ keys.entry) }
+{
+    let mut copies = Sequence::new(alloc);
+    while let Some(key) = keys.next() {
+        copies.push(key.copy()?)?;
+    }
+    Ok(copies)
+}
+
+impl KeySet {
+    /// No keys, of at most so many values.
+    pub fn new(alloc: Global, width: usize) -> Result<KeySet, AllocError>
+        ensures keys { IfOk result (λ set. set.keys ≡ []) }
+        ensures width { IfOk result (λ set. set.width ≡ width) }
+    {
+        let schema = schema_of_keys(alloc, first_places(alloc, width)?)?;
+        Ok(KeySet {
+            table: Table::new(alloc, schema),
+        })
+    }
+
+    /// Whether the key is one of them.
+    pub fn contains(&self, key: &Key) -> bool
+        ensures { result ≡ stands key.now self.now.keys }
+    {
+        match self.table.get(key) {
+            Some(_) => true,
+            None => false,
+        }
+    }
+
+    /// The keys in order.
+    pub fn keys(&self) -> SpanRows<'_>
+        ensures keys { result ≡ self.now.keys }
+        ensures ascend { KeysAscend self.now.keys }
+        ensures lengths { AllByRecursion (λ key. length key ≤ self.now.width) self.now.keys }
+    {
+        let _schema = self.table.schema();
+        self.table.rows()
+    }
+
+    /// Copies of the keys in order.
+    pub fn copies(&self, alloc: Global) -> Result<Keys, AllocError>
+        ensures { IfOk result (λ keys. keys ≡ self.now.keys) }
+    {
+        copies_of(alloc, self.table.rows())
+    }
+
+    /// Makes room for so many more keys.
+    pub fn reserve(&mut self, n: usize) -> Result<(), AllocError>
+        ensures keys { self.new.keys ≡ self.old.keys }
+        ensures width { self.new.width ≡ self.old.width }
+        ensures ok { OnOk result (n ≤ self.new.spare) }
+        ensures spare { self.old.spare ≤ self.new.spare }
+    {
+        self.table.reserve(n)
+    }
+
+    /// Puts a key in its place, unless it is there already. It takes no memory.
+    pub fn insert(&mut self, key: Key)
+        requires width { length key ≤ self.old.width }
+        requires room { 0 < self.old.spare }
+        ensures keys { self.new.keys ≡ with_key key self.old.keys }
+        ensures width { self.new.width ≡ self.old.width }
+        ensures spare { self.old.spare ≤ self.new.spare + 1 }
+    {
+        let _schema = self.table.schema();
+        match self.table.get(&key) {
+            Some(_) => {}
+            None => self.table.put(key),
+        }
+    }
+}

@@ -1,0 +1,97 @@
+//! A table as a transaction sees it.
+
+ghost use Rattle.std.specs.Prelude.{◌≡◌, IfOk};
+ghost use Rattle.base_values.specs.GhoSchema.Rows.{key_places};
+ghost use Rattle.base_values.specs.GhoSchema.Tables.{Ascends};
+ghost use Rattle.server_model.specs.Rows.{rows_met};
+ghost use Rattle.server_model.specs.Saying.{displaced};
+
+use crate::meeting::{rows_clashing, rows_met};
+use crate::written::WrittenRows;
+use base_values::gho_schema::Schema;
+use base_values::{Row, Rows};
+use server_model::Reach;
+use std::alloc::{AllocError, Global};
+use std::marker::Model;
+use table_store::paged_tables::row_pages::Table;
+
+/// The committed rows of a table with what a transaction wrote to it. Contracts see a table of the rows that are seen.
+#[derive(Drop)]
+pub struct SeenTable<'a> {
+    table: &'a Table,
+    written: &'a WrittenRows,
+}
+
+impl<'a> Model for SeenTable<'a> {
+    ghost use Rattle.std.specs.Prelude.{◌≡◌};
+    ghost use Rattle.base_values.specs.GhoSchema.Rows.{key_places};
+    ghost use Rattle.table_store.specs.Databases.{TableRows};
+    ghost use Rattle.server_seen.specs.Written.{seen};
+
+    ghost Value = { TableRows };
+
+    ghost view = { λ s. record { schema = s.table.now.table.schema; rows = seen (key_places s.table.now.table.schema) s.written.now.written s.table.now.table.rows } };
+
+    ghost invariant = { λ s. s.written.now.schema ≡ s.table.now.table.schema };
+}
+
+impl<'a> SeenTable<'a> {
+    ghost use Rattle.server_seen.specs.Written.{seen};
+
+    /// The table with what was written to it. It takes no memory.
+    pub fn new(table: &'a Table, written: &'a WrittenRows) -> SeenTable<'a>
+        requires { written.now.schema ≡ table.now.table.schema }
+        ensures schema { result.schema ≡ table.now.table.schema }
+        ensures rows { result.rows ≡ seen (key_places table.now.table.schema) written.now.written table.now.table.rows }
+    {
+        SeenTable { table, written }
+    }
+
+    /// Its schema. The rows stand in order of the clustered key.
+    pub fn schema(&self) -> &'a Schema
+        ensures schema { result.now ≡ self.now.schema }
+        ensures ascends { Ascends (key_places self.now.schema) self.now.rows }
+    {
+        let _written = self.written.schema();
+        self.table.schema()
+    }
+
+    /// The rows that a condition reaches, in order.
+    pub fn met(&self, alloc: Global, reach: &Reach) -> Result<Rows, AllocError>
+        ensures { IfOk result (λ rows. rows ≡ rows_met self.now.schema reach.now self.now.rows) }
+    {
+        let _schema = self.table.schema();
+        let _written = self.written.schema();
+        let below = rows_met(alloc, self.table, reach)?;
+        let mine = self.written.met(alloc, reach)?;
+        self.written.over(alloc, mine, below)
+    }
+
+    /// The rows that clash with a new one, in order.
+    pub fn displaced(&self, alloc: Global, new: &Row) -> Result<Rows, AllocError>
+        ensures { IfOk result (λ rows. rows ≡ displaced self.now.schema new.now self.now.rows) }
+    {
+        let _schema = self.table.schema();
+        let _written = self.written.schema();
+        let below = rows_clashing(alloc, self.table, new)?;
+        let mine = self.written.clashing(alloc, new)?;
+        self.written.over(alloc, mine, below)
+    }
+
+    /// The rows that clash with a new one, in order, where the table is seen through what was written later besides.
+    pub fn displaced_through(
+        &self,
+        alloc: Global,
+        later: &WrittenRows,
+        new: &Row,
+    ) -> Result<Rows, AllocError>
+        requires { later.now.schema ≡ self.now.schema }
+        ensures { IfOk result (λ rows. rows ≡ displaced self.now.schema new.now (seen (key_places self.now.schema) later.now.written self.now.rows)) }
+    {
+        let _schema = self.schema();
+        let _later = later.schema();
+        let below = self.displaced(alloc, new)?;
+        let mine = later.clashing(alloc, new)?;
+        later.over(alloc, mine, below)
+    }
+}

@@ -1,0 +1,214 @@
+//! What was written to a table.
+
+ghost use Rattle.std.specs.Prelude.{◌≡◌, ◌≤◌, ◌<◌, ◌+◌, length, IfOk, OnOk, OnErr};
+ghost use Rattle.base_values.specs.GhoSchema.Rows.{key_of, key_places};
+ghost use Rattle.base_values.specs.GhoSchema.Tables.{Ascends};
+ghost use Rattle.server_model.specs.Rows.{rows_met};
+ghost use Rattle.server_model.specs.Saying.{displaced};
+ghost use Rattle.server_seen.specs.Written.{nothing, untouched, put_all, removed, stored, wrote, written_over};
+ghost use Rattle.server_seen.specs.Fitting.{IsWritten};
+
+use crate::keys::KeySet;
+use crate::meeting::{rows_clashing, rows_met};
+use crate::merge::merged;
+use crate::moves::lay_over;
+use base_values::gho_schema::{Schema, key_of};
+use base_values::{Change, Duplicate, Key, Keys, Row, Rows, Sequence};
+use server_model::Reach;
+use std::alloc::{AllocError, Global};
+use std::marker::Model;
+use table_store::paged_tables::row_pages::Table;
+
+/// What was written to a table: the new rows that stand, and the keys of all rows that were written or removed. Contracts
+/// see besides the table's schema, and for how many more rows and keys there is room.
+#[derive(Drop)]
+pub struct WrittenRows {
+    rows: Table,
+    keys: KeySet,
+}
+
+impl Model for WrittenRows {
+    ghost use Rattle.std.specs.Prelude.{min};
+    ghost use Rattle.server_seen.specs.Stored.{StoredWrites, IsStored};
+
+    ghost Value = { StoredWrites };
+
+    ghost view = { λ w. record { schema = w.rows.table.schema; written = record { rows = w.rows.table.rows; keys = w.keys.keys }; spare = min w.rows.spare w.keys.spare } };
+
+    ghost invariant = { λ w. IsStored w.rows.table.schema w.keys.width (record { rows = w.rows.table.rows; keys = w.keys.keys }) };
+}
+
+/// A row and its key.
+#[derive(Drop)]
+struct KeyedRow {
+    key: Key,
+    row: Row,
+}
+
+/// A copy of a row, and its key.
+fn keyed(alloc: Global, places: &[usize], row: &Row) -> Result<KeyedRow, AllocError>
+    ensures key { IfOk result (λ keyed. keyed.key ≡ key_of places.now row.now) }
+    ensures row { IfOk result (λ keyed. keyed.row ≡ row.now) }
+{
+    Ok(KeyedRow {
+        key: key_of(alloc, places, row.as_slice())?,
+        row: row.copy()?,
+    })
+}
+
+/// Those of rows whose keys are none of these.
+fn left(alloc: Global, places: &[usize], keys: &KeySet, rows: Rows) -> Result<Rows, AllocError>
+    ensures { IfOk result (λ left. left ≡ untouched places.now keys.now.keys rows) }
+{
+    let mut left = Sequence::new(alloc);
+    for row in rows.into_vec() {
+        let key = key_of(alloc, places, row.as_slice())?;
+        if !keys.contains(&key) {
+            left.push(row)?;
+        }
+    }
+    Ok(left)
+}
+
+impl WrittenRows {
+    /// Nothing written to a table of this schema.
+    pub fn new(alloc: Global, schema: &Schema) -> Result<WrittenRows, AllocError>
+        ensures schema { IfOk result (λ writes. writes.schema ≡ schema.now) }
+        ensures written { IfOk result (λ writes. writes.written ≡ nothing) }
+    {
+        let keys = KeySet::new(alloc, schema.key_places().len())?;
+        Ok(WrittenRows {
+            rows: Table::new(alloc, schema.copy()?),
+            keys,
+        })
+    }
+
+    /// The table's schema.
+    pub fn schema(&self) -> &Schema
+        ensures schema { result.now ≡ self.now.schema }
+        ensures is_written { IsWritten (key_places self.now.schema) self.now.written }
+    {
+        self.rows.schema()
+    }
+
+    /// Makes room for so many more rows and keys.
+    pub fn reserve(&mut self, n: usize) -> Result<(), AllocError>
+        ensures schema { self.new.schema ≡ self.old.schema }
+        ensures written { self.new.written ≡ self.old.written }
+        ensures ok { OnOk result (n ≤ self.new.spare) }
+        ensures spare { self.old.spare ≤ self.new.spare }
+    {
+        self.rows.reserve(n)?;
+        self.keys.reserve(n)
+    }
+
+    /// Takes the row of a key out. It takes no memory.
+    fn remove(&mut self, key: Key)
+        requires width { length key ≤ length (key_places self.old.schema) }
+        requires room { 0 < self.old.spare }
+        ensures schema { self.new.schema ≡ self.old.schema }
+        ensures written { self.new.written ≡ removed (key_places self.old.schema) key self.old.written }
+        ensures spare { self.old.spare ≤ self.new.spare + 1 }
+    {
+        let _ = self.rows.remove(&key);
+        self.keys.insert(key);
+    }
+
+    /// Puts a row in, in place of that of its key. It takes no memory.
+    fn store(&mut self, key: Key, row: Row)
+        requires key { key ≡ key_of (key_places self.old.schema) row }
+        requires room { 0 < self.old.spare }
+        ensures schema { self.new.schema ≡ self.old.schema }
+        ensures written { self.new.written ≡ stored (key_places self.old.schema) row self.old.written }
+        ensures spare { self.old.spare ≤ self.new.spare + 1 }
+    {
+        let _ = self.rows.remove(&key);
+        self.keys.insert(key);
+        self.rows.put(row);
+    }
+
+    /// Writes a change down. Where there is no memory, all is as before.
+    #[tactic(auto, using(crate::proofs::KeyTables::length_key), unfolding(crate::specs::Written::wrote))]
+    pub fn write(&mut self, alloc: Global, change: &Change) -> Result<(), AllocError>
+        ensures schema { self.new.schema ≡ self.old.schema }
+        ensures ok { OnOk result (self.new.written ≡ wrote (key_places self.old.schema) change.now self.old.written) }
+        ensures err { OnErr result (self.new.written ≡ self.old.written) }
+    {
+        let places = self.rows.schema().key_places();
+        match change {
+            Change::Write(row) => {
+                let new = keyed(alloc, places, row)?;
+                self.reserve(1)?;
+                self.store(new.key, new.row);
+            }
+            Change::Update(before, after) => {
+                let old = key_of(alloc, places, before.as_slice())?;
+                let new = keyed(alloc, places, after)?;
+                self.reserve(2)?;
+                self.remove(old);
+                self.store(new.key, new.row);
+            }
+            Change::Delete(row) => {
+                let old = key_of(alloc, places, row.as_slice())?;
+                self.reserve(1)?;
+                self.remove(old);
+            }
+        }
+        Ok(())
+    }
+
+    /// The rows that stand and that a condition reaches.
+    pub(crate) fn met(&self, alloc: Global, reach: &Reach) -> Result<Rows, AllocError>
+        ensures { IfOk result (λ rows. rows ≡ rows_met self.now.schema reach.now self.now.written.rows) }
+    {
+        rows_met(alloc, &self.rows, reach)
+    }
+
+    /// The rows that stand and that clash with a new one.
+    pub(crate) fn clashing(&self, alloc: Global, new: &Row) -> Result<Rows, AllocError>
+        ensures { IfOk result (λ rows. rows ≡ displaced self.now.schema new.now self.now.written.rows) }
+    {
+        rows_clashing(alloc, &self.rows, new)
+    }
+
+    /// Rows that stand, laid over those of rows whose keys weren't touched.
+    pub(crate) fn over(&self, alloc: Global, mine: Rows, rows: Rows) -> Result<Rows, AllocError>
+        requires { Ascends (key_places self.now.schema) mine }
+        ensures { IfOk result (λ all. all ≡ put_all (key_places self.now.schema) mine (untouched (key_places self.now.schema) self.now.written.keys rows)) }
+    {
+        let places = self.rows.schema().key_places();
+        let left = left(alloc, places, &self.keys, rows)?;
+        merged(alloc, places, mine.as_slice(), left)
+    }
+
+    /// How many rows stand. It takes no memory.
+    pub fn rows(&self) -> usize
+        ensures { result ≡ length self.now.written.rows }
+    {
+        self.rows.len()
+    }
+
+    /// Copies of the keys of all rows that were written or removed, in order.
+    pub fn touched(&self, alloc: Global) -> Result<Keys, AllocError>
+        ensures { IfOk result (λ keys. keys ≡ self.now.written.keys) }
+    {
+        self.keys.copies(alloc)
+    }
+
+    /// Lays what was written later over this, where its keys are also listed. It takes no memory.
+    pub fn lay_over(&mut self, later: WrittenRows, keys: Keys)
+        requires schema { later.schema ≡ self.old.schema }
+        requires keys { keys ≡ later.written.keys }
+        requires row_room { length later.written.rows ≤ self.old.spare }
+        requires key_room { length later.written.keys ≤ self.old.spare }
+        ensures schema { self.new.schema ≡ self.old.schema }
+        ensures written { self.new.written ≡ written_over (key_places self.old.schema) later.written self.old.written }
+    {
+        let WrittenRows {
+            mut rows,
+            keys: touched,
+        } = later;
+        let _keys = touched.keys();
+        lay_over(keys, &mut rows, &mut self.rows, &mut self.keys);
+    }
+}

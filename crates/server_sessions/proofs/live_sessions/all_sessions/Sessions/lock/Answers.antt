@@ -1,0 +1,10 @@
+use Rattle.std.proofs.Common.{refl}
+use Rattle.server_model.specs.Serving.{locking}
+use Rattle.server_model.specs.States.{with_session}
+use Rattle.server_sessions.proofs.LiveSessions.Ready.{ready_either, ready_same}
+use Rattle.server_sessions.proofs.live_sessions.all_sessions.Sessions.lock.Goals as goal
+
+pub invariant_of-self-2 : goal.invariant_of-self-2
+invariant_of-self-2 c =
+    ready_either c.lock_tables.result c.self.inside.limits c.self.inside.sessions.items (with_session c.args.session (locking c.in_ok-copy.field-0) c.self.inside.sessions.items) c.lock_tables.new.sessions.items c.self.inside.log.spare c.lock_tables.ensures.ok c.lock_tables.ensures.err
+    (ready_same c.self.inside.limits c.args.session (locking c.in_ok-copy.field-0) c.self.inside.sessions.items c.self.inside.log.spare (λ s. refl) (λ s. refl) (λ s. refl) c.self.invariant) c.self.invariant

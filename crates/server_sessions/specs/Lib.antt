@@ -1,0 +1,2 @@
+pub mod SessionLocks
+pub mod LiveSessions

@@ -1,0 +1,15 @@
+//! What the server keeps of its sessions and of the requests that wait, and how each call changes it.
+#![tactic(auto)]
+
+mod growth;
+pub mod live_sessions;
+mod lookup;
+pub mod session_locks;
+mod sessions;
+mod waits;
+
+pub use lookup::{
+    holds_tables, is_in_transaction, is_live, is_of_tool, polls_of, session_of, writes_of,
+};
+pub use sessions::{connect, count_polls, disconnect, hold, lock_tables, rest, unlock_tables};
+pub use waits::{begin_wait, end_wait, is_waiting, waiting_of};

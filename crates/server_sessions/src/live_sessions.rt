@@ -1,0 +1,8 @@
+//! What a server keeps beside its tables and what is written to them: sessions, requests that wait, and the log; and how
+//! each call changes them.
+
+mod all_sessions;
+mod room;
+pub mod row_log;
+
+pub use all_sessions::Sessions;

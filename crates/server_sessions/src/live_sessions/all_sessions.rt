@@ -1,0 +1,319 @@
+//! Sessions, requests that wait, and the log.
+
+ghost use Rattle.std.specs.Prelude.{◌≡◌, ◌<◌, ◌≤◌, ◌+◌, ◌++◌, [], ◌∷◌, true, is_some, length, count_by, drop, option_copied, IfOk, OnOk, OnErr};
+ghost use Rattle.std.specs.List.{list_any};
+ghost use Rattle.server_model.specs.States.{opened, connected, session_of, with_session, is_live, is_in_transaction, is_of_tool, is_waiting, holds_tables, waiting_of, unread, is_exclusive, names_in};
+ghost use Rattle.server_model.specs.Locking.{blocker};
+ghost use Rattle.server_model.specs.Showing.{events_read, waits_shown};
+ghost use Rattle.server_model.specs.Effects.{is_outside};
+ghost use Rattle.server_model.specs.Serving.{counting, forgets, goes_on, limit_if, locking, loses, polled_over, is_over, unlocking, without_waiting};
+ghost use Rattle.server_sessions.specs.LiveSessions.Rooms.{logs};
+
+use crate::live_sessions::room::make_room;
+use crate::live_sessions::row_log::Log;
+use crate::session_locks::{blocker, is_exclusive, is_outside, names_in, waits_shown};
+use crate::{
+    begin_wait, connect, count_polls, disconnect, end_wait, hold, holds_tables, is_in_transaction,
+    is_live, is_of_tool, is_waiting, lock_tables, polls_of, rest, session_of, unlock_tables,
+    waiting_of,
+};
+use base_values::{Duplicate, Events, Names, Sequence};
+use server_locks::row_locks::{Lock, LockSet};
+use server_model::{Answer, Limits, Need, Request, Session, ShownWaiters, Waiting};
+use std::alloc::{AllocError, Global};
+use std::marker::Model;
+
+/// The sessions, the requests that wait and the log of a server. Contracts see the plain server's state, but for its
+/// tables. Where there is no memory for a call, all is as before.
+pub struct Sessions {
+    alloc: Global,
+    limits: Limits,
+    made: u32,
+    log: Log,
+    waiting: Vec<Waiting>,
+    sessions: Vec<Session>,
+}
+
+// By hand: crates above then take it as one call, and don't prove the drop of each part again.
+impl Drop for Sessions {
+    fn drop(self) {
+        let Sessions {
+            alloc: _,
+            limits: _,
+            made: _,
+            log,
+            waiting,
+            sessions,
+        } = self;
+        drop(log);
+        drop(waiting);
+        drop(sessions);
+    }
+}
+
+impl Model for Sessions {
+    ghost use Rattle.std.specs.Prelude.{[]};
+    ghost use Rattle.server_model.specs.States.{State};
+    ghost use Rattle.server_sessions.specs.LiveSessions.Rooms.{IsReady};
+
+    ghost Value = { State };
+
+    ghost view = { λ d. record { limits = d.limits; made = d.made; tables = []; log = d.log.events; waiting = d.waiting.items; sessions = d.sessions.items } };
+
+    ghost invariant = { λ d. IsReady d.limits d.sessions.items d.log.spare };
+}
+
+/// What the request needs, with these row locks.
+fn need_of(alloc: Global, request: &Request, locks: LockSet) -> Result<Need, AllocError>
+    ensures { IfOk result (λ need. need ≡ record { exclusive = is_exclusive request.now; names = names_in request.now; locks = locks }) }
+{
+    Ok(Need {
+        exclusive: is_exclusive(request),
+        names: names_in(alloc, request)?,
+        locks,
+    })
+}
+
+impl Sessions {
+    /// The desk at its start, without a session. Its log watches these tables. It takes no memory.
+    pub fn new(alloc: Global, limits: Limits, watched: Names) -> Sessions
+        requires clients { 1 ≤ limits.client_wait }
+        requires tools { 1 ≤ limits.tool_wait }
+        ensures { result ≡ opened limits [] }
+    {
+        Sessions {
+            alloc,
+            limits,
+            made: 0,
+            log: Log::new(alloc, watched),
+            waiting: Vec::new(alloc),
+            sessions: Vec::new(alloc),
+        }
+    }
+
+    /// The allocator that it was made with.
+    pub fn allocator(&self) -> Global {
+        self.alloc
+    }
+
+    /// Makes a session, of the tool's or of a client's, and gives its number.
+    pub fn connect(&mut self, is_tool: bool) -> Result<u32, AllocError>
+        requires { self.old.made < u32.MAX }
+        ensures number { IfOk result (λ number. number ≡ self.old.made + 1) }
+        ensures ok { OnOk result (self.new ≡ connected (self.old.made + 1) is_tool self.old) }
+        ensures err { OnErr result (self.new ≡ self.old) }
+    {
+        let number = self.made + 1;
+        connect(self.alloc, &mut self.sessions, number, is_tool)?;
+        self.made = number;
+        Ok(number)
+    }
+
+    /// The session is gone, with all that it holds, and with its request that waits. It takes no memory.
+    #[tactic(auto, unfolding(server_model::specs::Serving::loses))]
+    pub fn lose(&mut self, session: u32)
+        ensures { self.new ≡ loses session self.old }
+    {
+        end_wait(&mut self.waiting, session);
+        disconnect(&mut self.sessions, session);
+    }
+
+    /// The session's transaction goes on, or begins, with the names that the request mentions, with these row locks and
+    /// with these events.
+    pub fn go_on(
+        &mut self,
+        session: u32,
+        request: &Request,
+        locks: LockSet,
+        events: Events,
+    ) -> Result<(), AllocError>
+        ensures ok { OnOk result (self.new ≡ goes_on session (record { exclusive = is_exclusive request.now; names = names_in request.now; locks = locks }) events self.old) }
+        ensures err { OnErr result (self.new ≡ self.old) }
+    {
+        let need = need_of(self.alloc, request, locks)?;
+        make_room(&mut self.log, self.sessions.as_slice(), events.len())?;
+        hold(self.alloc, &mut self.sessions, session, need, events)
+    }
+
+    /// What the session wrote is logged, and its transaction is over. It takes no memory.
+    pub fn commit(&mut self, session: u32)
+        ensures { self.new ≡ logs session [] self.old }
+    {
+        let writes = rest(self.alloc, &mut self.sessions, session);
+        self.log.append(writes);
+    }
+
+    /// What the session wrote is logged with these events, and its transaction is over.
+    pub fn commit_with(&mut self, session: u32, events: Events) -> Result<(), AllocError>
+        ensures ok { OnOk result (self.new ≡ logs session events self.old) }
+        ensures err { OnErr result (self.new ≡ self.old) }
+    {
+        make_room(&mut self.log, self.sessions.as_slice(), events.len())?;
+        let writes = rest(self.alloc, &mut self.sessions, session);
+        self.log.append(writes);
+        self.log.append(events);
+        Ok(())
+    }
+
+    /// The session's transaction is over, and what it wrote is forgotten. It takes no memory.
+    pub fn forget(&mut self, session: u32)
+        ensures { self.new ≡ forgets session self.old }
+    {
+        let _ = rest(self.alloc, &mut self.sessions, session);
+    }
+
+    /// The session holds these names exclusively too (LOCK TABLES).
+    pub fn lock(&mut self, session: u32, names: &Names) -> Result<(), AllocError>
+        ensures ok { OnOk result (self.new ≡ record self.old { sessions = with_session session (locking names.now) self.old.sessions }) }
+        ensures err { OnErr result (self.new ≡ self.old) }
+    {
+        lock_tables(&mut self.sessions, session, names.copy()?)
+    }
+
+    /// The session holds no name exclusively from now on (UNLOCK TABLES). It takes no memory.
+    pub fn unlock(&mut self, session: u32)
+        ensures { self.new ≡ record self.old { sessions = with_session session unlocking self.old.sessions } }
+    {
+        unlock_tables(&mut self.sessions, session);
+    }
+
+    /// The session's request waits behind all others, and wasn't polled yet.
+    pub fn wait(&mut self, session: u32, request: &Request) -> Result<(), AllocError>
+        ensures ok { OnOk result (self.new ≡ record self.old { waiting = self.old.waiting ++ record { session = session; request = request.now } ∷ []; sessions = with_session session (counting 0) self.old.sessions }) }
+        ensures err { OnErr result (self.new ≡ self.old) }
+    {
+        begin_wait(&mut self.waiting, session, request)?;
+        count_polls(&mut self.sessions, session, 0);
+        Ok(())
+    }
+
+    /// The session's request waits no more. It takes no memory.
+    pub fn end_wait(&mut self, session: u32)
+        ensures { self.new ≡ without_waiting session self.old }
+    {
+        end_wait(&mut self.waiting, session);
+    }
+
+    /// How often the session may be polled.
+    fn limit(&self, session: u32) -> u32
+        ensures { result ≡ limit_if (is_of_tool (session_of session self.now.sessions)) self.now.limits }
+    {
+        if is_of_tool(self.sessions.as_slice(), session) {
+            self.limits.tool_wait
+        } else {
+            self.limits.client_wait
+        }
+    }
+
+    /// The session's request was polled, and the other session still blocks it: it waits on, or its wait times out. It
+    /// takes no memory.
+    pub fn stay_blocked(&mut self, session: u32, by: u32) -> Answer
+        ensures answer { result ≡ (polled_over (is_over self.old session) by self.old session).answer }
+        ensures after { self.new ≡ (polled_over (is_over self.old session) by self.old session).after }
+    {
+        let limit = self.limit(session);
+        let polls = polls_of(self.sessions.as_slice(), session);
+        let waited = polls + 1;
+        if waited == limit {
+            end_wait(&mut self.waiting, session);
+            let _ = rest(self.alloc, &mut self.sessions, session);
+            Answer::TimedOut { waited }
+        } else {
+            count_polls(&mut self.sessions, session, waited);
+            Answer::Waits { by }
+        }
+    }
+
+    /// Whether the session is live.
+    pub fn is_live(&self, session: u32) -> bool
+        ensures { result ≡ is_live self.now session }
+    {
+        is_live(self.sessions.as_slice(), session)
+    }
+
+    /// Whether the session's request waits.
+    pub fn is_waiting(&self, session: u32) -> bool
+        ensures { result ≡ is_waiting self.now session }
+    {
+        is_waiting(self.waiting.as_slice(), session)
+    }
+
+    /// Whether the session is in a transaction.
+    pub fn is_in_transaction(&self, session: u32) -> bool
+        ensures { result ≡ is_in_transaction (session_of session self.now.sessions) }
+    {
+        is_in_transaction(self.sessions.as_slice(), session)
+    }
+
+    /// Whether the session holds LOCK TABLES.
+    pub fn holds_tables(&self, session: u32) -> bool
+        ensures { result ≡ holds_tables (session_of session self.now.sessions) }
+    {
+        holds_tables(self.sessions.as_slice(), session)
+    }
+
+    /// The session's request that waits.
+    pub fn waiting(&self, session: u32) -> Option<&Waiting>
+        ensures { option_copied result ≡ waiting_of session self.now.waiting }
+    {
+        waiting_of(self.waiting.as_slice(), session)
+    }
+
+    /// Whether the session holds LOCK TABLES and the request names a table that it hasn't locked.
+    pub fn is_outside(&self, session: u32, request: &Request) -> bool
+        ensures { result ≡ is_outside (session_of session self.now.sessions) request.now }
+    {
+        match session_of(self.sessions.as_slice(), session) {
+            Some(session) => is_outside(session, request),
+            None => false,
+        }
+    }
+
+    /// The least session that blocks a name which the request mentions, or one of these row locks. It takes no memory.
+    pub fn blocker(&self, session: u32, request: &Request, locks: &[Lock]) -> Option<u32>
+        ensures { result ≡ blocker self.now session (record { exclusive = is_exclusive request.now; names = names_in request.now; locks = locks.now }) }
+    {
+        blocker(
+            self.sessions.as_slice(),
+            self.waiting.as_slice(),
+            session,
+            request,
+            locks,
+        )
+    }
+
+    /// How many events the log has.
+    pub fn log_end(&self) -> u64
+        ensures { result ≡ length self.now.log }
+    {
+        self.log.end()
+    }
+
+    /// The first events of these tables at the position or behind it, and where the next ones are read.
+    pub fn read_log(&self, position: u64, limit: u32, tables: &Names) -> Result<Answer, AllocError>
+        requires { 1 ≤ limit }
+        ensures { IfOk result (λ answer. answer ≡ events_read position limit tables.now self.now.log) }
+    {
+        self.log.after(position, limit, tables)
+    }
+
+    /// How many events of these tables stand at the position or behind it.
+    #[tactic(auto, unfolding(server_model::specs::States::unread))]
+    pub fn unread(&self, position: u64, tables: &Names) -> u64
+        ensures { result ≡ unread self.now position tables.now }
+    {
+        self.log.unread(position, tables)
+    }
+
+    /// Who waits for names exclusively, by rising number of the session.
+    #[tactic(auto, unfolding(server_model::specs::Showing::waits_shown))]
+    pub fn waits_shown(&self) -> Result<ShownWaiters, AllocError>
+        ensures { IfOk result (λ shown. shown ≡ waits_shown self.now) }
+    {
+        waits_shown(
+            self.alloc,
+            self.sessions.as_slice(),
+            self.waiting.as_slice(),
+        )
+    }
+}

@@ -1,0 +1,44 @@
+//! Who holds a name.
+
+ghost use Rattle.std.specs.Prelude.{◌≡◌, ◌==◌, ◌&&◌, map};
+ghost use Rattle.std.specs.List.{list_any};
+ghost use Rattle.server_locks.specs.MetadataLocks.Granting.{least_holder};
+ghost use Rattle.server_model.specs.States.{name_held, names_held};
+ghost use Rattle.server_model.specs.HeldNames.{has_held};
+
+use base_values::Name;
+use server_locks::least_session::least;
+use server_model::Session;
+
+/// Whether the session holds the name, exclusively where that is asked.
+pub fn holds(sessions: &[Session], number: u32, name: &Name, exclusive: bool) -> bool
+    ensures { result ≡ list_any (λ session. session.number == number && has_held session.names name.now exclusive) sessions.now }
+{
+    sessions.iter().any(|session| {
+        session.number == number && session.names.has(name, exclusive)
+    })
+}
+
+/// This session, where it is another one and holds the name, exclusively where that is asked.
+#[tactic(auto, using(crate::proofs::SessionLocks::Names::holder_one))]
+fn holder(session: &Session, number: u32, name: &Name, exclusive: bool) -> Option<u32>
+    ensures { result ≡ least_holder (map (name_held session.now.number) session.now.names) number name.now exclusive }
+{
+    if session.number != number && session.names.has(name, exclusive) {
+        Some(session.number)
+    } else {
+        None
+    }
+}
+
+/// The least other session that holds the name, exclusively where that is asked.
+#[tactic(auto, using(crate::proofs::SessionLocks::Names::steps))]
+pub fn least_holder(sessions: &[Session], number: u32, name: &Name, exclusive: bool) -> Option<u32>
+    ensures { result ≡ least_holder (names_held sessions.now) number name.now exclusive }
+{
+    let mut by = None;
+    for session in sessions {
+        by = least(by, holder(session, number, name, exclusive));
+    }
+    by
+}

@@ -1,0 +1,4 @@
+pub mod Ready
+pub mod OpenTxns
+pub mod KeptTxns
+pub mod ServerStore

@@ -1,0 +1,85 @@
+//! Copies of rows as a session sees them, and the row locks of all requests.
+
+ghost use Rattle.std.specs.Prelude.{◌≡◌, IfOk, IfSome};
+ghost use Rattle.table_store.specs.Databases.{database};
+ghost use Rattle.server_model.specs.Jobs.{after_events, copy_job, job_needs, job_says};
+ghost use Rattle.server_model.specs.Locking.{row_locks_of};
+ghost use Rattle.server_transaction.specs.Premises.{HasSchema, events_ready};
+ghost use Rattle.server_storage.specs.OpenTxns.Open.{written_of};
+ghost use Rattle.server_storage.specs.KeptTxns.Kept.{IsKept};
+
+use crate::open_txns::OpenTxn;
+use crate::{span_locks, statement_locks, txn_seen};
+use base_values::row_conversion::ColumnMap;
+use base_values::{Key, Name, Sequence};
+use server_locks::row_locks::LockSet;
+use server_model::Request;
+use server_transaction::row_copies::{copy_needs, say_copy};
+use server_transaction::server_data::ReadyResult;
+use server_transaction::{Txn, Writes};
+use std::alloc::{AllocError, Global};
+use table_store::paged_tables::Tables;
+
+/// What is said where the session copies the image of a row, and what it writes.
+pub fn say_copied(
+    alloc: Global,
+    tables: &Tables,
+    txns: &[OpenTxn],
+    session: u32,
+    from: &Name,
+    into: &Name,
+    map: &ColumnMap,
+    key: &Key,
+) -> Result<ReadyResult<Option<Writes>>, AllocError>
+    requires { IsKept tables.now txns.now }
+    ensures says { IfOk result (λ told. told.result ≡ job_says (after_events (database tables.now) (written_of session txns.now)) (copy_job (after_events (database tables.now) (written_of session txns.now)) from.now into.now map.now key.now)) }
+    ensures events { IfOk result (λ told. events_ready told.writes ≡ told.result.events) }
+    ensures schema { IfOk result (λ told. IfSome told.writes (λ one. HasSchema (database tables.now) one.schema)) }
+{
+    let unwritten = Txn::new(alloc);
+    let txn = txn_seen(txns, session, &unwritten);
+    say_copy(alloc, tables, txn, from, into, map, key)
+}
+
+/// The row locks that the session's copy of a row needs.
+fn copy_locks(
+    alloc: Global,
+    tables: &Tables,
+    txns: &[OpenTxn],
+    session: u32,
+    from: &Name,
+    into: &Name,
+    map: &ColumnMap,
+    key: &Key,
+) -> Result<LockSet, AllocError>
+    requires { IsKept tables.now txns.now }
+    ensures { IfOk result (λ locks. locks ≡ job_needs (after_events (database tables.now) (written_of session txns.now)) (copy_job (after_events (database tables.now) (written_of session txns.now)) from.now into.now map.now key.now)) }
+{
+    let unwritten = Txn::new(alloc);
+    let txn = txn_seen(txns, session, &unwritten);
+    copy_needs(alloc, tables, txn, from, into, map, key)
+}
+
+/// The row locks that the session's request needs.
+pub fn row_locks(
+    alloc: Global,
+    tables: &Tables,
+    txns: &[OpenTxn],
+    session: u32,
+    request: &Request,
+) -> Result<LockSet, AllocError>
+    requires { IsKept tables.now txns.now }
+    ensures { IfOk result (λ locks. locks ≡ row_locks_of (after_events (database tables.now) (written_of session txns.now)) request.now) }
+{
+    match request {
+        Request::Do(statement) => statement_locks(alloc, tables, txns, session, statement),
+        Request::BeginSpan { table, span, .. } => span_locks(alloc, tables, table, span),
+        Request::CopyRow {
+            from,
+            into,
+            map,
+            key,
+        } => copy_locks(alloc, tables, txns, session, from, into, map, key),
+        _ => Ok(Sequence::new(alloc)),
+    }
+}

@@ -1,0 +1,15 @@
+pub mod DoneEvents
+pub mod FoundTables
+pub mod KeyedEvents
+pub mod LeftEvents
+pub mod MadeWrites
+pub mod MoreWritten
+pub mod Represented
+pub mod SaidEvents
+pub mod Sayings
+pub mod SeenViews
+pub mod Spares
+pub mod Views
+pub mod WrittenTables
+pub mod WrittenTxns
+pub mod RowCopies

@@ -1,0 +1,38 @@
+-- What is said fits the tables on which it is said.
+use Rattle.std.proofs.Common.{◌≡◌, ℕ, List, [], ◌∷◌, Option, Some, None, refl, sym, ap, ◌∙◌, subst}
+use Rattle.std.specs.Option.{option_map}
+use Rattle.base_values.specs.GhoSchema.Rows.{key_places}
+use Rattle.base_values.specs.declared.event.Change.{Change}
+use Rattle.table_store.specs.Databases.{TableRows, Database, find_table, with_change}
+use Rattle.table_store.proofs.ChangedTables.{change_found}
+use Rattle.server_model.specs.Jobs.{Job, events_of, result_in, job_says, job_of, change_table}
+use Rattle.server_model.specs.Saying.{tells}
+use Rattle.server_model.specs.StatementLaws.Covering.{IsWellFormedTable, IsSound}
+use Rattle.server_model.specs.StatementLaws.Databases.{WhereFound}
+use Rattle.server_model.proofs.StatementLaws.Stables.{statement_sound}
+use Rattle.server_seen.specs.Fitting.{AllFit}
+use Rattle.server_transaction.specs.ServerData.Fitting.{FitsIn, EventsFit}
+use Rattle.server_execute.proofs.FittingChanges.{told_fit}
+use Rattle.server_transaction.specs.Laws.{SaidEventsFit, JobEventsFit}
+
+-- changes that fit a table are events that fit its database
+pub fit_events : (name : List ℕ) (changes : List Change) (tables : Database) (table : TableRows) → find_table name tables ≡ Some table → AllFit (key_places table.schema) changes table.rows → EventsFit tables (events_of name changes)
+unfolding EventsFit AllFit
+fit_events name [] tables table found fit = tt
+fit_events name (change ∷ changes) tables table found fit =
+    (subst (FitsIn change) (sym found) fit.0, fit_events name changes (with_change name (change_table change) tables) (change_table change table) (change_found name (change_table change) tables (λ t. refl) ∙ ap (option_map (change_table change)) found) fit.1)
+
+fit_nothing : (tables : Database) → EventsFit tables []
+unfolding EventsFit
+fit_nothing tables = tt
+
+fit_in_table : (tables : Database) (job : Job) (found : Option TableRows) → find_table job.table tables ≡ found → WhereFound (λ table. IsSound table.schema.columns (job.work table.schema)) found → WhereFound IsWellFormedTable found → EventsFit tables (result_in job found).events
+fit_in_table tables job None is sound well_formed = fit_nothing tables
+fit_in_table tables job (Some table) is sound well_formed = fit_events job.table (tells table.schema table.rows (job.work table.schema)).changes tables table is (told_fit table (job.work table.schema) well_formed sound)
+
+pub job_fits : JobEventsFit
+unfolding job_says
+job_fits tables job sound well_formed = fit_in_table tables job (find_table job.table tables) refl sound (well_formed.each job.table)
+
+pub said_fits : SaidEventsFit
+said_fits tables statement well_formed = job_fits tables (job_of statement) (statement_sound tables statement well_formed) well_formed

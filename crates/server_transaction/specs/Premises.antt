@@ -1,0 +1,34 @@
+-- That a transaction is one of a database's: what it wrote fits the tables as they are.
+use Rattle.std.specs.Prelude.{◌≡◌, List, [], IfSome, Option, Some, None}
+use Rattle.std.specs.Option.{option_map}
+use Rattle.std.specs.List.{AllByRecursion}
+use Rattle.base_values.specs.declared.gho_schema.schema.Schema.{Schema}
+use Rattle.base_values.specs.GhoSchema.Rows.{key_places}
+use Rattle.base_values.specs.declared.event.RowEvent.{RowEvent}
+use Rattle.table_store.specs.Databases.{Database, find_table}
+use Rattle.server_model.specs.Jobs.{after_events}
+use Rattle.server_transaction.specs.ServerData.Fitting.{EventsFit}
+use Rattle.server_model.specs.StatementLaws.Databases.{IsWellFormedDatabase}
+use Rattle.server_transaction.specs.Events.{keyed}
+use Rattle.server_transaction.specs.Stored.{StoredTxn, events_in, schemas, TableChanges}
+use Rattle.server_transaction.specs.declared.keyed.KeyedEvent.{KeyedEvent}
+
+-- the table of the schema's name has this schema
+abbrev pub HasSchema : Database → Schema → Type 0
+HasSchema tables schema = option_map (λ table. table.schema) (find_table schema.name tables) ≡ Some schema
+
+-- *A transaction of a database*: its events fit the tables and leave them orderly, and the tables to which it wrote stand
+-- with the schemas that they had.
+pub record IsOf (tables : Database) (txn : StoredTxn) : Type 0 where
+  pub fit : EventsFit tables txn.events
+  pub well_formed : IsWellFormedDatabase (after_events tables txn.events)
+  pub stand : AllByRecursion (HasSchema tables) (schemas txn.tables)
+
+-- the event has the key of the row that it takes out, by the schema of its table
+abbrev pub IsKeyedIn : Database → KeyedEvent → Type 0
+IsKeyedIn tables one = IfSome (find_table one.event.table tables) (λ table. one ≡ keyed (key_places table.schema) one.event)
+
+-- the events of what a statement writes, where it writes something
+abbrev pub events_ready : Option TableChanges → List RowEvent
+events_ready None = []
+events_ready (Some writes) = events_in writes

@@ -1,0 +1,109 @@
+-- What contracts see of a transaction, and of what one statement writes.
+use Rattle.std.specs.Prelude.{◌≡◌, ◌≤◌, ◌++◌, [], ◌∷◌, false, if◌then◌else◌, ℕ, List, length, map, Option, Some, None}
+use Rattle.std.specs.List.{AllByRecursion, list_any}
+use Rattle.std.specs.Str.{bytes_eq}
+use Rattle.base_values.specs.declared.value.Value.{Value}
+use Rattle.base_values.specs.declared.gho_schema.schema.Schema.{Schema}
+use Rattle.base_values.specs.GhoSchema.Rows.{key_places}
+use Rattle.base_values.specs.declared.event.Change.{Change}
+use Rattle.base_values.specs.declared.event.RowEvent.{RowEvent}
+use Rattle.server_model.specs.Jobs.{events_of}
+use Rattle.server_seen.specs.Written.{Written, nothing, wrote_all, written_over}
+use Rattle.server_seen.specs.Stored.{StoredWrites}
+use Rattle.server_transaction.specs.declared.keyed.KeyedEvent.{KeyedEvent}
+use Rattle.server_transaction.specs.Events.{changes_in, keyed}
+use Rattle.server_transaction.specs.Shown.{find_writes, Shows}
+
+-- WHAT ONE STATEMENT WRITES
+
+-- the changes of the rows of the table of this schema
+pub record TableChanges : Type 0 where
+  pub schema : Schema
+  pub changes : List Change
+
+-- ... as events
+abbrev pub events_in : TableChanges → List RowEvent
+events_in writes = events_of writes.schema.name writes.changes
+
+-- ... as they are written: rows and keys of the table
+abbrev pub written_by : TableChanges → Written
+written_by writes = wrote_all (key_places writes.schema) writes.changes nothing
+
+-- What is made ready of changes: what they write, its keys, and the events with the keys of the rows that they take out.
+pub record IsMade (schema : Schema) (written : Written) (keys : List (List Value)) (events : List KeyedEvent) : Type 0 where
+  pub written_is : written ≡ wrote_all (key_places schema) (map (λ one. one.event.change) events) nothing
+  pub keys_are : keys ≡ written.keys
+  pub events_are : events ≡ map (keyed (key_places schema)) (events_of schema.name (map (λ one. one.event.change) events))
+
+-- WHAT A TRANSACTION WROTE
+
+-- its events, what they wrote to each table, and for how many more events and tables there is room
+pub record StoredTxn : Type 0 where
+  pub events : List RowEvent
+  pub tables : List StoredWrites
+  pub event_room : ℕ
+  pub table_room : ℕ
+
+-- the schemas of the tables to which it wrote
+abbrev pub schemas : List StoredWrites → List Schema
+schemas tables = map (λ writes. writes.schema) tables
+
+-- the event has the key of the row that it takes out, by the schema of its table, to which something was written
+abbrev pub IsKeyed : KeyedEvent → Option StoredWrites → Type 0
+IsKeyed one None = ⊥
+IsKeyed one (Some writes) = one ≡ keyed (key_places writes.schema) one.event
+
+-- What was written to each table shows the changes of the table, and each event has its key.
+pub record IsTxn (tables : List StoredWrites) (events : List KeyedEvent) : Type 0 where
+  pub shown : (name : List ℕ) → Shows (changes_in name (map (λ one. one.event) events)) (find_writes name tables)
+  pub keyed : AllByRecursion (λ one. IsKeyed one (find_writes one.event.table tables)) events
+
+-- WHAT IT HAS ROOM FOR
+
+-- for so many rows and keys, in what was written to a table before; for one table more, where nothing was
+abbrev pub HasRoomFor : ℕ → Option StoredWrites → ℕ → Type 0
+HasRoomFor n None tables = 1 ≤ tables
+HasRoomFor n (Some writes) tables = n ≤ writes.spare
+
+-- for what was written, in what was written to its table before
+abbrev pub HasRoomIn : Written → Option StoredWrites → ℕ → Type 0
+HasRoomIn written None tables = 1 ≤ tables
+HasRoomIn written (Some writes) tables = (length written.rows ≤ writes.spare) × (length written.keys ≤ writes.spare)
+
+-- for what a statement writes
+pub record HasRoom (txn : StoredTxn) (writes : TableChanges) : Type 0 where
+  pub events : length writes.changes ≤ txn.event_room
+  pub table : HasRoomIn (written_by writes) (find_writes writes.schema.name txn.tables) txn.table_room
+
+-- WHAT IS WRITTEN TO A TABLE
+
+-- what was written to a table, but for its room
+pub record PlainWrites : Type 0 where
+  pub schema : Schema
+  pub written : Written
+
+abbrev pub plain : StoredWrites → PlainWrites
+plain writes = record { schema = writes.schema; written = writes.written }
+
+-- the schemas with one more, where none has its name
+abbrev pub schemas_with : Schema → List Schema → List Schema
+schemas_with schema others = if list_any (λ other. bytes_eq other.name schema.name) others then others else others ++ schema ∷ []
+
+-- what was written later, over what was written to the table before, where something was
+abbrev pub written_on : Schema → Written → Option StoredWrites → Written
+written_on schema later None = later
+written_on schema later (Some earlier) = written_over (key_places schema) later earlier.written
+
+-- What was written to the table of this name is this now, and to all other tables what it was.
+pub record IsMore (name : List ℕ) (tables now : List StoredWrites) (writes : StoredWrites) : Type 0 where
+  pub there : find_writes name now ≡ Some writes
+  pub others : (other : List ℕ) → bytes_eq name other ≡ false → find_writes other now ≡ find_writes other tables
+  pub schema : (was : StoredWrites) → find_writes name tables ≡ Some was → was.schema ≡ writes.schema
+
+-- *Written to its table*: what was written later lies over what was written there before, and nothing else changed.
+pub record IsWrittenTo (later : StoredWrites) (tables now : List StoredWrites) : Type 0 where
+  pub writes : StoredWrites
+  pub more : IsMore later.schema.name tables now writes
+  pub same : writes.schema ≡ later.schema
+  pub written_is : writes.written ≡ written_on later.schema later.written (find_writes later.schema.name tables)
+  pub schemas_are : schemas now ≡ schemas_with later.schema (schemas tables)

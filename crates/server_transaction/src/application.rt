@@ -1,0 +1,90 @@
+//! An event is done to its table.
+
+ghost use Rattle.std.specs.Prelude.{◌≡◌, ◌≤◌, ◌+◌, Some, IfSome};
+ghost use Rattle.base_values.specs.GhoSchema.Rows.{key_of, key_places};
+ghost use Rattle.base_values.specs.GhoSchema.Tables.{Ascends};
+ghost use Rattle.base_values.specs.declared.event.Change.TheVariants as changes;
+ghost use Rattle.table_store.specs.Databases.{database, find_table, with_change, spare_in, others, NamesDiffer};
+ghost use Rattle.server_model.specs.Jobs.{change_table};
+ghost use Rattle.server_transaction.specs.ServerData.Fitting.{FitsIn};
+ghost use Rattle.server_model.specs.StatementLaws.Databases.{WhereFound};
+ghost use Rattle.server_transaction.specs.Events.{keyed};
+ghost use Rattle.server_transaction.specs.Rooms.{puts_of};
+
+use crate::keyed::KeyedEvent;
+use base_values::{Change, Key, Name, Row, RowEvent};
+use table_store::paged_tables::Tables;
+
+/// The tables' names differ, and the rows of the one of this name stand in order.
+fn look_at(tables: &Tables, name: &Name)
+    ensures differ { NamesDiffer (database tables.now) }
+    ensures ascends { WhereFound (λ table. Ascends (key_places table.schema) table.rows) (find_table name.now (database tables.now)) }
+{
+    let _count = tables.len();
+    if let Some(table) = tables.find(name) {
+        let _schema = table.schema();
+    }
+}
+
+/// Puts a row into the table of this name. It takes no memory.
+fn put(tables: &mut Tables, name: &Name, row: Row)
+    requires fits { FitsIn (changes.Write row) (find_table name.now (database tables.old)) }
+    requires room { 1 ≤ spare_in name.now tables.old }
+    ensures tables { database tables.new ≡ with_change name.now (change_table (changes.Write row)) (database tables.old) }
+    ensures spare { spare_in name.now tables.old ≡ spare_in name.now tables.new + 1 }
+    ensures others { others name.now tables.new ≡ others name.now tables.old }
+{
+    look_at(tables, name);
+    tables.put_in(name, row);
+}
+
+/// Takes a row out of the table of this name, by its key. It takes no memory.
+fn take_out(tables: &mut Tables, name: &Name, row: &Row, gone: &Option<Key>)
+    requires fits { FitsIn (changes.Delete row.now) (find_table name.now (database tables.old)) }
+    requires key { IfSome (find_table name.now (database tables.old)) (λ table. gone.now ≡ Some (key_of (key_places table.schema) row.now)) }
+    ensures tables { database tables.new ≡ with_change name.now (change_table (changes.Delete row.now)) (database tables.old) }
+    ensures spare { spare_in name.now tables.old ≤ spare_in name.now tables.new }
+    ensures others { others name.now tables.new ≡ others name.now tables.old }
+{
+    look_at(tables, name);
+    match gone {
+        Some(key) => {
+            let _ = tables.remove_in(name, key);
+        }
+        None => unreachable!(),
+    }
+}
+
+/// Changes a row of the table of this name, whose key is given. It takes no memory.
+fn change(tables: &mut Tables, name: &Name, before: &Row, after: Row, gone: &Option<Key>)
+    requires fits { FitsIn (changes.Update before.now after) (find_table name.now (database tables.old)) }
+    requires key { IfSome (find_table name.now (database tables.old)) (λ table. gone.now ≡ Some (key_of (key_places table.schema) before.now)) }
+    requires room { 1 ≤ spare_in name.now tables.old }
+    ensures tables { database tables.new ≡ with_change name.now (change_table (changes.Update before.now after)) (database tables.old) }
+    ensures spare { spare_in name.now tables.old ≤ spare_in name.now tables.new + 1 }
+    ensures others { others name.now tables.new ≡ others name.now tables.old }
+{
+    take_out(tables, name, before, gone);
+    put(tables, name, after);
+}
+
+/// Does an event to its table. It takes no memory.
+pub fn apply(tables: &mut Tables, one: KeyedEvent)
+    requires fits { FitsIn one.event.change (find_table one.event.table (database tables.old)) }
+    requires key { IfSome (find_table one.event.table (database tables.old)) (λ table. one ≡ keyed (key_places table.schema) one.event) }
+    requires room { puts_of one.event.change ≤ spare_in one.event.table tables.old }
+    ensures tables { database tables.new ≡ with_change one.event.table (change_table one.event.change) (database tables.old) }
+    ensures spare { spare_in one.event.table tables.old ≤ spare_in one.event.table tables.new + puts_of one.event.change }
+    ensures others { others one.event.table tables.new ≡ others one.event.table tables.old }
+{
+    let KeyedEvent { event, gone } = one;
+    let RowEvent {
+        table,
+        change: done,
+    } = event;
+    match done {
+        Change::Write(row) => put(tables, &table, row),
+        Change::Update(before, after) => change(tables, &table, &before, after, &gone),
+        Change::Delete(row) => take_out(tables, &table, &row, &gone),
+    }
+}

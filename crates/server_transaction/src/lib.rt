@@ -1,0 +1,19 @@
+//! A session's transaction: what it wrote, the tables as it sees them, and its commit.
+#![tactic(auto)]
+
+mod application;
+mod commits;
+mod execution;
+mod keyed;
+pub mod laws;
+pub mod row_copies;
+pub mod server_data;
+mod tables;
+mod txn;
+mod writes;
+
+pub use commits::commit;
+pub use execution::{missing, say, statement_needs, tell};
+pub use keyed::KeyedEvent;
+pub use txn::Txn;
+pub use writes::Writes;

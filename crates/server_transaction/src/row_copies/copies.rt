@@ -1,0 +1,129 @@
+//! What is said, written and needed where a session copies the image of a row.
+
+ghost use Rattle.std.specs.Prelude.{◌≡◌, IfOk, IfSome};
+ghost use Rattle.base_values.specs.GhoSchema.Rows.{key_places};
+ghost use Rattle.table_store.specs.Databases.{database};
+ghost use Rattle.server_model.specs.Jobs.{after_events, copy_job, job_needs, job_says, result_of};
+ghost use Rattle.server_model.specs.Needing.{needs};
+ghost use Rattle.server_model.specs.Saying.{tells};
+ghost use Rattle.server_model.specs.StatementLaws.Covering.{IsWellFormedTable, IsSound};
+ghost use Rattle.server_transaction.specs.Premises.{HasSchema, IsOf, events_ready};
+ghost use Rattle.server_seen.specs.Written.{nothing, seen};
+
+use crate::row_copies::work::work_of_copy;
+use crate::server_data::ReadyResult;
+use crate::{Txn, Writes, missing, tell};
+use base_values::row_conversion::ColumnMap;
+use base_values::{Key, Name, Sequence};
+use server_execute::statement_work::needs;
+use server_locks::row_locks::LockSet;
+use server_model::Work;
+use server_seen::{SeenTable, WrittenRows};
+use std::alloc::{AllocError, Global};
+use table_store::paged_tables::Tables;
+use table_store::paged_tables::row_pages::Table;
+
+/// What work says of a table, as it is seen through what was written to it.
+fn tell_of(
+    alloc: Global,
+    table: &Table,
+    written: &WrittenRows,
+    work: &Work,
+) -> Result<ReadyResult<Option<Writes>>, AllocError>
+    requires schema { written.now.schema ≡ table.now.table.schema }
+    requires well_formed { IsWellFormedTable (record { schema = table.now.table.schema; rows = seen (key_places table.now.table.schema) written.now.written table.now.table.rows }) }
+    requires sound { IsSound table.now.table.schema.columns work.now }
+    ensures says { IfOk result (λ told. told.result ≡ result_of table.now.table.schema.name (tells table.now.table.schema (seen (key_places table.now.table.schema) written.now.written table.now.table.rows) work.now)) }
+    ensures events { IfOk result (λ told. events_ready told.writes ≡ told.result.events) }
+    ensures schema { IfOk result (λ told. IfSome told.writes (λ one. one.schema ≡ table.now.table.schema)) }
+{
+    tell(alloc, &SeenTable::new(table, written), work)
+}
+
+/// What work says of a table to which nothing was written.
+fn tell_of_unwritten(
+    alloc: Global,
+    table: &Table,
+    work: &Work,
+) -> Result<ReadyResult<Option<Writes>>, AllocError>
+    requires well_formed { IsWellFormedTable (record { schema = table.now.table.schema; rows = seen (key_places table.now.table.schema) nothing table.now.table.rows }) }
+    requires sound { IsSound table.now.table.schema.columns work.now }
+    ensures says { IfOk result (λ told. told.result ≡ result_of table.now.table.schema.name (tells table.now.table.schema (seen (key_places table.now.table.schema) nothing table.now.table.rows) work.now)) }
+    ensures events { IfOk result (λ told. events_ready told.writes ≡ told.result.events) }
+    ensures schema { IfOk result (λ told. IfSome told.writes (λ one. one.schema ≡ table.now.table.schema)) }
+{
+    let written = WrittenRows::new(alloc, table.schema())?;
+    tell_of(alloc, table, &written, work)
+}
+
+/// What work needs of a table, as it is seen through what was written to it.
+fn needs_of(
+    alloc: Global,
+    table: &Table,
+    written: &WrittenRows,
+    work: &Work,
+) -> Result<LockSet, AllocError>
+    requires { written.now.schema ≡ table.now.table.schema }
+    ensures { IfOk result (λ locks. locks ≡ needs table.now.table.schema (seen (key_places table.now.table.schema) written.now.written table.now.table.rows) work.now) }
+{
+    needs(alloc, &SeenTable::new(table, written), work)
+}
+
+/// What work needs of a table to which nothing was written.
+fn needs_of_unwritten(alloc: Global, table: &Table, work: &Work) -> Result<LockSet, AllocError>
+    ensures { IfOk result (λ locks. locks ≡ needs table.now.table.schema (seen (key_places table.now.table.schema) nothing table.now.table.rows) work.now) }
+{
+    let written = WrittenRows::new(alloc, table.schema())?;
+    needs_of(alloc, table, &written, work)
+}
+
+/// What is said where the session copies the image of the row of this clustered key from the one table into the other, and
+/// what it writes, made ready.
+pub fn say_copy(
+    alloc: Global,
+    tables: &Tables,
+    txn: &Txn,
+    from: &Name,
+    into: &Name,
+    map: &ColumnMap,
+    key: &Key,
+) -> Result<ReadyResult<Option<Writes>>, AllocError>
+    requires { IsOf (database tables.now) txn.now }
+    ensures says { IfOk result (λ told. told.result ≡ job_says (after_events (database tables.now) txn.now.events) (copy_job (after_events (database tables.now) txn.now.events) from.now into.now map.now key.now)) }
+    ensures events { IfOk result (λ told. events_ready told.writes ≡ told.result.events) }
+    ensures schema { IfOk result (λ told. IfSome told.writes (λ one. HasSchema (database tables.now) one.schema)) }
+{
+    let Some(table) = tables.find(into) else {
+        return Ok(missing(alloc));
+    };
+    let schema = table.schema();
+    let work = work_of_copy(alloc, tables, txn, from, map, key, schema)?;
+    match txn.written_to(into) {
+        Some(written) => tell_of(alloc, table, written, &work),
+        None => tell_of_unwritten(alloc, table, &work),
+    }
+}
+
+/// The row locks that the copy needs.
+pub fn copy_needs(
+    alloc: Global,
+    tables: &Tables,
+    txn: &Txn,
+    from: &Name,
+    into: &Name,
+    map: &ColumnMap,
+    key: &Key,
+) -> Result<LockSet, AllocError>
+    requires { IsOf (database tables.now) txn.now }
+    ensures { IfOk result (λ locks. locks ≡ job_needs (after_events (database tables.now) txn.now.events) (copy_job (after_events (database tables.now) txn.now.events) from.now into.now map.now key.now)) }
+{
+    let Some(table) = tables.find(into) else {
+        return Ok(Sequence::new(alloc));
+    };
+    let schema = table.schema();
+    let work = work_of_copy(alloc, tables, txn, from, map, key, schema)?;
+    match txn.written_to(into) {
+        Some(written) => needs_of(alloc, table, written, &work),
+        None => needs_of_unwritten(alloc, table, &work),
+    }
+}

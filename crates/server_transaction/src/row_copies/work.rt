@@ -1,0 +1,139 @@
+//! What the copy of a row comes to: the insertion of its image, or a refusal.
+
+ghost use Rattle.std.specs.Prelude.{◌≡◌, Some, IfOk, option_copied, slice_get};
+ghost use Rattle.std.specs.Option.{option_map};
+ghost use Rattle.base_values.specs.Spans.{point};
+ghost use Rattle.base_values.specs.GhoSchema.Clustering.{clustered_place};
+ghost use Rattle.base_values.specs.GhoSchema.Rows.{key_places};
+ghost use Rattle.base_values.specs.RowConversion.ConvertedRows.{converted_row};
+ghost use Rattle.table_store.specs.Databases.{database, find_table, row_at_key};
+ghost use Rattle.server_model.specs.declared.work.Work.TheVariants as works;
+ghost use Rattle.server_model.specs.Checking.{new_row, or_refused};
+ghost use Rattle.server_model.specs.Jobs.{after_events, copy_from, copy_work};
+ghost use Rattle.server_model.specs.Rows.{rows_met};
+ghost use Rattle.server_model.specs.StatementLaws.Covering.{IsWellFormedTable};
+ghost use Rattle.server_transaction.specs.Premises.{IsOf};
+ghost use Rattle.server_seen.specs.Written.{nothing, seen};
+
+use crate::Txn;
+use base_values::gho_schema::{Schema, clustered_place};
+use base_values::row_conversion::{ColumnMap, ConversionFault, converted_row};
+use base_values::{Duplicate, Key, Name, Row, Rows, Span};
+use server_model::{Answer, Reach, Work};
+use server_prepare::{new_row, refuses, refuses_value};
+use server_seen::{SeenTable, WrittenRows};
+use std::alloc::{AllocError, Global};
+use table_store::paged_tables::Tables;
+use table_store::paged_tables::row_pages::Table;
+
+/// The rows that one value of the clustered key at this place reaches, of a table as it is seen.
+fn rows_reached(
+    alloc: Global,
+    seen: &SeenTable<'_>,
+    place: usize,
+    key: &Key,
+) -> Result<Rows, AllocError>
+    ensures { IfOk result (λ rows. rows ≡ rows_met seen.now.schema (record { key = place; span = point key.now }) seen.now.rows) }
+{
+    let span = Span::point(key.copy()?)?;
+    seen.met(alloc, &Reach { key: place, span })
+}
+
+/// The rows of a clustered key, of a table as it is seen: one, where a row has it.
+fn rows_at(alloc: Global, seen: &SeenTable<'_>, key: &Key) -> Result<Rows, AllocError>
+    requires { IsWellFormedTable seen.now }
+    ensures { IfOk result (λ rows. slice_get rows 0 ≡ row_at_key seen.now key.now) }
+{
+    match clustered_place(seen.schema()) {
+        Some(place) => rows_reached(alloc, seen, place, key),
+        None => unreachable!(),
+    }
+}
+
+/// The insertion of an image, or the refusal of a value that doesn't fit its column.
+fn work_of_converted_row(
+    alloc: Global,
+    converted_row: &Row,
+    into: &Schema,
+) -> Result<Work, AllocError>
+    ensures { IfOk result (λ work. work ≡ or_refused (new_row into.now None converted_row.now) works.Copy) }
+{
+    match new_row(alloc, into, &None, converted_row.as_slice())? {
+        Ok(row) => Ok(Work::Copy(row)),
+        Err(refusal) => Ok(Work::Refuse(refusal)),
+    }
+}
+
+/// What the copy of this row comes to; nothing, where there is none.
+fn work_of_row(
+    alloc: Global,
+    map: &ColumnMap,
+    row: Option<&Row>,
+    into: &Schema,
+) -> Result<Work, AllocError>
+    ensures { IfOk result (λ work. work ≡ copy_work (option_map (converted_row map.now) (option_copied row.entry)) into.now) }
+{
+    let Some(row) = row else {
+        return Ok(Work::Refuse(Answer::Ok(0)));
+    };
+    match converted_row(alloc, map.as_slice(), row.as_slice()) {
+        Ok(values) => work_of_converted_row(alloc, &values, into),
+        Err(ConversionFault::Refused(at)) => Ok(Work::Refuse(refuses_value(at))),
+        Err(ConversionFault::Memory) => Err(AllocError),
+    }
+}
+
+/// What the copy comes to of the row of this key of a table, as it is seen through what was written to it.
+fn work_from(
+    alloc: Global,
+    table: &Table,
+    written: &WrittenRows,
+    map: &ColumnMap,
+    key: &Key,
+    into: &Schema,
+) -> Result<Work, AllocError>
+    requires schema { written.now.schema ≡ table.now.table.schema }
+    requires well_formed { IsWellFormedTable (record { schema = table.now.table.schema; rows = seen (key_places table.now.table.schema) written.now.written table.now.table.rows }) }
+    ensures { IfOk result (λ work. work ≡ copy_from (Some (record { schema = table.now.table.schema; rows = seen (key_places table.now.table.schema) written.now.written table.now.table.rows })) map.now key.now into.now) }
+{
+    let rows = rows_at(alloc, &SeenTable::new(table, written), key)?;
+    work_of_row(alloc, map, rows.as_slice().first(), into)
+}
+
+/// What the copy comes to of the row of this key of a table to which nothing was written.
+fn work_from_unwritten(
+    alloc: Global,
+    table: &Table,
+    map: &ColumnMap,
+    key: &Key,
+    into: &Schema,
+) -> Result<Work, AllocError>
+    requires { IsWellFormedTable (record { schema = table.now.table.schema; rows = seen (key_places table.now.table.schema) nothing table.now.table.rows }) }
+    ensures { IfOk result (λ work. work ≡ copy_from (Some (record { schema = table.now.table.schema; rows = seen (key_places table.now.table.schema) nothing table.now.table.rows })) map.now key.now into.now) }
+{
+    let written = WrittenRows::new(alloc, table.schema())?;
+    work_from(alloc, table, &written, map, key, into)
+}
+
+/// What the copy comes to of the row of this key of the table of this name, as the session sees it.
+pub fn work_of_copy(
+    alloc: Global,
+    tables: &Tables,
+    txn: &Txn,
+    from: &Name,
+    map: &ColumnMap,
+    key: &Key,
+    into: &Schema,
+) -> Result<Work, AllocError>
+    requires { IsOf (database tables.now) txn.now }
+    ensures { IfOk result (λ work. work ≡ copy_from (find_table from.now (after_events (database tables.now) txn.now.events)) map.now key.now into.now) }
+{
+    let Some(table) = tables.find(from) else {
+        return Ok(Work::Refuse(refuses(1146)));
+    };
+    let _schema = table.schema();
+    match txn.written_to(from) {
+        Some(written) => work_from(alloc, table, written, map, key, into),
+        None => work_from_unwritten(alloc, table, map, key, into),
+    }
+}

@@ -1,0 +1,103 @@
+//! A session's transaction.
+
+ghost use Rattle.std.specs.Prelude.{◌≡◌, ◌==◌, ◌++◌, [], length, map, option_copied, IfSome, OnOk};
+ghost use Rattle.std.specs.List.{AllByRecursion};
+ghost use Rattle.server_transaction.specs.Events.{changes_in};
+ghost use Rattle.server_transaction.specs.Shown.{find_writes, Shows};
+ghost use Rattle.server_transaction.specs.Stored.{events_in, schemas, HasRoom, IsKeyed, schemas_with};
+
+use crate::keyed::{KeyedEvent, append_events, reserve_events};
+use crate::tables::{reserve_for, write_to, written_to};
+use crate::writes::Writes;
+use base_values::Name;
+use server_seen::WrittenRows;
+use std::alloc::{AllocError, Global};
+use std::marker::Model;
+
+/// What a session's transaction wrote. To drop it is to roll it back. Contracts see its events, what they wrote to each
+/// table, and for how much more it has room.
+#[derive(Drop)]
+pub struct Txn {
+    tables: Vec<WrittenRows>,
+    events: Vec<KeyedEvent>,
+}
+
+impl Model for Txn {
+    ghost use Rattle.std.specs.Prelude.{◌-◌, map, vec_len, vec_capacity};
+    ghost use Rattle.server_transaction.specs.Stored.{StoredTxn, IsTxn};
+
+    ghost Value = { StoredTxn };
+
+    ghost view = { λ t. record { events = map (λ one. one.event) t.events.items; tables = t.tables.items; event_room = vec_capacity t.events - vec_len t.events; table_room = vec_capacity t.tables - vec_len t.tables } };
+
+    ghost invariant = { λ t. IsTxn t.tables.items t.events.items };
+}
+
+impl Txn {
+    /// A transaction that wrote nothing. It takes no memory.
+    pub fn new(alloc: Global) -> Txn
+        ensures events { result.events ≡ [] }
+        ensures tables { result.tables ≡ [] }
+    {
+        Txn {
+            tables: Vec::new(alloc),
+            events: Vec::new(alloc),
+        }
+    }
+
+    /// How many events it has.
+    pub fn len(&self) -> usize
+        ensures { result ≡ length self.now.events }
+    {
+        self.events.len()
+    }
+
+    /// Whether it has no event.
+    pub fn is_empty(&self) -> bool
+        ensures { result ≡ (length self.now.events == 0) }
+    {
+        self.events.is_empty()
+    }
+
+    /// What it wrote to the table of this name; nothing where it is none.
+    pub fn written_to(&self, name: &Name) -> Option<&WrittenRows>
+        ensures writes { option_copied result ≡ find_writes name.now self.now.tables }
+        ensures shown { Shows (changes_in name.now self.now.events) (find_writes name.now self.now.tables) }
+    {
+        written_to(self.tables.as_slice(), name)
+    }
+
+    /// Makes room for what a statement writes.
+    pub fn reserve(&mut self, writes: &Writes) -> Result<(), AllocError>
+        ensures events { self.new.events ≡ self.old.events }
+        ensures schemas { schemas self.new.tables ≡ schemas self.old.tables }
+        ensures room { OnOk result (HasRoom self.new writes.now) }
+    {
+        reserve_events(&mut self.events, writes.len())?;
+        reserve_for(&mut self.tables, writes.table(), writes.size())
+    }
+
+    /// Writes down what a statement writes to a table of the schema that it is known by. It takes no memory.
+    pub fn write(&mut self, writes: Writes)
+        requires room { HasRoom self.old writes }
+        requires schema { IfSome (find_writes writes.schema.name self.old.tables) (λ table. table.schema ≡ writes.schema) }
+        ensures events { self.new.events ≡ self.old.events ++ events_in writes }
+        ensures schemas { schemas self.new.tables ≡ schemas_with writes.schema (schemas self.old.tables) }
+    {
+        let Writes {
+            written,
+            keys,
+            events,
+        } = writes;
+        write_to(&mut self.tables, written, keys);
+        append_events(&mut self.events, events);
+    }
+
+    /// Its events, each with the key of the row that it takes out. It takes no memory.
+    pub(crate) fn into_events(self) -> Vec<KeyedEvent>
+        ensures events { map (λ one. one.event) result.items ≡ self.events }
+        ensures keyed { AllByRecursion (λ one. IsKeyed one (find_writes one.event.table self.tables)) result.items }
+    {
+        self.events
+    }
+}

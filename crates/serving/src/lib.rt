@@ -1,6 +1,0 @@
-//! The final server as a trait: what the tool and the clients use of a server whose tables stand in pages.
-#![tactic(auto)]
-
-mod serve;
-
-pub use serve::Serve;

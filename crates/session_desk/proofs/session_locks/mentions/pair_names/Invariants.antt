@@ -1,7 +1,0 @@
-use Rattle.std.proofs.Common.{◌≡◌, take}
-use Rattle.plain_server.specs.States.{pair_names}
-use Rattle.session_desk.proofs.session_locks.mentions.pair_names.Given as goal
-
--- the names of the pairs so far are there
-abbrev pub invariant-loop-pair : goal.invariant-loop-pair
-invariant-loop-pair l = l.names ≡ pair_names (take l.pair-index l.pairs)

@@ -1,7 +1,0 @@
-use Rattle.std.proofs.Common.{not, nat_eq, rules}
-use Rattle.std.proofs.lemmas.Fn.{filter_same}
-use Rattle.plain_server.specs.declared.session.Session.{Session}
-use Rattle.session_desk.proofs.sessions.disconnect.Goals as goal
-
-pub returns : goal.returns
-returns c = filter_same _ (λ (session : Session). not (nat_eq session.number c.args.number)) _ (λ x b f' r. search rules) c.args.sessions.now.items c.retain.new.self.items c.retain.ensures.filtered

@@ -1,7 +1,0 @@
-use Rattle.std.proofs.Common.{not, nat_eq, rules}
-use Rattle.std.proofs.lemmas.Fn.{filter_same}
-use Rattle.plain_server.specs.declared.session.Waiting.{Waiting}
-use Rattle.session_desk.proofs.waits.end_wait.Goals as goal
-
-pub returns : goal.returns
-returns c = filter_same _ (λ (one : Waiting). not (nat_eq one.session c.args.number)) _ (λ x b f' r. search rules) c.args.waiting.now.items c.retain.new.self.items c.retain.ensures.filtered

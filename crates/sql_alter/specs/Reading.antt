@@ -1,0 +1,10 @@
+-- *The clauses of a text*.
+use Rattle.std.specs.Prelude.{ℕ, List, Result}
+use Rattle.base_values.specs.declared.row_conversion.clause.Clause.{Clause}
+use Rattle.sql_grammar.specs.Tokens.{text_words}
+use Rattle.sql_change.specs.declared.code.AlterCode.{AlterCode}
+use Rattle.sql_alter.specs.Clauses.{read}
+
+-- the clauses of an ALTER of the table of this name, or the refusal that stands first in the text
+abbrev pub alter_at : List ℕ → List ℕ → Result (List Clause) AlterCode
+alter_at table text = read table (text_words text)

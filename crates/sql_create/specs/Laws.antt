@@ -1,0 +1,9 @@
+-- What holds of all schemas that are read. The crate `law_texts::schema_laws` proves it.
+use Rattle.std.specs.Prelude.{◌≡◌, ℕ, List, Ok}
+use Rattle.base_values.specs.declared.gho_schema.schema.Schema.{Schema}
+use Rattle.base_values.specs.SchemaRules.Valid.{IsValid}
+use Rattle.sql_create.specs.Reading.{schema_at}
+
+-- Every schema that is read is lawful.
+abbrev pub ReadSchemasAreValid : Type 0
+ReadSchemasAreValid = (migrated text : List ℕ) (schema : Schema) → schema_at migrated text ≡ Ok schema → IsValid schema

@@ -1,0 +1,4 @@
+pub mod Boundaries
+pub mod Gathering
+pub mod Lists
+pub mod WordValues

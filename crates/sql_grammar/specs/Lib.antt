@@ -1,0 +1,11 @@
+pub mod Attributes
+pub mod Codes
+pub mod Keys
+pub mod Kinds
+pub mod Listed
+pub mod Literals
+pub mod Pieces
+pub mod Reads
+pub mod Scope
+pub mod Tokens
+pub mod WordValues

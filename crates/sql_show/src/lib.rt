@@ -1,0 +1,6 @@
+//! The text of a schema.
+#![tactic(auto)]
+
+mod printer;
+
+pub use printer::print_schema;

@@ -1,7 +1,0 @@
-use Rattle.std.proofs.Common.{◌≡◌, ◌++◌, drop}
-use Rattle.plain_server.specs.Needing.{points_of}
-use Rattle.statement_replies.proofs.statement_work.locking.push_points_of.Given as goal
-
--- the locks so far, and those of the rows that are left
-abbrev pub invariant-loop-row : goal.invariant-loop-row
-invariant-loop-row l = l.into ++ points_of l.schema (drop l.row-index l.rows) ≡ l.fn.into ++ points_of l.schema l.rows

@@ -1,7 +1,0 @@
-use Rattle.std.proofs.Common.{◌≡◌, map, take}
-use Rattle.plain_server.specs.Saying.{with_sets}
-use Rattle.statement_replies.proofs.statement_work.setting.all_with_sets.Given as goal
-
--- the new rows so far
-abbrev pub invariant-loop-row : goal.invariant-loop-row
-invariant-loop-row l = l.all ≡ map (with_sets l.sets) (take l.row-index l.rows)

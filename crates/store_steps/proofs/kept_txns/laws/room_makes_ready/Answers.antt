@@ -1,5 +1,0 @@
-use Rattle.store_steps.proofs.KeptTxns.Grown.{room_makes_ready}
-use Rattle.store_steps.proofs.kept_txns.laws.room_makes_ready.Goals as goal
-
-pub returns : goal.returns
-returns c = room_makes_ready

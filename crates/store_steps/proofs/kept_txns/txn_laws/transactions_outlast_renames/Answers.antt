@@ -1,5 +1,0 @@
-use Rattle.store_steps.proofs.KeptTxns.TxnLaws.Moved.{outlasts_renames}
-use Rattle.store_steps.proofs.kept_txns.txn_laws.transactions_outlast_renames.Goals as goal
-
-pub returns : goal.returns
-returns c = outlasts_renames

@@ -1,4 +1,0 @@
-use Rattle.store_steps.proofs.open_txns.growing.open_txn.Goals as goal
-
-pub returns-clause-ok : goal.returns-clause-ok
-returns-clause-ok c = record { txn = c.new.result; events = c.new.ensures.events; tables = c.new.ensures.tables; after_is = c.in_ok-push.ensures.items }

@@ -1,7 +1,0 @@
-//! The open transactions of sessions: which session's each is, and how many rows their commits may put.
-
-mod growing;
-mod txns;
-
-pub use growing::{open_txn, reserve_in, write_in};
-pub use txns::{OpenTxn, events_open, is_open, place_of, take_txn, txn_of};

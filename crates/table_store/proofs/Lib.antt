@@ -1,0 +1,13 @@
+pub mod Ascending
+pub mod ChangedTables
+pub mod FoundRows
+pub mod KeptTables
+pub mod NamedTables
+pub mod Orders
+pub mod Partitions
+pub mod RenamedTables
+pub mod RowLaws
+pub mod RowsBetween
+pub mod TableLaws
+pub mod NameMap
+pub mod PagedTables

@@ -1,0 +1,6 @@
+use Rattle.table_store.specs.PagedTables.RowPages.Indexes.{IsAdded}
+use Rattle.table_store.proofs.PagedTables.RowPages.Zipped.{IsHalfDone}
+use Rattle.table_store.proofs.paged_tables.row_pages.indexes.add_all.Given as goal
+
+abbrev pub invariant-loop-i : goal.invariant-loop-i
+invariant-loop-i l = IsHalfDone (IsAdded l.rows l.clustered l.entry) l.i l.fn.indexes.items l.indexes.items

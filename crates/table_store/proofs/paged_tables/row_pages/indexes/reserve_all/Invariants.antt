@@ -1,0 +1,6 @@
+use Rattle.table_store.specs.PagedTables.RowPages.Indexes.{IsWide}
+use Rattle.table_store.proofs.PagedTables.RowPages.Zipped.{IsHalfDone}
+use Rattle.table_store.proofs.paged_tables.row_pages.indexes.reserve_all.Given as goal
+
+abbrev pub invariant-loop-i : goal.invariant-loop-i
+invariant-loop-i l = IsHalfDone (IsWide l.total) l.i l.fn.indexes.items l.indexes.items

@@ -1,0 +1,7 @@
+pub mod ClusteredKeys
+pub mod Databases
+pub mod KeptByName
+pub mod Laws
+pub mod RowLists
+pub mod NameMap
+pub mod PagedTables

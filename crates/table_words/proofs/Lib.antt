@@ -1,3 +1,0 @@
-pub mod Boundaries
-pub mod Gathering
-pub mod Lists

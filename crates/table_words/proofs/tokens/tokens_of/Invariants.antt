@@ -1,8 +1,0 @@
-use Rattle.std.proofs.Common.{◌≡◌, map, take}
-use Rattle.sql_words.specs.Reading.{views}
-use Rattle.table_words.specs.Tokens.{token_of}
-use Rattle.table_words.proofs.tokens.tokens_of.Given as goal
-
--- the words so far
-abbrev pub invariant-loop-word : goal.invariant-loop-word
-invariant-loop-word l = l.tokens ≡ map token_of (views (take l.word-index l.words))

@@ -1,9 +1,0 @@
--- Reading from the front on: what is read and the words behind it, or why the text is refused at the first word that doesn't fit.
-use Rattle.std.specs.Prelude.{List, Result}
-pub use Rattle.gho_values.specs.SchemaRules.Results.{◌>>=◌}
-use Rattle.table_words.specs.declared.code.SchemaCode.{SchemaCode}
-use Rattle.table_words.specs.declared.token.Token.{Token}
-
--- what is read at the front, and the words behind it
-abbrev pub Read : Type 0 → Type 0
-Read A = Result (A × List Token) SchemaCode

@@ -1,0 +1,5 @@
+mod HistorySteps
+mod Imaged
+mod Valid
+mod Serial
+pub mod JournalPasts

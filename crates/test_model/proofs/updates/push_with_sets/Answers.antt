@@ -1,0 +1,12 @@
+use Rattle.std.proofs.Common.{◌++◌, sym, ap, ◌∙◌, append-nil}
+use Rattle.std.proofs.lemmas.List.{at_drop_all}
+use Rattle.table_store.proofs.Orders.{Row}
+use Rattle.server_model.specs.Saying.{with_sets}
+use Rattle.server_model.proofs.StatementLaws.Sets.{with_sets_none}
+use Rattle.test_model.proofs.updates.push_with_sets.Goals as goal
+
+pub returns : goal.returns
+returns c =
+    let rest = c.loop-value.rest.now in
+    sym (append-nil c.loop-value.into)
+    ∙ ap (λ (vs : Row). c.loop-value.into ++ vs) (sym (at_drop_all (with_sets rest) c.args.row.now c.loop-value.value-index c.loop-value-test.false ∙ with_sets_none rest)) ∙ c.loop-value.invariant

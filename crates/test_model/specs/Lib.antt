@@ -1,0 +1,2 @@
+pub mod AnswerAndChanges
+pub mod Updating

@@ -1,0 +1,61 @@
+//! What is asked of a case.
+
+use crate::altered::{is_plan_told, is_report_told, is_run_as_alone};
+use crate::edges::{end_at_sinks, end_at_sources};
+use crate::lines::has_lines;
+use std::alloc::{AllocError, Global};
+use test_program::{Case, Program, Ran, run};
+
+/// What is asked of a case.
+#[derive(Clone, Copy)]
+pub enum Asked {
+    /// That the call ends with the case's status and prints what stands there, and that one at a time gives the same.
+    Prints,
+    /// That the run is as one at a time, and that the lines that stand there stand among those that it prints, in their order.
+    HasLines,
+    /// That what stands there, a report altered by hand, isn't what one at a time gives.
+    TellsReport,
+    /// That the run isn't one of the plan that stands there in place of a report.
+    TellsPlan,
+    /// All that is asked of one that prints, and that a fault of the source or of the sink at any byte ends the call as it must.
+    EndsAtEdges,
+}
+
+/// Whether a run ended with the case's status and printed what stands in the case.
+fn is_written(alloc: Global, case: &Case<'_>, ran: &Ran) -> Result<bool, AllocError> {
+    let status = format!(in alloc; "{}", ran.ended.status)?;
+    Ok(status.as_str() == case.status && case.prints.as_slice() == ran.printed())
+}
+
+/// Whether a run took no turns, or one at a time gives what it printed.
+fn is_alone_where_run(alloc: Global, plan: &[u8], ran: &Ran) -> Result<bool, AllocError> {
+    Ok(ran.ended.journal.is_empty() || is_run_as_alone(alloc, plan, ran)?)
+}
+
+/// Whether a case prints what stands in it, with the status that stands there, and what one at a time gives.
+fn is_printed(alloc: Global, program: &Program, case: &Case<'_>) -> Result<bool, AllocError> {
+    let plan = case.plan.as_slice();
+    let ran = run(alloc, program, case.words, plan)?;
+    Ok(is_written(alloc, case, &ran)? && is_alone_where_run(alloc, plan, &ran)?)
+}
+
+/// Whether a case is as expected.
+pub(crate) fn is_as_expected(
+    alloc: Global,
+    program: &Program,
+    asked: Asked,
+    case: &Case<'_>,
+) -> Result<bool, AllocError> {
+    let is_so = match asked {
+        Asked::Prints => is_printed(alloc, program, case)?,
+        Asked::HasLines => has_lines(alloc, program, case)?,
+        Asked::TellsReport => is_report_told(alloc, program, case)?,
+        Asked::TellsPlan => is_plan_told(alloc, program, case)?,
+        Asked::EndsAtEdges => {
+            is_printed(alloc, program, case)?
+                && end_at_sources(alloc, program, case)?
+                && end_at_sinks(alloc, program, case)?
+        }
+    };
+    Ok(case.is_whole && is_so)
+}

@@ -1,0 +1,37 @@
+//! Runs whose reports have some lines.
+
+use std::alloc::{AllocError, Global};
+use test_compare::is_as_alone;
+use test_program::{Case, Program, run};
+
+/// Whether these lines stand among those of a report, in their order.
+fn stand_among(lines: &str, report: &str) -> bool {
+    let mut wanted = lines.lines();
+    let mut next = wanted.next();
+    for line in report.lines() {
+        if let Some(sought) = next {
+            if sought == line {
+                next = wanted.next();
+            }
+        }
+    }
+    next.is_none()
+}
+
+/// Whether the run of the case's plan is as one at a time, and its report has the lines that stand in the case.
+pub(crate) fn has_lines(
+    alloc: Global,
+    program: &Program,
+    case: &Case<'_>,
+) -> Result<bool, AllocError> {
+    let plan = case.plan.as_slice();
+    let ran = run(alloc, program, case.words, plan)?;
+    let is_same = is_as_alone(alloc, plan, &ran.ended.journal, ran.printed())?;
+    match (
+        str::from_utf8(case.prints.as_slice()),
+        str::from_utf8(ran.printed()),
+    ) {
+        (Ok(lines), Ok(report)) => Ok(is_same && stand_among(lines, report)),
+        _ => Ok(false),
+    }
+}

@@ -1,0 +1,8 @@
+//! Calls of sessions on a server, as lines write them, and what is told of the answers: for `test_server`.
+
+mod calls;
+mod requests;
+mod results;
+
+pub use calls::answers;
+pub use requests::names_of;

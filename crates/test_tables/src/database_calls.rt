@@ -1,0 +1,5 @@
+//! Calls on a database, as lines write them: for `test_calls`.
+
+mod calls;
+
+pub use calls::answers;

@@ -1,0 +1,58 @@
+//! What an altered table's columns store of a row.
+
+use crate::text_calls::values::told_row;
+use base_values::row_conversion::{
+    ColumnMap, ConversionFault, MapColumn, Origin, UnfitAt, converted_row,
+};
+use base_values::{Row, Sequence, Text};
+use std::alloc::Global;
+use test_lines::{CallFault, kind_of, place_of, row_of, value_of};
+
+/// A column that may not be null, as `TINYINT from 1` or `INT = 7`.
+fn column_of(alloc: Global, text: &str) -> Result<MapColumn, CallFault> {
+    let (kind, origin) = match text.split_once(" = ") {
+        Some((kind, value)) => (kind, Origin::Added(value_of(alloc, value)?)),
+        None => {
+            let (kind, place) = text.split_once(" from ").ok_or(CallFault::Unread)?;
+            (kind, Origin::Old(place_of(place)?))
+        }
+    };
+    Ok(MapColumn {
+        kind: kind_of(kind)?,
+        nullable: false,
+        origin,
+    })
+}
+
+fn map_of(alloc: Global, text: &str) -> Result<ColumnMap, CallFault> {
+    let mut map = Sequence::new(alloc);
+    for column in text.split("; ") {
+        map.push(column_of(alloc, column)?)?;
+    }
+    Ok(map)
+}
+
+/// The first column that refuses, and the number.
+fn told_unfit(alloc: Global, unfit: UnfitAt) -> Result<Text, CallFault> {
+    let mut told = Text::new(alloc);
+    told.push_number(unfit.column as i128)?;
+    told.push_str(" refuses ")?;
+    told.push_number(i128::from(unfit.unfit.number()))?;
+    Ok(told)
+}
+
+fn told_converted_row(alloc: Global, map: &ColumnMap, row: &Row) -> Result<Text, CallFault> {
+    match converted_row(alloc, map.as_slice(), row.as_slice()) {
+        Ok(converted_row) => told_row(alloc, &converted_row),
+        Err(ConversionFault::Refused(unfit)) => told_unfit(alloc, unfit),
+        Err(ConversionFault::Memory) => Err(CallFault::Memory),
+    }
+}
+
+/// The image of a row, as of `TINYINT from 1; INT = 7: 300, 5`; or the first column that refuses, and the number.
+pub fn converted_row_of(alloc: Global, input: &str) -> Result<Text, CallFault> {
+    let (map, row) = input.split_once(": ").ok_or(CallFault::Unread)?;
+    let map = map_of(alloc, map)?;
+    let row = row_of(alloc, row)?;
+    told_converted_row(alloc, &map, &row)
+}

@@ -1,0 +1,92 @@
+//! The words of statements, and what single words stand for.
+
+use base_values::{Sequence, Text, Value, print_value};
+use sql_words::{Word, WordFault, Words, words};
+use std::alloc::Global;
+use test_lines::{CallFault, say, text_of};
+
+/// The words, each as its class, its place and its text.
+fn told_words(alloc: Global, words: &Words<'_>) -> Result<Text, CallFault> {
+    let mut told = Text::new(alloc);
+    for word in words.as_slice() {
+        let piece = format!(in alloc; "{:?} {} {}", word.class, word.place, word.text)?;
+        say(&mut told, piece.as_str())?;
+    }
+    Ok(told)
+}
+
+/// A fault, and where it stands.
+fn told_fault(alloc: Global, fault: &WordFault) -> Result<Text, CallFault> {
+    let (word, place) = match fault {
+        WordFault::Unclosed { place } => ("unclosed at ", *place),
+        WordFault::Odd { place } => ("odd at ", *place),
+        WordFault::TooLong { place } => ("too long at ", *place),
+        WordFault::Memory => return Err(CallFault::Memory),
+    };
+    let mut told = text_of(alloc, word)?;
+    told.push_number(place as i128)?;
+    Ok(told)
+}
+
+/// The words of a text, or its first fault.
+fn cut(alloc: Global, text: &str) -> Result<Text, CallFault> {
+    match words(alloc, text) {
+        Ok(words) => told_words(alloc, &words),
+        Err(fault) => told_fault(alloc, &fault),
+    }
+}
+
+/// The literal of what the word stands for, if it is a text, bytes or a number.
+fn value(alloc: Global, word: &Word<'_>) -> Result<Text, CallFault> {
+    let mut told = Text::new(alloc);
+    if let Some(text) = word.text_value(alloc)? {
+        told.push_str("text ")?;
+        told.push_str(text.as_str())?;
+    }
+    if let Some(bytes) = word.bytes_value(alloc)? {
+        told.push_str("bytes ")?;
+        print_value(&Value::Blob(Sequence::from_vec(bytes)), &mut told)?;
+    }
+    if let Some(number) = word.number_value() {
+        told.push_str("number ")?;
+        told.push_number(number)?;
+    }
+    Ok(told)
+}
+
+/// What stands between the word's quotes, and the name that it is.
+fn written(alloc: Global, word: &Word<'_>) -> Result<Text, CallFault> {
+    let mut told = Text::new(alloc);
+    for (what, text) in [
+        ("text ", word.written_text()),
+        ("bytes ", word.written_bytes()),
+        ("name ", word.name()),
+    ] {
+        if let Some(text) = text {
+            told.push_str(what)?;
+            told.push_str(text)?;
+        }
+    }
+    Ok(told)
+}
+
+/// The answer of a call about the words, of which there must be one.
+fn answer_of(alloc: Global, call: &str, words: &[Word<'_>]) -> Result<Text, CallFault> {
+    let [word] = words else {
+        return Err(CallFault::Unread);
+    };
+    match call {
+        "value" => value(alloc, word),
+        "written" => written(alloc, word),
+        _ => Err(CallFault::Unread),
+    }
+}
+
+/// The answer of a call about words.
+pub fn answer(alloc: Global, call: &str, input: &str) -> Result<Text, CallFault> {
+    if call == "cut" {
+        return cut(alloc, input);
+    }
+    let words = words(alloc, input).map_err(|_| CallFault::Unread)?;
+    answer_of(alloc, call, words.as_slice())
+}

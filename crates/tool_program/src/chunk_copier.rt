@@ -1,0 +1,8 @@
+//! The copier: it copies the rows of a table chunk by chunk, in order of the clustered key.
+
+mod answers;
+mod calls;
+mod copier;
+mod reader;
+
+pub use copier::{Chunk, Copier, CopyRange, CopyStep};

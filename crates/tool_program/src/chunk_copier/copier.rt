@@ -1,0 +1,68 @@
+//! How far the copier is.
+
+use base_values::row_conversion::ColumnMap;
+use base_values::{Bound, Key, Name};
+
+/// A chunk that was begun.
+#[derive(Clone, Copy)]
+pub struct Chunk {
+    /// The turn in which the copier was told its keys and its end.
+    pub told: u64,
+    /// How many keys it has.
+    pub keys: usize,
+    /// Whether it ends at the greatest key of the range.
+    pub is_last: bool,
+}
+
+/// Which call comes next.
+#[derive(Clone, Copy)]
+pub enum CopyStep {
+    /// It asks where the next chunk ends.
+    Choosing,
+    /// It begins the chunk and asks for its keys.
+    Spanning {
+        /// The turn in which it was told the chunk's end.
+        told: u64,
+        /// How many rows the chunk has at most.
+        size: u32,
+    },
+    /// It copies the row of a key.
+    Copying {
+        /// The chunk.
+        chunk: Chunk,
+        /// How many of its keys were taken before.
+        copied: usize,
+    },
+    /// It commits the chunk.
+    Committing(Chunk),
+}
+
+/// What is copied.
+#[derive(Drop)]
+pub struct CopyRange {
+    /// Where the copy begins.
+    pub low: Bound,
+    /// The greatest key.
+    pub top: Key,
+}
+
+/// How far the copier is. It keeps turns of the journal and counts, and no list that it was told.
+#[derive(Drop)]
+pub struct Copier {
+    /// The migrated table.
+    pub table: Name,
+    /// Where the values of the new columns come from.
+    pub map: ColumnMap,
+    /// What is copied; none where the table had no row.
+    pub range: Option<CopyRange>,
+    /// How many rows the next chunk has at most.
+    pub size: u32,
+    /// The number of the chunk, from 1.
+    pub number: u64,
+    /// The turn in which the end of the last committed chunk was told.
+    pub behind: Option<u64>,
+    /// Whether the range is copied.
+    pub is_copied: bool,
+    /// Which call comes next.
+    pub step: CopyStep,
+}

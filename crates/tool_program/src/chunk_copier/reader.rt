@@ -1,0 +1,30 @@
+//! What the copier was told in earlier turns, read back in the journal.
+
+ghost use Rattle.std.specs.Prelude.{◌≡◌, [], IfOk};
+ghost use Rattle.server_model.specs.Entries.{answer_at};
+ghost use Rattle.server_model.specs.Reading.{keys_in, end_in};
+
+use base_values::{Duplicate, Key, Sequence};
+use server_model::turn_answers::answer_at;
+use server_model::{Answer, Entry};
+use std::alloc::{AllocError, Global};
+
+/// The keys of a chunk.
+pub(crate) fn keys_told(journal: &[Entry], turn: u64) -> &[Key]
+    ensures { result.now ≡ keys_in (answer_at journal.now turn) }
+{
+    match answer_at(journal, turn) {
+        Some(Answer::Keys { keys, .. }) => keys.as_slice(),
+        _ => &[],
+    }
+}
+
+/// Where a chunk ends.
+pub(crate) fn end_told(alloc: Global, journal: &[Entry], turn: u64) -> Result<Key, AllocError>
+    ensures { IfOk result (λ end. end ≡ end_in (answer_at journal.now turn)) }
+{
+    match answer_at(journal, turn) {
+        Some(Answer::Keys { end, .. } | Answer::End(end)) => end.copy(),
+        _ => Ok(Sequence::new(alloc)),
+    }
+}

@@ -1,0 +1,11 @@
+//! The cut-over: the attempts to exchange two tables by one RENAME, and what is cleared up behind them.
+
+mod answers;
+mod calls;
+mod cutover;
+mod listing;
+mod stages;
+
+pub use cutover::{Clearing, CutOver, Hold, Leftovers, Phase, Role, Stage};
+pub use listing::{lists_log, lists_new_table, lists_old_table};
+pub use stages::is_bad;

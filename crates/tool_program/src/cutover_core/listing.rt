@@ -1,0 +1,90 @@
+//! Which of the tool's tables stand, and which of them are still to be dropped.
+
+ghost use Rattle.std.specs.Prelude.{◌≡◌, IfOk};
+ghost use Rattle.base_values.specs.ToolNames.{ghost_name, log_name, old_name};
+ghost use Rattle.tool_program.specs.CutoverCore.Attempts.{is_clear, first_name, without_first, has_name, has_sentry};
+
+use crate::cutover_core::cutover::Leftovers;
+use base_values::Name;
+use base_values::tool_names::{
+    ghost_name, is_ghost_name, is_log_name, is_old_name, log_name, old_name,
+};
+use server_model::TableNames;
+use std::alloc::{AllocError, Global};
+use tool_changelog::SENTRY_COMMENT;
+
+/// Whether the new table is listed, by the name that it has before the RENAME. It takes no memory.
+pub fn lists_new_table(table: &Name, tables: &TableNames) -> bool
+    ensures { result ≡ has_name (ghost_name table.now) tables.now }
+{
+    tables.as_slice().iter().any(|listed| is_ghost_name(table.as_str(), listed.name.as_str()))
+}
+
+/// Whether the changelog is listed. It takes no memory.
+pub fn lists_log(table: &Name, tables: &TableNames) -> bool
+    ensures { result ≡ has_name (log_name table.now) tables.now }
+{
+    tables
+        .as_slice()
+        .iter()
+        .any(|listed| is_log_name(table.as_str(), listed.name.as_str()))
+}
+
+/// Whether a table is listed that has the name of the sentry and of the table from before. It takes no memory.
+pub fn lists_old_table(table: &Name, tables: &TableNames) -> bool
+    ensures { result ≡ has_name (old_name table.now) tables.now }
+{
+    tables
+        .as_slice()
+        .iter()
+        .any(|listed| is_old_name(table.as_str(), listed.name.as_str()))
+}
+
+/// Whether the sentry is listed, and no other table of its name. It takes no memory.
+#[tactic(auto, unfolding(tool_changelog::specs::ToolTables::sentry_comment))]
+pub(crate) fn lists_sentry(table: &Name, tables: &TableNames) -> bool
+    ensures { result ≡ has_sentry table.now tables.now }
+{
+    tables.as_slice().iter().any(|listed| {
+        is_old_name(table.as_str(), listed.name.as_str())
+            && listed.comment.as_str() == SENTRY_COMMENT
+    })
+}
+
+impl Leftovers {
+    /// Whether nothing is left to be dropped.
+    pub fn is_clear(self) -> bool
+        ensures { result ≡ is_clear self }
+    {
+        !self.log && !self.new_table && !self.old
+    }
+
+    /// The name of the one that is dropped next: the changelog, then the new table, then the old one or the sentry.
+    pub fn first_name(self, alloc: Global, table: &Name) -> Result<Name, AllocError>
+        ensures { IfOk result (λ name. name ≡ first_name table.now self) }
+    {
+        if self.log {
+            log_name(alloc, table)
+        } else if self.new_table {
+            ghost_name(alloc, table)
+        } else {
+            old_name(alloc, table)
+        }
+    }
+
+    /// What is left behind the drop of the next.
+    pub fn without_first(self) -> Leftovers
+        ensures { result ≡ without_first self }
+    {
+        if self.log {
+            Leftovers { log: false, ..self }
+        } else if self.new_table {
+            Leftovers {
+                new_table: false,
+                ..self
+            }
+        } else {
+            Leftovers { old: false, ..self }
+        }
+    }
+}

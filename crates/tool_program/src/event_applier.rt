@@ -1,0 +1,11 @@
+//! The applier: it applies what was logged of a table to the table that replaces it, batch by batch.
+
+mod answers;
+mod applier;
+mod calls;
+mod keys;
+mod planning;
+mod statements;
+
+pub use applier::{Applier, ApplyStep, Batch, Part};
+pub use statements::name_at;

@@ -1,0 +1,65 @@
+//! What the applier asks next.
+
+ghost use Rattle.std.specs.Prelude.{◌≡◌, [], ◌∷◌, IfOk};
+ghost use Rattle.server_model.specs.declared.request.Request.TheVariants as requests;
+ghost use Rattle.base_values.specs.ToolNames.{log_name};
+ghost use Rattle.tool_program.specs.EventApplier.Appliers.{starts, says, call_at, next, unfit_key};
+
+use crate::event_applier::applier::{Applier, ApplyStep};
+use crate::event_applier::planning::row_done;
+use base_values::gho_schema::key_of;
+use base_values::tool_names::log_name;
+use base_values::{Duplicate, Key, Sequence};
+use server_model::{Entry, Request};
+use std::alloc::{AllocError, Global};
+
+impl Applier {
+    /// Whether the next call reads events. It takes no memory.
+    pub fn starts(&self) -> bool
+        ensures { result ≡ starts self.now }
+    {
+        matches!(self.step, ApplyStep::Reading)
+    }
+
+    /// The next events are read.
+    fn reads(&self, alloc: Global) -> Result<Request, AllocError>
+        ensures { IfOk result (λ request. request ≡ requests.ReadLog self.now.position self.now.batch (self.now.table ∷ log_name self.now.table ∷ [])) }
+    {
+        let tables = vec![in alloc; self.table.copy()?, log_name(alloc, &self.table)?]?;
+        Ok(Request::ReadLog {
+            position: self.position,
+            limit: self.batch,
+            tables: Sequence::from_vec(tables),
+        })
+    }
+
+    /// The next call. The journal is that of the turn in which the applier was told its events.
+    #[tactic(auto, unfolding(crate::specs::EventApplier::Appliers::next))]
+    pub fn next(&self, alloc: Global, journal: &[Entry]) -> Result<Request, AllocError>
+        ensures { IfOk result (λ request. request ≡ next journal.now self.now) }
+    {
+        match self.step {
+            ApplyStep::Reading => self.reads(alloc),
+            ApplyStep::Beginning(_) => Ok(Request::Begin),
+            ApplyStep::Applying { .. } => match self.doing(journal) {
+                Some(planned) => Ok(Request::Do(self.statement_of(alloc, planned)?)),
+                None => Ok(Request::Commit),
+            },
+            ApplyStep::Committing(_) => Ok(Request::Commit),
+        }
+    }
+
+    /// The clustered key, at these places, of the row of the old table that didn't fit, once an answer said so.
+    pub fn unfit_key(
+        &self,
+        alloc: Global,
+        journal: &[Entry],
+        old_places: &[usize],
+    ) -> Result<Key, AllocError>
+        ensures { IfOk result (λ key. key ≡ unfit_key journal.now old_places.now self.now) }
+    {
+        let none = Sequence::new(alloc);
+        let row = row_done(self.doing(journal), &none);
+        key_of(alloc, old_places, row.as_slice())
+    }
+}

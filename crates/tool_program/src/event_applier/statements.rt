@@ -1,0 +1,129 @@
+//! The statements on the new table.
+
+ghost use Rattle.std.specs.Prelude.{◌≡◌, IfOk};
+ghost use Rattle.base_values.specs.RowConversion.ConvertedRows.{source};
+ghost use Rattle.tool_program.specs.EventApplier.Appliers.{value_at, given_values, sets, name_at, by_key, statement_of};
+ghost use Rattle.tool_program.specs.EventApplier.Planning.{meant};
+
+use crate::event_applier::applier::Applier;
+use crate::event_applier::planning::Planned;
+use base_script::{Condition, Set, Sets, Statement};
+use base_values::gho_schema::{Column, Schema};
+use base_values::row_conversion::{MapColumn, source};
+use base_values::{Duplicate, Name, Row, Sequence, Value};
+use std::alloc::{AllocError, Global};
+
+fn value_of(column: &MapColumn, row: &[Value]) -> Result<Value, AllocError>
+    ensures { IfOk result (λ value. value ≡ source column.now.origin row.now) }
+{
+    let null = Value::Null;
+    source(&column.origin, row, &null).copy()
+}
+
+/// The values for all new columns, before they are stored.
+fn given_values(alloc: Global, map: &[MapColumn], row: &[Value]) -> Result<Row, AllocError>
+    ensures { IfOk result (λ values. values ≡ given_values map.now row.now) }
+{
+    let mut values = Sequence::new(alloc);
+    for column in map {
+        values.push(value_of(column, row)?)?;
+    }
+    Ok(values)
+}
+
+/// The name of the column at a place; empty where there is none.
+pub fn name_at(alloc: Global, columns: &[Column], place: usize) -> Result<Name, AllocError>
+    ensures { IfOk result (λ name. name ≡ name_at columns.now place) }
+{
+    match columns.get(place) {
+        Some(column) => column.name.copy(),
+        None => Name::new(alloc, ""),
+    }
+}
+
+#[tactic(auto, using(crate::proofs::EventApplier::RowKeys::keys))]
+fn value_at(map: &[MapColumn], row: &[Value], place: usize) -> Result<Value, AllocError>
+    ensures { IfOk result (λ value. value ≡ value_at (given_values map.now row.now) place) }
+{
+    match map.get(place) {
+        Some(column) => value_of(column, row),
+        None => Ok(Value::Null),
+    }
+}
+
+/// The new table's row with this row's clustered key.
+fn by_key(
+    alloc: Global,
+    schema: &Schema,
+    map: &[MapColumn],
+    row: &[Value],
+) -> Result<Condition, AllocError>
+    ensures { IfOk result (λ condition. condition ≡ by_key schema.now map.now row.now) }
+{
+    let places = schema.key_places();
+    let mut sets = Sequence::new(alloc);
+    for place in places {
+        sets.push(Set {
+            column: name_at(alloc, schema.columns.as_slice(), *place)?,
+            value: value_at(map, row, *place)?,
+        })?;
+    }
+    Ok(Condition::Equal(sets))
+}
+
+/// Each column with its value.
+fn sets(
+    alloc: Global,
+    columns: &[Column],
+    map: &[MapColumn],
+    row: &[Value],
+) -> Result<Sets, AllocError>
+    ensures { IfOk result (λ made. made ≡ sets columns.now (given_values map.now row.now)) }
+{
+    let mut made = Sequence::new(alloc);
+    for column in columns {
+        let Some(new) = map.get(made.len()) else {
+            return Ok(made);
+        };
+        made.push(Set {
+            column: column.name.copy()?,
+            value: value_of(new, row)?,
+        })?;
+    }
+    Ok(made)
+}
+
+impl Applier {
+    /// The statement that does what is planned.
+    pub(crate) fn statement_of(
+        &self,
+        alloc: Global,
+        planned: Planned<'_>,
+    ) -> Result<Statement, AllocError>
+        ensures { IfOk result (λ statement. statement ≡ statement_of self.now (meant planned.entry)) }
+    {
+        let map = self.map.as_slice();
+        let table = self.new_schema.name.copy()?;
+        match planned {
+            Planned::Put(row) => Ok(Statement::Replace {
+                table,
+                columns: None,
+                values: given_values(alloc, map, row.as_slice())?,
+            }),
+            Planned::Remove(row) => Ok(Statement::Delete {
+                table,
+                condition: by_key(alloc, &self.new_schema, map, row.as_slice())?,
+            }),
+            Planned::Change(before, after) => Ok(Statement::Update {
+                table,
+                sets: sets(
+                    alloc,
+                    self.new_schema.columns.as_slice(),
+                    map,
+                    after.as_slice(),
+                )?,
+                condition: by_key(alloc, &self.new_schema, map, before.as_slice())?,
+            }),
+        }
+    }
+}

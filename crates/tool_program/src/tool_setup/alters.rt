@@ -1,0 +1,35 @@
+//! What a plan's ALTER makes of its table, for the tool.
+
+ghost use Rattle.std.specs.Prelude.{◌≡◌, IfOk};
+ghost use Rattle.plan_data.specs.PlanData.{new_schema, new_map};
+ghost use Rattle.base_values.specs.ToolNames.{ghost_name};
+
+use base_values::Duplicate;
+use base_values::gho_schema::Schema;
+use base_values::row_conversion::ColumnMap;
+use base_values::tool_names::ghost_name;
+use plan_data::Plan;
+use std::alloc::{AllocError, Global};
+
+/// Where the values of the new columns come from.
+#[tactic(auto, using(crate::proofs::ToolSetup::Altered::map_is))]
+pub fn new_map(plan: &Plan) -> &ColumnMap
+    ensures { result.now ≡ new_map plan.now }
+{
+    &plan.altered().map
+}
+
+/// The schema of the new table, under the name that it has until it takes the migrated table's.
+#[tactic(auto, using(crate::proofs::ToolSetup::Altered::schema_is))]
+pub fn new_table(alloc: Global, plan: &Plan) -> Result<Schema, AllocError>
+    ensures { IfOk result (λ schema. schema ≡ record (new_schema plan.now) { name = ghost_name plan.now.table }) }
+{
+    let altered = &plan.altered().schema;
+    Ok(Schema {
+        name: ghost_name(alloc, plan.table())?,
+        columns: altered.columns.copy()?,
+        uniques: altered.uniques.copy()?,
+        indexes: altered.indexes.copy()?,
+        comment: altered.comment.copy()?,
+    })
+}

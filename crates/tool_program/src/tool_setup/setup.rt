@@ -1,0 +1,99 @@
+//! The setup: what the inspector does before the copy begins.
+
+ghost use Rattle.std.specs.Prelude.{◌≡◌, Some, IfOk};
+ghost use Rattle.tool_program.specs.Setups.{listed, clearing, setup_call, setup_after};
+ghost use Rattle.tool_program.specs.ToolSetup.Meanings.{setup_of, took_of, range_told};
+
+use crate::cutover_core::{Leftovers, is_bad, lists_log, lists_new_table, lists_old_table};
+use crate::tool_setup::alters::new_table;
+use base_values::{Duplicate, Name};
+use plan_data::Plan;
+use server_model::{Answer, Request, TableNames};
+use std::alloc::{AllocError, Global};
+use tool_changelog::log_schema;
+
+/// How far the setup is.
+#[derive(Clone, Copy)]
+pub enum Setup {
+    /// The tables are listed.
+    Listing,
+    /// What an earlier migration left is dropped, one by one.
+    Clearing(Leftovers),
+    /// The changelog is made.
+    MakingLog,
+    /// The new table is made.
+    MakingGhost,
+    /// It asks for the log's end.
+    Marking,
+    /// It asks for the range of keys; the log ended here.
+    Reaching(u64),
+}
+
+/// What an answer makes of the setup.
+#[derive(Clone, Copy)]
+pub enum SetupTook {
+    /// It goes on so.
+    Goes(Setup),
+    /// It is over: the applier begins behind so many events, and the range that was told is copied.
+    Over(u64),
+}
+
+/// Which of the tool's tables are listed.
+fn listed(table: &Name, tables: &TableNames) -> Leftovers
+    ensures { result ≡ listed table.now tables.now }
+{
+    Leftovers {
+        log: lists_log(table, tables),
+        new_table: lists_new_table(table, tables),
+        old: lists_old_table(table, tables),
+    }
+}
+
+fn clearing(left: Leftovers) -> Setup
+    ensures { setup_of result ≡ clearing left }
+{
+    if left.is_clear() {
+        Setup::MakingLog
+    } else {
+        Setup::Clearing(left)
+    }
+}
+
+impl Setup {
+    /// The next call.
+    pub fn call(self, alloc: Global, plan: &Plan) -> Result<Request, AllocError>
+        ensures { IfOk result (λ request. Some request ≡ setup_call plan.now (setup_of self)) }
+    {
+        Ok(match self {
+            Setup::Listing => Request::ShowTables,
+            Setup::Clearing(left) => Request::Drop(left.first_name(alloc, plan.table())?),
+            Setup::MakingLog => Request::Create(log_schema(alloc, plan.table())?),
+            Setup::MakingGhost => Request::Create(new_table(alloc, plan)?),
+            Setup::Marking => Request::LogEnd,
+            Setup::Reaching(_) => Request::Ends(plan.table().copy()?),
+        })
+    }
+
+    /// What an answer makes of it; a lost call and a time-out begin it again. It takes no memory: the range that the last
+    /// answer tells stays in the answer.
+    pub fn took(self, table: &Name, answer: &Answer) -> SetupTook
+        ensures { took_of result (range_told answer.now) ≡ setup_after table.now (setup_of self) answer.now }
+    {
+        if is_bad(answer) {
+            return SetupTook::Goes(Setup::Listing);
+        }
+        match (self, answer) {
+            (Setup::Listing, Answer::Tables(tables)) => {
+                SetupTook::Goes(clearing(listed(table, tables)))
+            }
+            (Setup::Clearing(left), Answer::Ok(_)) => {
+                SetupTook::Goes(clearing(left.without_first()))
+            }
+            (Setup::MakingLog, Answer::Ok(_)) => SetupTook::Goes(Setup::MakingGhost),
+            (Setup::MakingGhost, Answer::Ok(_)) => SetupTook::Goes(Setup::Marking),
+            (Setup::Marking, Answer::At(position)) => SetupTook::Goes(Setup::Reaching(*position)),
+            (Setup::Reaching(position), Answer::Ends(_)) => SetupTook::Over(position),
+            (setup, _) => SetupTook::Goes(setup),
+        }
+    }
+}

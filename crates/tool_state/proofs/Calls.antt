@@ -1,0 +1,17 @@
+-- What the setup asks.
+use Rattle.std.proofs.Common.{◌≡◌, refl, true}
+use Rattle.std.specs.Prelude.{is_some}
+use Rattle.plan_data.specs.PlanData.{PlanData}
+use Rattle.tool_program.specs.Setups.{setup_call}
+use Rattle.tool_program.specs.declared.tool_setup.setup.Setup.{Setup}
+use Rattle.tool_program.specs.declared.tool_setup.setup.Setup.TheVariants.{Listing, Clearing, MakingLog, MakingGhost, Marking, Reaching}
+use Rattle.tool_program.specs.ToolSetup.Meanings.{setup_of}
+
+-- until it is over it has a call
+pub setup_calls : (plan : PlanData) (setup : Setup) → is_some (setup_call plan (setup_of setup)) ≡ true
+setup_calls plan Listing = refl
+setup_calls plan (Clearing left) = refl
+setup_calls plan MakingLog = refl
+setup_calls plan MakingGhost = refl
+setup_calls plan Marking = refl
+setup_calls plan (Reaching position) = refl

@@ -1,0 +1,15 @@
+//! What the tool asks next, when it is over and how it ended, read off its record, its turns so far and the server. The record
+//! is that of the module `tool_state`.
+#![tactic(auto)]
+
+mod calls;
+mod causes;
+mod ending;
+mod ready;
+pub mod tool_state;
+mod tool_view;
+
+pub use calls::commands;
+pub use causes::verdict;
+pub use ending::is_over;
+pub use tool_view::ToolView;

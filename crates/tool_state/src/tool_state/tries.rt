@@ -1,0 +1,98 @@
+//! The turns in which a task failed.
+
+ghost use Rattle.std.specs.Prelude.{◌≡◌, ◌==◌, ◌+◌, ◌<◌, ◌≤◌, [], ◌∷◌, ◌++◌, length, OnOk};
+
+use std::alloc::{AllocError, Global};
+use std::marker::Model;
+
+/// The turns in which a task failed, in order. Contracts see besides for how many it has room in all.
+#[derive(Drop)]
+pub struct Tries {
+    turns: Vec<u64>,
+}
+
+impl Model for Tries {
+    ghost use Rattle.std.specs.Prelude.{vec_capacity};
+    ghost use Rattle.tool_state.specs.ToolState.TryTurns.{TryTurns};
+
+    ghost Value = { TryTurns };
+
+    ghost view = { λ t. record { turns = t.turns.items; room = vec_capacity t.turns } };
+}
+
+impl Tries {
+    /// No try has failed. It takes no memory.
+    pub fn new(alloc: Global) -> Tries
+        ensures { result.turns ≡ [] }
+    {
+        Tries {
+            turns: Vec::new(alloc),
+        }
+    }
+
+    /// How many tries failed.
+    pub fn len(&self) -> usize
+        ensures { result ≡ length self.now.turns }
+    {
+        self.turns.len()
+    }
+
+    /// Whether no try failed.
+    pub fn is_empty(&self) -> bool
+        ensures { result ≡ (length self.now.turns == 0) }
+    {
+        self.turns.is_empty()
+    }
+
+    /// The turns in order.
+    pub fn as_slice(&self) -> &[u64]
+        ensures { result.now ≡ self.now.turns }
+    {
+        self.turns.as_slice()
+    }
+
+    /// For how many turns it has room in all.
+    pub fn room(&self) -> usize
+        ensures { result ≡ self.now.room }
+    {
+        self.turns.capacity()
+    }
+
+    /// Makes room for so many more turns.
+    pub fn reserve(&mut self, more: usize) -> Result<(), AllocError>
+        ensures turns { self.new.turns ≡ self.old.turns }
+        ensures ok { OnOk result (length self.new.turns + more ≤ self.new.room) }
+        ensures room { self.old.room ≤ self.new.room }
+    {
+        self.turns.reserve(more)
+    }
+
+    /// One more failed. It takes no memory.
+    pub fn add(&mut self, turn: u64)
+        requires { length self.old.turns < self.old.room }
+        ensures turns { self.new.turns ≡ self.old.turns ++ turn ∷ [] }
+        ensures room { self.new.room ≡ self.old.room }
+    {
+        self.turns.push_reserved(turn);
+    }
+
+    /// The task is done: none of the next task has failed. It takes no memory.
+    pub fn clear(&mut self)
+        ensures turns { self.new.turns ≡ [] }
+        ensures room { self.new.room ≡ self.old.room }
+    {
+        self.turns.clear();
+    }
+
+    /// The same turns as the other's. It takes no memory.
+    pub fn copy_from(&mut self, other: &Tries)
+        requires { length other.now.turns ≤ self.old.room }
+        ensures turns { self.new.turns ≡ other.now.turns }
+        ensures room { self.new.room ≡ self.old.room }
+    {
+        self.turns.clear();
+        for turn in other.turns.as_slice() {
+            self.turns.push_reserved(*turn);
+        }
+    }
+}

@@ -1,0 +1,155 @@
+-- How a call ends, from what its words and its source come to and what was given of it.
+use Rattle.std.proofs.Common.{◌≡◌, ℕ, true, List, Option, Some, None, Result, Ok, Err, inl, inr, refl, sym, ap, ◌∙◌, subst}
+use Rattle.std.specs.Io.KnownBytes.{Appends}
+use Rattle.server_model.specs.declared.entry.Entry.{Entry}
+use Rattle.server_model.specs.declared.outcome.Verdict.{Verdict}
+use Rattle.server_model.specs.declared.outcome.Verdict.TheVariants as verdicts
+use Rattle.plan_data.specs.PlanData.{PlanData}
+use Rattle.plan_reader.specs.declared.fault.PlanRefusal.{PlanRefusal}
+use Rattle.plan_reader.specs.Plans.{read}
+use Rattle.tool_program.specs.JournalWords.Journals.{state_at}
+use Rattle.tool_program.specs.Verdicts.{verdict_of}
+use Rattle.top_report.specs.Reports.{report}
+use Rattle.top_words.specs.Commands.{command}
+use Rattle.top_words.specs.declared.command.Command.{Command}
+use Rattle.top_words.specs.declared.command.Command.TheVariants.{Check, Replay, Run, Generate}
+use Rattle.top_endings.specs.declared.command.PlanCommand.{PlanCommand}
+use Rattle.top_endings.specs.declared.command.PlanCommand.TheVariants as plans
+use Rattle.top_endings.specs.declared.printed.Printed.{Printed}
+use Rattle.top_endings.specs.declared.status.Status.{Status}
+use Rattle.top_endings.specs.declared.status.Status.TheVariants as statuses
+use Rattle.top_endings.specs.declared.turn.Turn.{Turn}
+use Rattle.top_endings.specs.Endings.{Taking, Giving, IsReadFault, IsUsage, IsWorkload, Gives, asked, reads_plan}
+use Rattle.top_endings.specs.Checks.{IsSchema}
+use Rattle.top_endings.specs.Texts.{IsRefusal}
+use Rattle.top_call.specs.WholeReplays.SoundRuns.{IsSoundRun}
+use Rattle.top_call.specs.Comings.{IsRead, TellsPlan, ComesTo, Does}
+use Rattle.top_call.specs.Outcomes.{IsTaken, TakesNone, Comes, status_of}
+use Rattle.top_call.specs.Promises.{Ends, EndsUnder, PrintsDone, PrintsReport}
+use Rattle.top_call.specs.Standing.{Laws}
+use Rattle.top_call.proofs.Headline.{runs_of}
+use Rattle.top_call.proofs.Taken.{sound_of, ends_as, is_taken, tells_alter}
+
+-- WHAT IS PRINTED WHOLE
+
+module _ (words : List (List ℕ)) (source : Taking) (sink : Giving) (turns : List Turn) (journal : List Entry) where
+  abbrev Under : Status → Type 0
+  Under status = EndsUnder status words source sink turns journal
+
+  abbrev Gave : Printed → Type 0
+  Gave printed = Appends sink.before sink.after printed.text
+
+  text_given : (printed : Printed) (text : List ℕ) → printed.text ≡ text → Gave printed → Appends sink.before sink.after text
+  text_given printed text is given = subst (λ (bytes : List ℕ). Appends sink.before sink.after bytes) is given
+
+  reads_by : (told : PlanCommand) → command words ≡ Some (asked told) → reads_plan (command words) ≡ true
+  reads_by plans.Check is = ap reads_plan is
+  reads_by plans.Replay is = ap reads_plan is
+  reads_by (plans.Run workers) is = ap reads_plan is
+
+  usage_under : (printed : Printed) → command words ≡ None → Gave printed → TakesNone (IsUsage source) (Some printed) turns journal → Under printed.status
+  usage_under printed faulty given comes =
+      subst Under (sym comes.shows.status_is) (record { faulty = faulty; untaken = comes.untaken; takes_none = comes.shows.takes_none; given = text_given printed _ comes.shows.text_is given })
+
+  -- what stands under status 0 of this command
+  done_under : (told : Option Command) (printed : Printed) → command words ≡ told → printed.status ≡ statuses.Done → PrintsDone told source sink turns journal → Under printed.status
+  done_under told printed is status prints = subst Under (sym status) (subst (λ (one : Option Command). PrintsDone one source sink turns journal) (sym is) prints)
+
+  workload_under : (number : ℕ) (printed : Printed) → command words ≡ Some (Generate number) → Gave printed → TakesNone (IsWorkload number source) (Some printed) turns journal → Under printed.status
+  workload_under number printed is given comes =
+      done_under (Some (Generate number)) printed is comes.shows.status_is (record { untaken = comes.untaken; takes_none = comes.shows.takes_none; given = text_given printed _ comes.shows.text_is given })
+
+  fault_under : (told : PlanCommand) (printed : Printed) → command words ≡ Some (asked told) → Gave printed → TakesNone (IsReadFault source) (Some printed) turns journal → Under printed.status
+  fault_under told printed is given comes =
+      subst Under (sym comes.shows.status_is) (record { reads = reads_by told is; untaken = comes.untaken; rose = comes.shows.rose; given = text_given printed _ comes.shows.text_is given })
+
+  refusal_under : (told : PlanCommand) (printed : Printed) (was : IsRead told source (Some printed) turns journal) (refusal : PlanRefusal) → command words ≡ Some (asked told) → read was.bytes ≡ Err refusal → Gave printed → TakesNone (IsRefusal refusal) (Some printed) turns journal → Under printed.status
+  refusal_under told printed was refusal is said given comes =
+      subst Under (sym comes.shows.status_is) (record {
+        reads = reads_by told is;
+        bytes = was.bytes;
+        whole = was.whole;
+        refusal = refusal;
+        refused = said;
+        given = text_given printed _ comes.shows.text_is given;
+        untaken = comes.untaken;
+      })
+
+  schema_under : (printed : Printed) (was : IsRead plans.Check source (Some printed) turns journal) (plan : PlanData) → command words ≡ Some Check → read was.bytes ≡ Ok plan → Gave printed → TakesNone (IsSchema plan) (Some printed) turns journal → Under printed.status
+  schema_under printed was plan is said given comes =
+      done_under (Some Check) printed is comes.shows.status_is (record {
+        bytes = was.bytes;
+        whole = was.whole;
+        plan = plan;
+        accepted = said;
+        text = printed.text;
+        schema = comes.shows.shows;
+        given = given;
+        untaken = comes.untaken;
+      })
+
+  printed_done : (told : PlanCommand) → PrintsReport told verdicts.Done source sink turns journal → PrintsDone (Some (asked told)) source sink turns journal
+  printed_done plans.Check prints = absurd prints.runs.takes
+  printed_done plans.Replay prints = prints
+  printed_done (plans.Run workers) prints = prints
+
+  module _ (laws : Laws) (told : PlanCommand) (printed : Printed) (was : IsRead told source (Some printed) turns journal) (plan : PlanData) (is : command words ≡ Some (asked told)) (said : read was.bytes ≡ Ok plan) (given : Gave printed) (taken : IsTaken told plan (Some printed) turns journal) where
+    sound : IsSoundRun plan journal
+    sound = sound_of told plan turns journal taken.takes
+
+    report_given : (verdict : Verdict) → verdict_of plan journal ≡ verdict → PrintsReport told verdict source sink turns journal
+    report_given verdict same =
+        let tells = tells_alter laws plan journal taken.was_read sound.kept.faithful sound.kept.follows in
+        record {
+          runs = runs_of laws told source (Some printed) turns journal was plan said taken;
+          taken = is_taken plan journal (laws.allow was.bytes plan said).turns taken.reports.over;
+          over = ends_as plan journal verdict tells taken.reports.over sound.bound same;
+          verdict_is = same;
+          tells = tells;
+          given = text_given printed _ (taken.reports.text_is ∙ ap (λ (v : Verdict). report plan journal v (state_at plan journal).tables) same) given;
+        }
+
+    verdict_under : (verdict : Verdict) → verdict_of plan journal ≡ verdict → printed.status ≡ status_of verdict → Under printed.status
+    unfolding report_given
+    verdict_under verdicts.Done same status = done_under (Some (asked told)) printed is status (printed_done told (report_given verdicts.Done same))
+    verdict_under verdicts.Unfinished same status = subst Under (sym status) (record { told = told; command_is = is; prints = report_given verdicts.Unfinished same })
+    verdict_under (verdicts.Reverted cause) same status =
+        subst Under (sym status) (record {
+          told = told;
+          command_is = is;
+          cause = cause;
+          prints = report_given (verdicts.Reverted cause) same;
+          stands = sound.causes cause same;
+        })
+
+    report_under : Under printed.status
+    report_under = verdict_under (verdict_of plan journal) refl taken.reports.status_is
+
+  said_under : Laws → (told : PlanCommand) (printed : Printed) (was : IsRead told source (Some printed) turns journal) (said : Result PlanData PlanRefusal) → command words ≡ Some (asked told) → read was.bytes ≡ said → Gave printed → Comes told said (Some printed) turns journal → Under printed.status
+  said_under laws plans.Check printed was (Ok plan) is said given comes = schema_under printed was plan is said given comes
+  said_under laws plans.Replay printed was (Ok plan) is said given comes = report_under laws plans.Replay printed was plan is said given comes
+  said_under laws (plans.Run workers) printed was (Ok plan) is said given comes = report_under laws (plans.Run workers) printed was plan is said given comes
+  said_under laws plans.Check printed was (Err refusal) is said given comes = refusal_under plans.Check printed was refusal is said given comes
+  said_under laws plans.Replay printed was (Err refusal) is said given comes = refusal_under plans.Replay printed was refusal is said given comes
+  said_under laws (plans.Run workers) printed was (Err refusal) is said given comes = refusal_under (plans.Run workers) printed was refusal is said given comes
+
+  plan_under : Laws → (told : PlanCommand) (printed : Printed) → command words ≡ Some (asked told) → Gave printed → TellsPlan told source (Some printed) turns journal → Under printed.status
+  plan_under laws told printed is given (inl was) = said_under laws told printed was (read was.bytes) is refl given was.comes
+  plan_under laws told printed is given (inr fault) = fault_under told printed is given fault
+
+  whole_under : Laws → (told : Option Command) (printed : Printed) → command words ≡ told → Gave printed → ComesTo told source (Some printed) turns journal → Under printed.status
+  unfolding ComesTo
+  whole_under laws None printed is given comes = usage_under printed is given comes
+  whole_under laws (Some (Run workers)) printed is given comes = plan_under laws (plans.Run workers) printed is given comes
+  whole_under laws (Some (Generate number)) printed is given comes = workload_under number printed is given comes
+  whole_under laws (Some Check) printed is given comes = plan_under laws plans.Check printed is given comes
+  whole_under laws (Some Replay) printed is given comes = plan_under laws plans.Replay printed is given comes
+
+  given_under : Laws → (printed : Option Printed) (status : Status) → ComesTo (command words) source printed turns journal → Gives printed sink status → Under status
+  given_under laws None status comes gives = subst Under (sym gives.status_is) (record { comes = comes; given = gives.given })
+  given_under laws (Some printed) status comes (inl all) = subst Under (sym all.status_is) (whole_under laws (command words) printed refl all.given comes)
+  given_under laws (Some printed) status comes (inr front) = subst Under (sym front.status_is) (record { printed = printed; comes = comes; given = front.given; rose = front.rose })
+
+  -- *Ends*
+  pub ends_by : Laws → (number : ℕ) → Does words source sink turns journal number → Ends words source sink turns journal number
+  ends_by laws number does = record { status = does.status; number_is = does.number_is; under = given_under laws does.printed does.status does.comes does.gives }

@@ -1,0 +1,103 @@
+-- A run that is over: turns were taken, and it ended as its verdict says.
+use Rattle.std.proofs.Common.{◌≡◌, ℕ, suc, ◌==◌, ◌≤◌, nat_le, Bool, true, false, ◌||◌, if◌then◌else◌, List, [], ◌∷◌, length, refl, sym, ap, ◌∙◌, arith}
+use Rattle.std.specs.List.{list_any}
+use Rattle.std.proofs.lemmas.Bool.{true≢false}
+use Rattle.std.proofs.lemmas.Bool.Decides.{nat_tests}
+use Rattle.server_model.specs.declared.entry.Entry.{Entry}
+use Rattle.server_model.specs.declared.outcome.Cause.{Cause}
+use Rattle.server_model.specs.declared.outcome.Verdict.{Verdict}
+use Rattle.server_model.specs.declared.outcome.Verdict.TheVariants as verdicts
+use Rattle.plan_data.specs.PlanData.{PlanData}
+use Rattle.tool_program.specs.JournalWords.Histories.{history, is_alter}
+use Rattle.tool_program.specs.JournalWords.Journals.{IsFaithful}
+use Rattle.tool_program.specs.Programs.{Follows}
+use Rattle.tool_program.specs.Tools.{moment}
+use Rattle.tool_program.specs.Verdicts.{has_ended, ended_so, verdict_of}
+use Rattle.proof_journals.specs.RunLaws.Kept.{IsKept}
+use Rattle.proof_journals.specs.MachineLaws.Laws.{TellsAlter}
+use Rattle.proof_plans.specs.AcceptedLaws.Laws.{WasRead}
+use Rattle.run_turns.specs.Runs.{is_over}
+use Rattle.top_call.specs.WholeReplays.SoundRuns.{IsSoundRun}
+use Rattle.top_endings.specs.declared.command.PlanCommand.{PlanCommand}
+use Rattle.top_endings.specs.declared.command.PlanCommand.TheVariants.{Check, Replay, Run}
+use Rattle.top_endings.specs.declared.turn.Turn.{Turn}
+use Rattle.top_call.specs.Outcomes.{Takes}
+use Rattle.top_call.specs.Promises.{Completes, EndsBy}
+use Rattle.top_call.specs.Standing.{Laws}
+
+pub tells_alter : Laws → (plan : PlanData) (journal : List Entry) → WasRead plan → IsFaithful plan journal → Follows plan journal → has_ended plan journal ≡ true → TellsAlter plan journal
+tells_alter laws plan journal was faithful follows ended = laws.tell plan journal (laws.runnable plan was).fitting (laws.runnable plan was).stands faithful follows ended
+
+-- the run whose turns a command takes is sound, whichever it is
+pub sound_of : (told : PlanCommand) (plan : PlanData) (turns : List Turn) (journal : List Entry) → Takes told plan turns journal → IsSoundRun plan journal
+sound_of Check plan turns journal taken = absurd taken
+sound_of Replay plan turns journal taken = taken.0.sound
+sound_of (Run workers) plan turns journal taken = taken.sound
+
+-- *Completes*
+pub completes : Laws → (plan : PlanData) (journal : List Entry) → WasRead plan → IsKept plan journal → Completes plan journal
+completes laws plan journal was kept is_quiet converted_rows within ended = laws.quiet plan journal is_quiet converted_rows (laws.runnable plan was) (laws.serial was.bytes plan was.is) kept within ended
+
+-- HOW IT ENDED
+
+not_done : verdicts.Unfinished ≡ verdicts.Done → ⊥
+not_done same = cc
+
+not_reverted : (cause : Cause) → verdicts.Unfinished ≡ verdicts.Reverted cause → ⊥
+not_reverted cause same = cc
+
+at_limit : (limit count : ℕ) → nat_le limit count ≡ true → count ≤ limit → count ≡ limit
+at_limit limit count full bound = grind (arith, nat_tests, full, bound)
+
+unended : (plan : PlanData) (journal : List Entry) → has_ended plan journal ≡ false → verdict_of plan journal ≡ verdicts.Unfinished
+unfolding verdict_of
+unended plan journal is = ap (λ (b : Bool). if b then ended_so plan journal (moment plan journal).tool else verdicts.Unfinished) is
+
+spent : (plan : PlanData) (journal : List Entry) → has_ended plan journal ≡ false → is_over plan journal ≡ true → nat_le plan.options.turn_limit (length journal) ≡ true
+unfolding is_over
+spent plan journal is over = by (has_ended plan journal) is over where
+  by : (b : Bool) → b ≡ false → (b || nat_le plan.options.turn_limit (length journal)) ≡ true → nat_le plan.options.turn_limit (length journal) ≡ true
+  by true is over = absurd (true≢false is)
+  by false is over = over
+
+as_unended : (plan : PlanData) (journal : List Entry) (verdict : Verdict) → has_ended plan journal ≡ false → is_over plan journal ≡ true → length journal ≤ plan.options.turn_limit → verdicts.Unfinished ≡ verdict → EndsBy plan journal verdict
+as_unended plan journal verdicts.Unfinished is over bound same = (is, at_limit plan.options.turn_limit (length journal) (spent plan journal is over) bound)
+as_unended plan journal verdicts.Done is over bound same = absurd (not_done same)
+as_unended plan journal (verdicts.Reverted cause) is over bound same = absurd (not_reverted cause same)
+
+told : (plan : PlanData) (journal : List Entry) → TellsAlter plan journal → verdict_of plan journal ≡ verdicts.Unfinished → ⊥
+told plan journal tells is = by (list_any is_alter (history plan journal)) refl where
+  by : (b : Bool) → list_any is_alter (history plan journal) ≡ b → ⊥
+  by true alters = not_done (sym is ∙ tells.done alters)
+  by false alters = not_reverted (tells.reverted alters).0 (sym is ∙ (tells.reverted alters).1)
+
+as_ended : (plan : PlanData) (journal : List Entry) (verdict : Verdict) → has_ended plan journal ≡ true → TellsAlter plan journal → verdict_of plan journal ≡ verdict → EndsBy plan journal verdict
+as_ended plan journal verdicts.Unfinished ended tells same = absurd (told plan journal tells same)
+as_ended plan journal verdicts.Done ended tells same = ended
+as_ended plan journal (verdicts.Reverted cause) ended tells same = ended
+
+-- *Ended as its verdict says*
+pub ends_as : (plan : PlanData) (journal : List Entry) (verdict : Verdict) → (has_ended plan journal ≡ true → TellsAlter plan journal) → is_over plan journal ≡ true → length journal ≤ plan.options.turn_limit → verdict_of plan journal ≡ verdict → EndsBy plan journal verdict
+ends_as plan journal verdict tells over bound same = by (has_ended plan journal) refl where
+  by : (b : Bool) → has_ended plan journal ≡ b → EndsBy plan journal verdict
+  by true is = as_ended plan journal verdict is (tells is) same
+  by false is = as_unended plan journal verdict is over bound (sym (unended plan journal is) ∙ same)
+
+begins_going : (plan : PlanData) → has_ended plan [] ≡ false
+unfolding has_ended moment
+begins_going plan = refl
+
+never_over : (plan : PlanData) → 1 ≤ plan.options.turn_limit → is_over plan [] ≡ true → ⊥
+unfolding is_over
+never_over plan some over = by (has_ended plan []) (begins_going plan) over where
+  by : (b : Bool) → b ≡ false → (b || nat_le plan.options.turn_limit 0) ≡ true → ⊥
+  by true is over = true≢false is
+  by false is over = grind (arith, nat_tests, some, over)
+
+some_more : (n : ℕ) → (suc n == 0) ≡ false
+some_more n = grind (arith, nat_tests)
+
+-- *Turns were taken*
+pub is_taken : (plan : PlanData) (journal : List Entry) → 1 ≤ plan.options.turn_limit → is_over plan journal ≡ true → (length journal == 0) ≡ false
+is_taken plan [] some over = absurd (never_over plan some over)
+is_taken plan (entry ∷ journal) some over = some_more (length journal)

@@ -1,0 +1,18 @@
+-- Kept runs of accepted plans are sound.
+use Rattle.proof_plans.specs.Laws.{AcceptedRunsAreSerial, AcceptedRenamesFindTheAltered, AcceptedRunsFindTheTable, AcceptedRunsKeepTheOldTable, AcceptedRunsAreOnline, AcceptedCausesStand}
+use Rattle.top_call.specs.WholeReplays.SoundRuns.{KeptRunsAreSound}
+
+-- *Kept runs are sound*
+pub sound : AcceptedRunsAreSerial → AcceptedRenamesFindTheAltered → AcceptedRunsFindTheTable → AcceptedRunsKeepTheOldTable → AcceptedRunsAreOnline → AcceptedCausesStand → KeptRunsAreSound
+unfolding KeptRunsAreSound
+sound serial altered found old online causes plan journal was kept bound stops = record {
+  kept = kept;
+  bound = bound;
+  stops = stops;
+  serial = serial plan journal was kept;
+  altered = λ before entry behind table new is rename stands alters. altered plan table new before entry was stands alters rename;
+  found = found plan journal was kept;
+  old = old plan journal was kept;
+  online = online plan journal was kept;
+  causes = λ cause is. causes plan journal cause was kept is;
+}

@@ -1,0 +1,104 @@
+-- The replay of a plan that was read.
+use Rattle.std.proofs.Common.{◌≡◌, ◌≤◌, ◌≢◌, nat_le, Bool, true, false, ◌||◌, List, [], ◌∷◌, length, cond, Option, Some, None, IfSome, refl, sym, subst, ◌∙◌}
+use Rattle.std.specs.List.{list_any}
+use Rattle.base_script.specs.declared.actor.Actor.{Actor}
+use Rattle.server_model.specs.declared.entry.Entry.{Entry}
+use Rattle.server_model.specs.declared.outcome.Verdict.{Verdict}
+use Rattle.server_model.specs.States.{State}
+use Rattle.plan_data.specs.PlanData.{PlanData}
+use Rattle.tool_program.specs.JournalWords.Journals.{state_at}
+use Rattle.tool_program.specs.JournalWords.Sessions.{KeepsSessions}
+use Rattle.tool_program.specs.Orders.{actors, is_ready, Found, Queue, first_ready, from_pass, from_round, from_words, actor_of, chosen, queue_at, next_actor, IsReplay}
+use Rattle.tool_program.specs.Verdicts.{has_ended, verdict_of}
+use Rattle.proof_journals.specs.RunLaws.Kept.{IsKept}
+use Rattle.tool_program.specs.ReplayLaws.Laws.{OneReplay}
+use Rattle.proof_plans.specs.AcceptedLaws.Laws.{WasRead}
+use Rattle.proof_plans.specs.Laws.{AcceptedRunsGoOn}
+use Rattle.run_turns.specs.Runs.{RunView, is_over, Stops}
+use Rattle.run_replay.specs.WholeReplay.Replays.{IsStalled}
+use Rattle.run_replay.specs.declared.whole_replay.replays.Replayed.{Replayed}
+use Rattle.run_replay.specs.declared.whole_replay.replays.Replayed.TheVariants as replayed
+use Rattle.top_call.specs.WholeReplays.SoundRuns.{KeptRunsAreSound}
+use Rattle.top_call.specs.WholeReplays.Replays.{IsWholeReplay, IsEnd}
+
+abbrev kept_of : (plan : PlanData) (journal : List Entry) → IsReplay plan journal → KeepsSessions journal → IsKept plan journal
+kept_of plan journal replay sessions = record { faithful = replay.faithful; planned = replay.planned; follows = replay.follows; sessions = sessions }
+
+-- *Whole replay*
+pub whole : KeptRunsAreSound → OneReplay → (plan : PlanData) (journal : List Entry) → WasRead plan → IsReplay plan journal → KeepsSessions journal → length journal ≤ plan.options.turn_limit → Stops plan journal → IsWholeReplay plan journal
+unfolding KeptRunsAreSound
+whole sound one plan journal was replay sessions bound stops = record {
+  sound = sound plan journal was (kept_of plan journal replay sessions) bound stops;
+  replay = replay;
+  only = λ other others same. one plan other journal others replay same;
+}
+
+-- NOBODY IS READY
+
+some_ready : (ready : Actor → Bool) (all : List Actor) → first_ready ready all ≡ None → list_any ready all ≡ false
+unfolding first_ready
+some_ready ready [] none = refl
+some_ready ready (actor ∷ others) none = by (ready actor) none (some_ready ready others) where
+  by : (b : Bool) → cond b (Some (record { actor = actor; behind = others })) (first_ready ready others) ≡ None → (first_ready ready others ≡ None → list_any ready others ≡ false) → (b || list_any ready others) ≡ false
+  by true none rest = absurd cc
+  by false none rest = rest none
+
+none_passed : (found : Option Found) → actor_of (from_pass found) ≡ None → found ≡ None
+none_passed None is = refl
+none_passed (Some found) is = absurd cc
+
+none_round : (ready : Actor → Bool) (all : List Actor) (found : Option Found) → actor_of (from_round ready all found) ≡ None → first_ready ready all ≡ None
+none_round ready all None is = none_passed (first_ready ready all) is
+none_round ready all (Some found) is = absurd cc
+
+none_words : (ready : Actor → Bool) (all : List Actor) (queue : Queue) (found : Option Found) → actor_of (from_words ready all queue found) ≡ None → first_ready ready all ≡ None
+none_words ready all queue None is = none_round ready all (first_ready ready queue.round) is
+none_words ready all queue (Some found) is = absurd cc
+
+nobody_ready : (plan : PlanData) (journal : List Entry) → next_actor plan journal ≡ None → list_any (is_ready plan journal) (actors plan) ≡ false
+unfolding next_actor chosen
+nobody_ready plan journal none =
+    some_ready (is_ready plan journal) (actors plan) (none_words (is_ready plan journal) (actors plan) (queue_at plan journal) (first_ready (is_ready plan journal) (queue_at plan journal).words) none)
+
+-- a run in which nobody is ready has ended
+stalled_over : AcceptedRunsGoOn → (plan : PlanData) (journal : List Entry) → WasRead plan → IsKept plan journal → IsStalled plan journal → is_over plan journal ≡ true
+unfolding is_over
+stalled_over goes plan journal was kept stalled = by (has_ended plan journal) refl where
+  by : (b : Bool) → has_ended plan journal ≡ b → (b || nat_le plan.options.turn_limit (length journal)) ≡ true
+  by true is = refl
+  by false is = absurd (let going = goes plan journal was kept is in let none = nobody_ready plan journal stalled.nobody in cc)
+
+-- *Replays end over*
+pub over_after : AcceptedRunsGoOn → (plan : PlanData) (journal : List Entry) (answer : Replayed) → WasRead plan → IsReplay plan journal → KeepsSessions journal → answer ≢ replayed.NoMemory → (answer ≡ replayed.Over → is_over plan journal ≡ true) → (answer ≡ replayed.Stalled → IsStalled plan journal) → is_over plan journal ≡ true
+over_after goes plan journal replayed.Over was replay sessions memory over stalled = over refl
+over_after goes plan journal replayed.Stalled was replay sessions memory over stalled = stalled_over goes plan journal was (kept_of plan journal replay sessions) (stalled refl)
+over_after goes plan journal replayed.NoMemory was replay sessions memory over stalled = absurd (memory refl)
+
+-- OF A RUN
+
+-- the same of the run that it was, and of the journal that is taken out of it
+pub whole_of : KeptRunsAreSound → OneReplay → (plan : PlanData) (run : RunView) (journal : List Entry) → run.plan ≡ plan → journal ≡ run.journal → WasRead plan → IsReplay run.plan run.journal → KeepsSessions run.journal → length run.journal ≤ run.plan.options.turn_limit → Stops run.plan run.journal → IsWholeReplay plan journal
+whole_of sound one plan run journal plan_is journal_is was replay sessions bound stops =
+    subst (IsWholeReplay plan) (sym journal_is) (subst (λ (p : PlanData). IsWholeReplay p run.journal) plan_is (whole sound one run.plan run.journal (subst WasRead (sym plan_is) was) replay sessions bound stops))
+
+pub end_of : AcceptedRunsGoOn → (plan : PlanData) (run : RunView) (journal : List Entry) (answer : Replayed) (verdict : Verdict) (server : State) → run.plan ≡ plan → journal ≡ run.journal → WasRead plan → IsReplay run.plan run.journal → KeepsSessions run.journal → answer ≢ replayed.NoMemory → (answer ≡ replayed.Over → is_over run.plan run.journal ≡ true) → (answer ≡ replayed.Stalled → IsStalled run.plan run.journal)
+    → verdict ≡ verdict_of run.plan run.journal → server ≡ run.server → (answer ≢ replayed.NoMemory → run.server ≡ state_at run.plan run.journal) → IsEnd plan journal verdict server
+end_of goes plan run journal answer verdict server plan_is journal_is was replay sessions memory over stalled verdict_is server_is at_end =
+    subst (λ (j : List Entry). IsEnd plan j verdict server) (sym journal_is) (subst (λ (p : PlanData). IsEnd p run.journal verdict server) plan_is (record {
+      over = over_after goes run.plan run.journal answer (subst WasRead (sym plan_is) was) replay sessions memory over stalled;
+      verdict_is = verdict_is;
+      server_is = server_is ∙ at_end memory;
+    }))
+
+-- the same of each verdict that there is
+pub told_end : AcceptedRunsGoOn → (plan : PlanData) (run : RunView) (journal : List Entry) (answer : Replayed) (told : Option Verdict) (server : State) → run.plan ≡ plan → journal ≡ run.journal → WasRead plan → IsReplay run.plan run.journal → KeepsSessions run.journal → IfSome told (λ verdict. answer ≢ replayed.NoMemory) → (answer ≡ replayed.Over → is_over run.plan run.journal ≡ true) → (answer ≡ replayed.Stalled → IsStalled run.plan run.journal)
+    → IfSome told (λ verdict. verdict ≡ verdict_of run.plan run.journal) → server ≡ run.server → (answer ≢ replayed.NoMemory → run.server ≡ state_at run.plan run.journal) → IfSome told (λ verdict. IsEnd plan journal verdict server)
+told_end goes plan run journal answer None server plan_is journal_is was replay sessions memory over stalled verdict_is server_is at_end = tt
+told_end goes plan run journal answer (Some verdict) server plan_is journal_is was replay sessions memory over stalled verdict_is server_is at_end =
+    end_of goes plan run journal answer verdict server plan_is journal_is was replay sessions memory over stalled verdict_is server_is at_end
+
+-- what is so of the verdict and the server is so of an end with both
+pub with_end : {E : Type 0} (result : Option E) (verdict_in : E → Verdict) (state_in : E → State) (told : Option Verdict) (server : State) (P : Verdict → State → Type 0) → IfSome result (λ end. (told ≡ Some (verdict_in end)) × (state_in end ≡ server)) → IfSome told (λ verdict. P verdict server) → IfSome result (λ end. P (verdict_in end) (state_in end))
+with_end None verdict_in state_in told server P ends is = tt
+with_end (Some end) verdict_in state_in told server P ends is =
+    subst (λ (state : State). P (verdict_in end) state) (sym ends.1) (subst (λ (one : Option Verdict). IfSome one (λ verdict. P verdict server)) ends.0 is)

@@ -1,0 +1,44 @@
+-- What the words and the source come to. (This project's rule.)
+use Rattle.std.specs.Prelude.{◌≡◌, List, ℕ, Option, Some, None, ◌⊎◌}
+use Rattle.base_edges.specs.Whole.{ReadsWhole}
+use Rattle.server_model.specs.declared.entry.Entry.{Entry}
+use Rattle.plan_reader.specs.declared.limits.TheConstants.{PLAN_LIMIT}
+use Rattle.plan_reader.specs.Plans.{read}
+use Rattle.top_words.specs.Commands.{command}
+use Rattle.top_words.specs.declared.command.Command.{Command}
+use Rattle.top_words.specs.declared.command.Command.TheVariants.{Check, Replay, Run, Generate}
+use Rattle.top_endings.specs.declared.command.PlanCommand.{PlanCommand}
+use Rattle.top_endings.specs.declared.command.PlanCommand.TheVariants as plans
+use Rattle.top_endings.specs.declared.printed.Printed.{Printed}
+use Rattle.top_endings.specs.declared.turn.Turn.{Turn}
+use Rattle.top_endings.specs.declared.status.Status.{Status}
+use Rattle.top_endings.specs.Endings.{Taking, Giving, Gives, IsWorkload, IsUsage, IsReadFault, status_number}
+use Rattle.top_call.specs.Outcomes.{TakesNone, Comes}
+
+-- the source was read to its end or one byte past the limit, and this comes of its bytes under the command
+pub record IsRead (told : PlanCommand) (source : Taking) (printed : Option Printed) (turns : List Turn) (journal : List Entry) : Type 0 where
+  pub bytes : List ℕ
+  pub whole : ReadsWhole PLAN_LIMIT source.before source.after bytes
+  pub comes : Comes told (read bytes) printed turns journal
+
+-- what a source comes to under a command that reads a plan: what comes of its bytes; or no turn is taken, and it is said that
+-- the source failed, or nothing where memory ran out
+abbrev pub TellsPlan : PlanCommand → Taking → Option Printed → List Turn → List Entry → Type 0
+TellsPlan told source printed turns journal = IsRead told source printed turns journal ⊎ TakesNone (IsReadFault source) printed turns journal
+
+-- *Comes to*: what the words and the source come to
+unfoldable pub ComesTo : Option Command → Taking → Option Printed → List Turn → List Entry → Type 0
+ComesTo None source = TakesNone (IsUsage source)
+ComesTo (Some Check) source = TellsPlan plans.Check source
+ComesTo (Some Replay) source = TellsPlan plans.Replay source
+ComesTo (Some (Run workers)) source = TellsPlan (plans.Run workers) source
+ComesTo (Some (Generate number)) source = TakesNone (IsWorkload number source)
+
+-- *Does*: what a call did. Its words and the source come to what is printed, with its turns and its journal; of this so much
+-- was given; and the number is that of how it ended.
+pub record Does (words : List (List ℕ)) (source : Taking) (sink : Giving) (turns : List Turn) (journal : List Entry) (number : ℕ) : Type 0 where
+  pub printed : Option Printed
+  pub status : Status
+  pub comes : ComesTo (command words) source printed turns journal
+  pub gives : Gives printed sink status
+  pub number_is : number ≡ status_number status

@@ -1,0 +1,75 @@
+-- What comes of a plan's bytes: the turns that are taken, what is printed, and the status that it has where it is printed
+-- whole. (This project's rule.)
+use Rattle.std.specs.Prelude.{◌≡◌, true, List, [], map, Option, IfSome, Result, Ok, Err}
+use Rattle.server_model.specs.declared.entry.Entry.{Entry}
+use Rattle.server_model.specs.declared.outcome.Verdict.{Verdict}
+use Rattle.server_model.specs.declared.outcome.Verdict.TheVariants as verdicts
+use Rattle.plan_data.specs.PlanData.{PlanData}
+use Rattle.plan_reader.specs.declared.fault.PlanRefusal.{PlanRefusal}
+use Rattle.tool_program.specs.JournalWords.Journals.{state_at}
+use Rattle.tool_program.specs.Orders.{WorkerTurn}
+use Rattle.tool_program.specs.Verdicts.{verdict_of}
+use Rattle.proof_plans.specs.AcceptedLaws.Laws.{WasRead}
+use Rattle.top_report.specs.Reports.{report}
+use Rattle.run_turns.specs.Runs.{is_over}
+use Rattle.top_endings.specs.declared.command.PlanCommand.{PlanCommand}
+use Rattle.top_endings.specs.declared.command.PlanCommand.TheVariants.{Check, Replay, Run}
+use Rattle.top_endings.specs.declared.printed.Printed.{Printed}
+use Rattle.top_endings.specs.declared.status.Status.{Status}
+use Rattle.top_endings.specs.declared.status.Status.TheVariants as statuses
+use Rattle.top_endings.specs.declared.turn.Turn.{Turn}
+use Rattle.top_endings.specs.Checks.{IsSchema}
+use Rattle.top_endings.specs.Texts.{IsRefusal}
+use Rattle.top_call.specs.WholeReplays.Replays.{IsWholeReplay}
+use Rattle.top_call.specs.PlanWorks.Works.{IsWholeRun}
+
+-- the status of a report
+abbrev pub status_of : Verdict → Status
+status_of verdicts.Done = statuses.Done
+status_of (verdicts.Reverted cause) = statuses.Reverted
+status_of verdicts.Unfinished = statuses.TurnsSpent
+
+-- whose turns a replay's journal has: all are of worker 0
+abbrev pub turns_of : List Entry → List Turn
+turns_of journal = map (λ entry. record { worker = 0; actor = entry.actor }) journal
+
+-- whose turns a run by workers has
+abbrev pub worker_turns : List Turn → List WorkerTurn
+worker_turns turns = map (λ turn. record { worker = turn.worker; actor = turn.actor }) turns
+
+-- *Takes*: what holds of the turns that a command takes of a plan: they are those of its whole replay, or of its whole run by
+-- so many workers; `check` takes none
+abbrev pub Takes : PlanCommand → PlanData → List Turn → List Entry → Type 0
+Takes Check plan turns journal = ⊥
+Takes Replay plan turns journal = IsWholeReplay plan journal × (turns ≡ turns_of journal)
+Takes (Run workers) plan turns journal = IsWholeRun plan journal (worker_turns turns) workers
+
+-- no turn was taken
+pub record IsUntaken (turns : List Turn) (journal : List Entry) : Type 0 where
+  pub no_turns : turns ≡ []
+  pub no_journal : journal ≡ []
+
+-- no turn was taken, and this is printed, or nothing where memory ran out
+pub record TakesNone (Shows : Printed → Type 0) (printed : Option Printed) (turns : List Turn) (journal : List Entry) : Type 0 where
+  pub untaken : IsUntaken turns journal
+  pub shows : IfSome printed Shows
+
+-- the report of a run that has ended, or has as many turns as the plan allows
+pub record IsReport (plan : PlanData) (journal : List Entry) (printed : Printed) : Type 0 where
+  pub over : is_over plan journal ≡ true
+  pub status_is : printed.status ≡ status_of (verdict_of plan journal)
+  pub text_is : printed.text ≡ report plan journal (verdict_of plan journal) (state_at plan journal).tables
+
+-- These are the turns of the plan's whole replay, or of its whole run by so many workers; its report is printed, or nothing
+-- where memory ran out, and then the turns are those that were taken until then.
+pub record IsTaken (told : PlanCommand) (plan : PlanData) (printed : Option Printed) (turns : List Turn) (journal : List Entry) : Type 0 where
+  pub was_read : WasRead plan
+  pub takes : Takes told plan turns journal
+  pub reports : IfSome printed (IsReport plan journal)
+
+-- What comes of bytes that say this under a command: the plan's altered schema, or its replay or run, or the refusal.
+abbrev pub Comes : PlanCommand → Result PlanData PlanRefusal → Option Printed → List Turn → List Entry → Type 0
+Comes Check (Ok plan) printed turns journal = TakesNone (IsSchema plan) printed turns journal
+Comes Replay (Ok plan) printed turns journal = IsTaken Replay plan printed turns journal
+Comes (Run workers) (Ok plan) printed turns journal = IsTaken (Run workers) plan printed turns journal
+Comes command (Err refusal) printed turns journal = TakesNone (IsRefusal refusal) printed turns journal

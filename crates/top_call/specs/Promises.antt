@@ -1,0 +1,164 @@
+-- What the top call promises under each status.
+use Rattle.std.specs.Prelude.{◌≡◌, ℕ, ◌==◌, true, false, List, [], length, Option, Some, None, Ok, Err}
+use Rattle.std.specs.Io.KnownBytes.{Appends, Consumes}
+use Rattle.base_edges.specs.Edges.{Rose}
+use Rattle.base_edges.specs.Whole.{ReadsWhole, GivesPart}
+use Rattle.server_model.specs.declared.entry.Entry.{Entry}
+use Rattle.server_model.specs.declared.outcome.Cause.{Cause}
+use Rattle.server_model.specs.declared.outcome.Verdict.{Verdict}
+use Rattle.server_model.specs.declared.outcome.Verdict.TheVariants as verdicts
+use Rattle.plan_data.specs.PlanData.{PlanData}
+use Rattle.plan_reader.specs.declared.limits.TheConstants.{PLAN_LIMIT}
+use Rattle.plan_reader.specs.declared.fault.PlanRefusal.{PlanRefusal}
+use Rattle.plan_reader.specs.Plans.{read}
+use Rattle.tool_program.specs.JournalWords.Journals.{state_at}
+use Rattle.tool_program.specs.Failures.{Stands}
+use Rattle.tool_program.specs.Verdicts.{has_ended, verdict_of}
+use Rattle.proof_journals.specs.MachineLaws.Laws.{TellsAlter}
+use Rattle.proof_plans.specs.CompleteLaws.Quiet.{IsQuiet, RowsHaveConvertedRows, IsWithinLimits}
+use Rattle.top_report.specs.Reports.{report}
+use Rattle.top_words.specs.Commands.{command}
+use Rattle.top_words.specs.declared.command.Command.{Command}
+use Rattle.top_words.specs.declared.command.Command.TheVariants as commands
+use Rattle.top_endings.specs.declared.command.PlanCommand.{PlanCommand}
+use Rattle.top_endings.specs.declared.command.PlanCommand.TheVariants as plans
+use Rattle.top_endings.specs.declared.printed.Printed.{Printed}
+use Rattle.top_endings.specs.declared.status.Status.{Status}
+use Rattle.top_endings.specs.declared.status.Status.TheVariants.{Done, Usage, Refused, Reverted, ReadFault, WriteFault, NoMemory, TurnsSpent}
+use Rattle.top_endings.specs.declared.turn.Turn.{Turn}
+use Rattle.top_endings.specs.Checks.{IsSchemaText}
+use Rattle.top_endings.specs.Endings.{Taking, Giving, asked, reads_plan, status_number}
+use Rattle.top_endings.specs.Texts.{refused_text, usage_text, read_fault_text}
+use Rattle.top_workload.specs.Workloads.{workload}
+use Rattle.top_call.specs.Comings.{ComesTo}
+use Rattle.top_call.specs.Outcomes.{IsUntaken, Takes}
+
+-- *Completes*: where a plan has no client, no command and no loss, each row of its table has an image, no limit is met and the
+-- run has ended, the ALTER was done.
+abbrev pub Completes : PlanData → List Entry → Type 0
+Completes plan journal = IsQuiet plan → RowsHaveConvertedRows plan → IsWithinLimits plan journal → has_ended plan journal ≡ true → verdict_of plan journal ≡ verdicts.Done
+
+-- *The headline*, of the turns that a call leaves: the source was read whole, its bytes are an accepted plan, and the turns
+-- are those of the plan's whole replay, or of its whole run by so many workers, as the command says.
+pub record Runs (told : PlanCommand) (source : Taking) (turns : List Turn) (journal : List Entry) : Type 0 where
+  pub bytes : List ℕ
+  pub whole : ReadsWhole PLAN_LIMIT source.before source.after bytes
+  pub plan : PlanData
+  pub accepted : read bytes ≡ Ok plan
+  pub takes : Takes told plan turns journal
+  pub completes : Completes plan journal
+
+-- the same of the command that the words are
+pub record RunsBy (words : List (List ℕ)) (source : Taking) (turns : List Turn) (journal : List Entry) : Type 0 where
+  pub told : PlanCommand
+  pub command_is : command words ≡ Some (asked told)
+  pub runs : Runs told source turns journal
+
+-- Where the verdict is done or reverted, the run has ended; where it is unfinished, the run hasn't, and took as many turns
+-- as the plan allows.
+abbrev pub EndsBy : PlanData → List Entry → Verdict → Type 0
+EndsBy plan journal verdicts.Unfinished = (has_ended plan journal ≡ false) × (length journal ≡ plan.options.turn_limit)
+EndsBy plan journal verdict = has_ended plan journal ≡ true
+
+-- The report is given: turns were taken, the run is over as this verdict says, which is that of the journal and tells whether
+-- the ALTER was done; what is given is the report of it, of the verdict and of the tables at its end.
+pub record PrintsReport (told : PlanCommand) (verdict : Verdict) (source : Taking) (sink : Giving) (turns : List Turn) (journal : List Entry) : Type 0 where
+  pub runs : Runs told source turns journal
+  pub taken : (length journal == 0) ≡ false
+  pub over : EndsBy runs.plan journal verdict
+  pub verdict_is : verdict_of runs.plan journal ≡ verdict
+  pub tells : has_ended runs.plan journal ≡ true → TellsAlter runs.plan journal
+  pub given : Appends sink.before sink.after (report runs.plan journal verdict (state_at runs.plan journal).tables)
+
+-- Status 0 of `check`: the text of the schema that the ALTER of an accepted plan leaves is given.
+pub record PrintsSchema (source : Taking) (sink : Giving) (turns : List Turn) (journal : List Entry) : Type 0 where
+  pub bytes : List ℕ
+  pub whole : ReadsWhole PLAN_LIMIT source.before source.after bytes
+  pub plan : PlanData
+  pub accepted : read bytes ≡ Ok plan
+  pub text : List ℕ
+  pub schema : IsSchemaText plan text
+  pub given : Appends sink.before sink.after text
+  pub untaken : IsUntaken turns journal
+
+-- Status 0 of `generate`: the plan of the number is given, and nothing is taken.
+pub record PrintsWorkload (number : ℕ) (source : Taking) (sink : Giving) (turns : List Turn) (journal : List Entry) : Type 0 where
+  pub untaken : IsUntaken turns journal
+  pub takes_none : Consumes source.before source.after []
+  pub given : Appends sink.before sink.after (workload number)
+
+-- Status 0, command by command
+abbrev pub PrintsDone : Option Command → Taking → Giving → List Turn → List Entry → Type 0
+PrintsDone None source sink turns journal = ⊥
+PrintsDone (Some commands.Check) source sink turns journal = PrintsSchema source sink turns journal
+PrintsDone (Some commands.Replay) source sink turns journal = PrintsReport plans.Replay verdicts.Done source sink turns journal
+PrintsDone (Some (commands.Run workers)) source sink turns journal = PrintsReport (plans.Run workers) verdicts.Done source sink turns journal
+PrintsDone (Some (commands.Generate number)) source sink turns journal = PrintsWorkload number source sink turns journal
+
+-- Status 1: the words are no command; the usage is given, and nothing is taken.
+pub record PrintsUsage (words : List (List ℕ)) (source : Taking) (sink : Giving) (turns : List Turn) (journal : List Entry) : Type 0 where
+  pub faulty : command words ≡ None
+  pub untaken : IsUntaken turns journal
+  pub takes_none : Consumes source.before source.after []
+  pub given : Appends sink.before sink.after usage_text
+
+-- Status 2: the first refusal of the bytes is given.
+pub record PrintsRefusal (words : List (List ℕ)) (source : Taking) (sink : Giving) (turns : List Turn) (journal : List Entry) : Type 0 where
+  pub reads : reads_plan (command words) ≡ true
+  pub bytes : List ℕ
+  pub whole : ReadsWhole PLAN_LIMIT source.before source.after bytes
+  pub refusal : PlanRefusal
+  pub refused : read bytes ≡ Err refusal
+  pub given : Appends sink.before sink.after (refused_text refusal)
+  pub untaken : IsUntaken turns journal
+
+-- Status 3: the report says why the migration was reverted, and that cause stands in the journal: a row that didn't fit, tries
+-- that failed, or panic.
+pub record PrintsRevert (words : List (List ℕ)) (source : Taking) (sink : Giving) (turns : List Turn) (journal : List Entry) : Type 0 where
+  pub told : PlanCommand
+  pub command_is : command words ≡ Some (asked told)
+  pub cause : Cause
+  pub prints : PrintsReport told (verdicts.Reverted cause) source sink turns journal
+  pub stands : Stands prints.runs.plan journal cause
+
+-- Status 4: the source's fault count increased, and that is said.
+pub record PrintsReadFault (words : List (List ℕ)) (source : Taking) (sink : Giving) (turns : List Turn) (journal : List Entry) : Type 0 where
+  pub reads : reads_plan (command words) ≡ true
+  pub untaken : IsUntaken turns journal
+  pub rose : Rose source.faults_before source.faults_after
+  pub given : Appends sink.before sink.after read_fault_text
+
+-- Status 5: the sink's fault count increased, and what is given is a prefix of what the words and the source come to.
+pub record PrintsPrefix (words : List (List ℕ)) (source : Taking) (sink : Giving) (turns : List Turn) (journal : List Entry) : Type 0 where
+  pub printed : Printed
+  pub comes : ComesTo (command words) source (Some printed) turns journal
+  pub given : GivesPart sink.before sink.after printed.text
+  pub rose : Rose sink.faults_before sink.faults_after
+
+-- Status 6: memory ran out, and nothing is given. Where turns were taken, the journal is that of the turns until then.
+pub record PrintsNone (words : List (List ℕ)) (source : Taking) (sink : Giving) (turns : List Turn) (journal : List Entry) : Type 0 where
+  pub comes : ComesTo (command words) source None turns journal
+  pub given : Appends sink.before sink.after []
+
+-- Status 7: the report is given of a run that hasn't ended, and has as many turns as the plan allows.
+pub record PrintsUnfinished (words : List (List ℕ)) (source : Taking) (sink : Giving) (turns : List Turn) (journal : List Entry) : Type 0 where
+  pub told : PlanCommand
+  pub command_is : command words ≡ Some (asked told)
+  pub prints : PrintsReport told verdicts.Unfinished source sink turns journal
+
+-- what stands after a call that ended so
+abbrev pub EndsUnder : Status → List (List ℕ) → Taking → Giving → List Turn → List Entry → Type 0
+EndsUnder Done words source sink turns journal = PrintsDone (command words) source sink turns journal
+EndsUnder Usage words source sink turns journal = PrintsUsage words source sink turns journal
+EndsUnder Refused words source sink turns journal = PrintsRefusal words source sink turns journal
+EndsUnder Reverted words source sink turns journal = PrintsRevert words source sink turns journal
+EndsUnder ReadFault words source sink turns journal = PrintsReadFault words source sink turns journal
+EndsUnder WriteFault words source sink turns journal = PrintsPrefix words source sink turns journal
+EndsUnder NoMemory words source sink turns journal = PrintsNone words source sink turns journal
+EndsUnder TurnsSpent words source sink turns journal = PrintsUnfinished words source sink turns journal
+
+-- *Ends*: the number is that of a status under which this stands.
+pub record Ends (words : List (List ℕ)) (source : Taking) (sink : Giving) (turns : List Turn) (journal : List Entry) (number : ℕ) : Type 0 where
+  pub status : Status
+  pub number_is : number ≡ status_number status
+  pub under : EndsUnder status words source sink turns journal

@@ -1,0 +1,13 @@
+-- The laws that the top call stands on. (This project's rule.)
+use Rattle.proof_journals.specs.MachineLaws.Laws.{VerdictsTellTheAlter}
+use Rattle.proof_plans.specs.AcceptedLaws.Laws.{ReadPlansAreRunnable, ReadPlansAreSerial}
+use Rattle.proof_plans.specs.CompleteLaws.Quiet.{QuietRunsAreDone}
+use Rattle.proof_plans.specs.AcceptedLaws.OptionLaws.Laws.{ReadOptionsAllow}
+
+-- *The laws*: of verdicts, of what every plan that was read is, of quiet runs, and of options
+pub record Laws : Type 0 where
+  pub tell : VerdictsTellTheAlter
+  pub runnable : ReadPlansAreRunnable
+  pub serial : ReadPlansAreSerial
+  pub quiet : QuietRunsAreDone
+  pub allow : ReadOptionsAllow

@@ -1,0 +1,48 @@
+-- *Sound run* of a plan: what holds of a journal in whatever order its turns go. (This project's rule.)
+use Rattle.std.specs.Prelude.{◌≡◌, ◌≤◌, List, ◌∷◌, ◌++◌, length, Some}
+use Rattle.table_store.specs.Databases.{TableRows, find_table}
+use Rattle.server_model.specs.declared.entry.Entry.{Entry}
+use Rattle.server_model.specs.declared.outcome.Cause.{Cause}
+use Rattle.server_model.specs.declared.outcome.Verdict.TheVariants.{Reverted}
+use Rattle.plan_data.specs.PlanData.{PlanData, Altered, altered_by}
+use Rattle.tool_program.specs.JournalWords.Journals.{state_at}
+use Rattle.tool_program.specs.JournalWords.Serials.{IsSerial}
+use Rattle.tool_program.specs.Failures.{Stands}
+use Rattle.tool_program.specs.Online.{IsOnline}
+use Rattle.tool_program.specs.Verdicts.{verdict_of}
+use Rattle.proof_journals.specs.GhostLaws.Copies.{IsAltered}
+use Rattle.proof_journals.specs.RunLaws.Kept.{IsKept}
+use Rattle.proof_migration.specs.MigrationLaws.PlanningLaws.Laws.{migration_of}
+use Rattle.proof_migration.specs.RenameLaws.Laws.{IsRename}
+use Rattle.proof_plans.specs.AcceptedLaws.Laws.{WasRead}
+use Rattle.proof_plans.specs.Tables.{FindsTable, KeepsOldTable}
+use Rattle.run_turns.specs.Runs.{Stops}
+
+-- *Finds the altered table*: where the RENAME is done in some turn of the journal, the new table is then what the plan's
+-- ALTER makes of the migrated one as it stands.
+abbrev pub FindsAltered : PlanData → List Entry → Type 0
+FindsAltered plan journal =
+    (before : List Entry) (entry : Entry) (behind : List Entry) (table : TableRows) (new : Altered) → journal ≡ before ++ entry ∷ behind → IsRename plan before entry → find_table plan.table plan.tables ≡ Some table → altered_by plan table.schema ≡ Some new
+    → IsAltered (migration_of table.schema new) (state_at plan before).tables
+
+-- *Sound run*. Each answer is the plain server's; clients take the lines of their scripts in order, and sessions are lost
+-- where the plan says; each turn asks what was given, in its actor's session. There are no more turns than the plan allows, and
+-- none is taken of a run that is over. What clients got and the tables that are left are those of their ended transactions, one
+-- at a time, with the ALTER at one instant or not at all. The RENAME finds the altered table; what names the migrated one alone
+-- finds it, and the old one is kept as it was. The migrated one is used while the migration goes on. Where the verdict is a
+-- revert, the cause stands in the journal.
+pub record IsSoundRun (plan : PlanData) (journal : List Entry) : Type 0 where
+  pub kept : IsKept plan journal
+  pub bound : length journal ≤ plan.options.turn_limit
+  pub stops : Stops plan journal
+  pub serial : IsSerial plan journal
+  pub altered : FindsAltered plan journal
+  pub found : FindsTable plan journal
+  pub old : KeepsOldTable plan journal
+  pub online : IsOnline plan journal
+  pub causes : (cause : Cause) → verdict_of plan journal ≡ Reverted cause → Stands plan journal cause
+
+-- *Kept runs are sound*: each journal of an accepted plan that is kept, has no more turns than the plan allows and none behind
+-- its end.
+unfoldable pub KeptRunsAreSound : Type 0
+KeptRunsAreSound = (plan : PlanData) (journal : List Entry) → WasRead plan → IsKept plan journal → length journal ≤ plan.options.turn_limit → Stops plan journal → IsSoundRun plan journal

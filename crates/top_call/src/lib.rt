@@ -1,0 +1,15 @@
+//! The whole program from end to end: a plan's bytes in, a report's bytes out. In `whole_replays` the replay of a plan, in
+//! `plan_works` its run by workers, and in `worker_laws` that every plan that was read may be run so.
+#![tactic(auto)]
+
+mod outcome;
+pub mod plan_works;
+mod status;
+mod top;
+mod turns;
+pub mod whole_replays;
+pub mod worker_laws;
+
+pub use top::{Ended, ghost_};
+pub use top_endings::{PlanCommand, Status, Turn, Turns};
+pub use top_words::{Command, Line};

@@ -1,0 +1,130 @@
+//! What comes of a plan's bytes.
+
+ghost use Rattle.std.specs.Prelude.{◌≡◌, ◌≤◌, [], IfSome, IfOk};
+ghost use Rattle.plan_reader.specs.Plans.{read};
+ghost use Rattle.proof_plans.specs.AcceptedLaws.Laws.{WasRead};
+ghost use Rattle.top_endings.specs.declared.command.PlanCommand.TheVariants as plans;
+ghost use Rattle.top_endings.specs.Endings.{asked, HasWorkers};
+ghost use Rattle.top_call.specs.WholeReplays.Replays.{IsEnd};
+ghost use Rattle.top_call.specs.Outcomes.{Comes, IsReport, IsTaken};
+
+use crate::plan_works::work_plan;
+use crate::status::status_of;
+use crate::turns::{turns_in, turns_of_workers};
+use crate::whole_replays::{End, open_plan, replay_plan};
+use base_edges::Gate;
+use base_values::Sequence;
+use plan_data::Plan;
+use plan_reader::PlanFault;
+use proof_plans::read_accepted_plan;
+use server_api::Serve;
+use server_model::Journal;
+use std::alloc::{AllocError, Global};
+use std::sync::Wait;
+use std::thread::Threads;
+use top_endings::{PlanCommand, Printed, Turns, plan_checked, refused};
+use top_report::report;
+
+/// What the words and the source come to.
+#[derive(Drop)]
+pub(crate) struct Outcome {
+    /// What is printed; none where memory ran out.
+    pub(crate) printed: Option<Printed>,
+    /// Whose turns were taken.
+    pub(crate) turns: Turns,
+    /// The turns.
+    pub(crate) journal: Journal,
+}
+
+/// What comes where no turn is taken. It takes no memory.
+pub(crate) fn untaken(alloc: Global, printed: Option<Printed>) -> Outcome
+    ensures { result ≡ record { printed = printed; turns = []; journal = [] } }
+{
+    Outcome {
+        printed,
+        turns: Sequence::new(alloc),
+        journal: Journal::new(alloc),
+    }
+}
+
+/// The report of a run that ended.
+fn reported<V: Serve>(
+    alloc: Global,
+    plan: &Plan,
+    journal: &Journal,
+    end: &Option<End<V>>,
+) -> Option<Printed>
+    requires { IfSome end.now (λ end. IsEnd plan.now journal.now end.verdict (V.state end.server)) }
+    ensures { IfSome result (IsReport plan.now journal.now) }
+{
+    let end = end.as_ref()?;
+    let tables = end.server.tables();
+    match report(alloc, plan, journal, &end.verdict, tables) {
+        Ok(text) => Some(Printed {
+            status: status_of(&end.verdict),
+            text,
+        }),
+        Err(_) => None,
+    }
+}
+
+/// What comes of the replay of a plan. Where there is no memory for the list of turns, or for the server, no turn is taken.
+fn plan_replayed(alloc: Global, plan: &Plan) -> Result<Outcome, AllocError>
+    requires { WasRead plan.now }
+    ensures { IfOk result (λ outcome. IsTaken plans.Replay plan.now outcome.printed outcome.turns outcome.journal) }
+{
+    // The room for the turns is made before the first, so that none that was taken is thrown away.
+    let room = Vec::with_capacity(alloc, plan.options().turn_limit as usize)?;
+    let server = open_plan(alloc, plan)?;
+    let left = replay_plan(alloc, plan, server)?;
+    Ok(Outcome {
+        printed: reported(alloc, plan, &left.journal, &left.end),
+        turns: turns_in(room, left.journal.as_slice()),
+        journal: left.journal,
+    })
+}
+
+/// What comes of the run of a plan by so many workers. Where there is no memory for the list of turns, for the server or for the
+/// desk, no turn is taken.
+#[tactic(auto, using(crate::proofs::Worked::few_turns, crate::proofs::Worked::taken_by))]
+fn plan_worked<R: Threads + Wait + Sync, G: Gate + Sync>(
+    rt: &R,
+    alloc: Global,
+    plan: &Plan,
+    workers: u32,
+    gate: &G,
+) -> Result<Outcome, AllocError>
+    requires some { 1 ≤ workers }
+    requires few { workers ≤ 16 }
+    requires read { WasRead plan.now }
+    ensures { IfOk result (λ outcome. IsTaken (plans.Run workers) plan.now outcome.printed outcome.turns outcome.journal) }
+{
+    let room = Vec::with_capacity(alloc, plan.options().turn_limit as usize)?;
+    let server = open_plan(alloc, plan)?;
+    let left = work_plan(rt, alloc, plan, server, workers, gate)?;
+    Ok(Outcome {
+        printed: reported(alloc, plan, &left.journal, &left.end),
+        turns: turns_of_workers(room, left.turns.as_slice()),
+        journal: left.journal,
+    })
+}
+
+/// What comes of a plan's bytes under a command; `AllocError` where there was no memory before the first turn.
+pub(crate) fn outcome_of<R: Threads + Wait + Sync, G: Gate + Sync>(
+    rt: &R,
+    alloc: Global,
+    command: PlanCommand,
+    bytes: &[u8],
+    gate: &G,
+) -> Result<Outcome, AllocError>
+    requires { HasWorkers (asked command) }
+    ensures { IfOk result (λ outcome. Comes command (read bytes.now) outcome.printed outcome.turns outcome.journal) }
+{
+    match (read_accepted_plan(alloc, bytes), command) {
+        (Ok(plan), PlanCommand::Check) => Ok(untaken(alloc, plan_checked(alloc, &plan))),
+        (Ok(plan), PlanCommand::Replay) => plan_replayed(alloc, &plan),
+        (Ok(plan), PlanCommand::Run(workers)) => plan_worked(rt, alloc, &plan, workers, gate),
+        (Err(PlanFault::Refused(refusal)), _) => Ok(untaken(alloc, refused(alloc, refusal))),
+        (Err(PlanFault::Memory), _) => Err(AllocError),
+    }
+}

@@ -1,0 +1,16 @@
+//! The law that gathers what is promised of every run: the function's contract is it.
+
+ghost use Rattle.top_call.specs.WholeReplays.SoundRuns.{KeptRunsAreSound};
+
+use law_journals::accepted_runs::laws::{
+    accepted_runs_are_serial, accepted_runs_go_on, accepted_runs_keep_tables,
+};
+
+/// Every run of every accepted plan is sound, in whatever order its turns go.
+pub fn kept_runs_are_sound()
+    ensures { KeptRunsAreSound }
+{
+    accepted_runs_are_serial();
+    accepted_runs_keep_tables();
+    accepted_runs_go_on();
+}

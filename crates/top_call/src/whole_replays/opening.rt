@@ -1,0 +1,48 @@
+//! A plan's opening tables on a server.
+
+ghost use Rattle.std.specs.Prelude.{◌≡◌, [], ◌∷◌, IfOk};
+ghost use Rattle.tool_program.specs.JournalWords.Journals.{opening};
+ghost use Rattle.base_values.specs.ToolNames.{log_name};
+ghost use Rattle.proof_plans.specs.AcceptedLaws.Laws.{WasRead};
+
+use base_values::tool_names::log_name;
+use base_values::{Duplicate, Names, Sequence};
+use law_journals::accepted_runs::accepted_laws::laws::read_plans_are_serial;
+use law_journals::accepted_runs::accepted_laws::option_laws::read_options_allow;
+use plan_data::Plan;
+use server::final_server::{FinalServer, open_server};
+use server_model::Limits;
+use std::alloc::{AllocError, Global};
+use table_store::paged_tables::Tables;
+
+/// How often a wait is polled before it times out, as the plan says.
+fn limits_of(plan: &Plan) -> Limits
+    ensures { result ≡ record { client_wait = plan.now.options.client_wait; tool_wait = plan.now.options.tool_wait } }
+{
+    let options = plan.options();
+    Limits {
+        client_wait: options.client_wait,
+        tool_wait: options.tool_wait,
+    }
+}
+
+/// The tables whose events the applier reads.
+fn watched_in(alloc: Global, plan: &Plan) -> Result<Names, AllocError>
+    ensures { IfOk result (λ watched. watched ≡ plan.now.table ∷ log_name plan.now.table ∷ []) }
+{
+    let table = plan.table();
+    Ok(Sequence::from_vec(vec![in alloc; table.copy()?, log_name(alloc, table)?]?))
+}
+
+/// The final server at the plan's opening.
+#[tactic(auto, using(crate::proofs::WholeReplays::AtOpening::well_formed, crate::proofs::WholeReplays::AtOpening::at_opening))]
+pub fn open_plan(alloc: Global, plan: &Plan) -> Result<FinalServer, AllocError>
+    requires { WasRead plan.now }
+    ensures { IfOk result (λ server. server ≡ opening plan.now) }
+{
+    read_plans_are_serial();
+    read_options_allow();
+    let watched = watched_in(alloc, plan)?;
+    let tables = Tables::from_plain(alloc, plan.tables())?;
+    Ok(open_server(alloc, tables, limits_of(plan), watched))
+}

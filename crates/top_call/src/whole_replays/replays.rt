@@ -1,0 +1,82 @@
+//! The replay of a plan.
+
+ghost use Rattle.std.specs.Prelude.{◌≡◌, ◌≢◌, is_some, Some, IfSome, IfOk};
+ghost use Rattle.tool_program.specs.JournalWords.Journals.{opening};
+ghost use Rattle.tool_program.specs.Verdicts.{verdict_of};
+ghost use Rattle.proof_plans.specs.AcceptedLaws.Laws.{WasRead};
+ghost use Rattle.run_replay.specs.declared.whole_replay.replays.Replayed.TheVariants as answers;
+ghost use Rattle.top_call.specs.WholeReplays.Replays.{IsWholeReplay, IsEnd};
+
+use crate::whole_replays::laws::kept_runs_are_sound;
+use law_journals::accepted_runs::accepted_laws::laws::read_plans_are_runnable;
+use law_journals::accepted_runs::laws::accepted_runs_go_on;
+use plan_data::Plan;
+use run_replay::whole_replay::{Replayed, replay};
+use run_turns::Run;
+use server_api::Serve;
+use server_model::{Journal, Verdict};
+use std::alloc::{AllocError, Global};
+use tool_program::replay_laws::replays_agree;
+
+/// How a run ended.
+#[derive(Drop)]
+pub struct End<V: Serve> {
+    /// The verdict.
+    pub verdict: Verdict,
+    /// The server at the end.
+    pub server: V,
+}
+
+/// What a replay leaves.
+#[derive(Drop)]
+pub struct Left<V: Serve> {
+    /// The turns that were taken.
+    pub journal: Journal,
+    /// How it ended; none where memory ran out before.
+    pub end: Option<End<V>>,
+}
+
+/// The verdict of a replay, unless memory ran out.
+fn verdict_after<V: Serve>(run: &Run<'_, V>, replayed: Replayed) -> Option<Verdict>
+    ensures verdict { IfSome result (λ verdict. verdict ≡ verdict_of run.now.plan run.now.journal) }
+    ensures memory { IfSome result (λ verdict. replayed ≢ answers.NoMemory) }
+{
+    match replayed {
+        Replayed::NoMemory => None,
+        Replayed::Over | Replayed::Stalled => run.verdict().ok(),
+    }
+}
+
+/// How a run ended, where there is a verdict.
+pub fn end_with<V: Serve>(verdict: Option<Verdict>, server: V) -> Option<End<V>>
+    ensures some { is_some result ≡ is_some verdict }
+    ensures end { IfSome result (λ end. (verdict ≡ Some end.verdict) × (V.state end.server ≡ V.state server)) }
+{
+    match verdict {
+        Some(verdict) => Some(End { verdict, server }),
+        None => None,
+    }
+}
+
+/// Replays a plan that was read, on a server at its opening: its turns are taken in their order until the run is over. Where there
+/// is no memory for a turn, those before it are left.
+pub fn replay_plan<V: Serve>(alloc: Global, plan: &Plan, server: V) -> Result<Left<V>, AllocError>
+    requires read { WasRead plan.now }
+    requires server { V.state server ≡ opening plan.now }
+    ensures replay { IfOk result (λ left. IsWholeReplay plan.now left.journal) }
+    ensures end { IfOk result (λ left. IfSome left.end (λ end. IsEnd plan.now left.journal end.verdict (V.state end.server))) }
+{
+    kept_runs_are_sound();
+    accepted_runs_go_on();
+    read_plans_are_runnable();
+    replays_agree();
+    let mut run = Run::open(alloc, plan, server)?;
+    let replayed = replay(&mut run);
+    let verdict = verdict_after(&run, replayed);
+    let _in_sessions = run.journal();
+    let (server, journal) = run.stop();
+    Ok(Left {
+        journal,
+        end: end_with(verdict, server),
+    })
+}

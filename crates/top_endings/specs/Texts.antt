@@ -1,0 +1,36 @@
+-- The texts that the program prints where it prints neither a report nor a schema. This project's rule.
+use Rattle.std.specs.Prelude.{◌≡◌, codes, ℕ, List, [], ◌++◌}
+use Rattle.std.specs.Fmt.{decimal}
+use Rattle.plan_reader.specs.declared.fault.Place.{Place}
+use Rattle.plan_reader.specs.declared.fault.Place.TheVariants.{Nowhere, Table, Row, Client, Operator, Fault, TurnWord}
+use Rattle.plan_reader.specs.declared.fault.PlanRefusal.{PlanRefusal}
+use Rattle.plan_reader.specs.Refusals.{refusal_code, refusal_place}
+use Rattle.top_endings.specs.declared.printed.Printed.{Printed}
+use Rattle.top_endings.specs.declared.status.Status.TheVariants as statuses
+
+-- where a refusal stands: ` table 1 row 5`
+unfoldable pub place_text : Place → List ℕ
+place_text Nowhere = []
+place_text (Table table) = codes " table " ++ decimal table
+place_text (Row table row) = codes " table " ++ decimal table ++ codes " row " ++ decimal row
+place_text (Client client line) = codes " client " ++ decimal client ++ codes " line " ++ decimal line
+place_text (Operator line) = codes " operator line " ++ decimal line
+place_text (Fault fault) = codes " fault " ++ decimal fault
+place_text (TurnWord word) = codes " turn word " ++ decimal word
+
+-- a refusal's number, name and place: `refused 14 no_clustered_key table 1`
+unfoldable pub refused_text : PlanRefusal → List ℕ
+refused_text refusal = codes "refused " ++ decimal (refusal_code refusal).0 ++ codes " " ++ (refusal_code refusal).1 ++ place_text (refusal_place refusal) ++ codes "\n"
+
+-- the refusal of bytes, printed
+pub record IsRefusal (refusal : PlanRefusal) (printed : Printed) : Type 0 where
+  pub status_is : printed.status ≡ statuses.Refused
+  pub text_is : printed.text ≡ refused_text refusal
+
+-- what faulty words get
+abbrev pub usage_text : List ℕ
+usage_text = codes "usage: check | replay | run [--workers N] | generate N\n"
+
+-- what is printed where the source failed
+abbrev pub read_fault_text : List ℕ
+read_fault_text = codes "read fault\n"

@@ -1,0 +1,18 @@
+//! How a call of the program ends: its status, and what it prints, takes and gives where no plan is run.
+#![tactic(auto)]
+
+mod checks;
+mod command;
+mod output;
+mod printed;
+mod refusals;
+mod status;
+mod turn;
+
+pub use checks::plan_checked;
+pub use command::PlanCommand;
+pub use output::give;
+pub use printed::{Printed, read_fault_shown, usage_shown, workload_shown};
+pub use refusals::refused;
+pub use status::Status;
+pub use turn::{Turn, Turns};

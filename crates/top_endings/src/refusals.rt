@@ -1,0 +1,69 @@
+//! What is printed of a refusal.
+
+ghost use Rattle.std.specs.Prelude.{◌≡◌, ◌++◌, IfSome, OnOk};
+ghost use Rattle.std.specs.Fmt.{decimal};
+ghost use Rattle.top_endings.specs.Texts.{place_text, refused_text, IsRefusal};
+
+use crate::printed::Printed;
+use crate::status::Status;
+use base_values::Text;
+use plan_reader::{Place, PlanRefusal};
+use std::alloc::{AllocError, Global};
+
+/// Adds a word and a number.
+fn push_numbered(into: &mut Text, word: &str, number: u32) -> Result<(), AllocError>
+    ensures { OnOk result (into.new ≡ into.old ++ (word.now ++ decimal number)) }
+{
+    into.push_str(word)?;
+    into.push_number(i128::from(number))
+}
+
+/// Adds where a refusal stands.
+#[tactic(auto, unfolding(crate::specs::Texts::place_text))]
+fn push_place(into: &mut Text, place: Place) -> Result<(), AllocError>
+    ensures { OnOk result (into.new ≡ into.old ++ place_text place) }
+{
+    match place {
+        Place::Nowhere => Ok(()),
+        Place::Table(table) => push_numbered(into, " table ", table),
+        Place::Row { table, row } => {
+            push_numbered(into, " table ", table)?;
+            push_numbered(into, " row ", row)
+        }
+        Place::Client { client, line } => {
+            push_numbered(into, " client ", client)?;
+            push_numbered(into, " line ", line)
+        }
+        Place::Operator(line) => push_numbered(into, " operator line ", line),
+        Place::Fault(fault) => push_numbered(into, " fault ", fault),
+        Place::TurnWord(word) => push_numbered(into, " turn word ", word),
+    }
+}
+
+/// Adds a refusal's number, name and place.
+#[tactic(auto, unfolding(crate::specs::Texts::refused_text))]
+fn push_refusal(into: &mut Text, refusal: PlanRefusal) -> Result<(), AllocError>
+    ensures { OnOk result (into.new ≡ into.old ++ refused_text refusal) }
+{
+    let (number, name) = refusal.code();
+    into.push_str("refused ")?;
+    into.push_number(i128::from(number))?;
+    into.push_str(" ")?;
+    into.push_str(name)?;
+    push_place(into, refusal.place())?;
+    into.push_str("\n")
+}
+
+/// What is printed of a refusal.
+pub fn refused(alloc: Global, refusal: PlanRefusal) -> Option<Printed>
+    ensures { IfSome result (IsRefusal refusal) }
+{
+    let mut text = Text::new(alloc);
+    match push_refusal(&mut text, refusal) {
+        Ok(()) => Some(Printed {
+            status: Status::Refused,
+            text,
+        }),
+        Err(_) => None,
+    }
+}

@@ -1,0 +1,174 @@
+-- How far a client is in its script, as the code keeps it.
+use Rattle.std.proofs.Common.{◌≡◌, ℕ, suc, ◌+◌, ◌-◌, ◌<◌, ◌≤◌, ◌^◌, ◌==◌, Bool, true, false, not, cond, List, [], ◌∷◌, ◌++◌, length, take, drop, get_or, Option, Some, None, is_some, refl, sym, ◌∙◌, ap, ap₂, arith}
+use Rattle.std.proofs.lemmas.Bool.Decides.{nat_tests}
+use Rattle.std.proofs.lemmas.List.{drop_all, drop_more, length-append, take_rest}
+use Rattle.std.proofs.lemmas.List.Sums.{fold-append}
+use Rattle.std.specs.Prelude.{unwrap_or}
+use Rattle.base_script.specs.declared.actor.Actor.TheVariants.{Client}
+use Rattle.base_script.specs.declared.script.ScriptLine.{ScriptLine}
+use Rattle.server_model.specs.declared.transaction.Mark.{Mark}
+use Rattle.server_model.specs.declared.transaction.Mark.TheVariants as marks
+use Rattle.server_model.specs.declared.transaction.Reply.{Reply}
+use Rattle.server_model.specs.declared.transaction.TxnEnd.{TxnEnd}
+use Rattle.server_model.specs.declared.transaction.TxnLine.{TxnLine}
+use Rattle.server_model.specs.declared.entry.Entry.{Entry}
+use Rattle.server_model.specs.Along.{gathered}
+use Rattle.server_model.specs.Entries.{same_actor}
+use Rattle.plan_data.specs.PlanData.{PlanData}
+use Rattle.tool_program.specs.JournalWords.Clients.{Became, Nothing, Waits, Marked, Broken, Reached, after_turn, became, after_transaction, client_after, client_at, closes, ends_with, is_inside, kept_unless, left_after, marked, new_client, number_of, script_of, with_line}
+use Rattle.tool_program.specs.JournalWords.Histories.{NumberedReply, replied, replied_in, replies_of}
+use Rattle.top_report.specs.ClientLines.Walks.{IsSmall, Walk, after_line, ends_now, is_open, new_walk, number_in, replied_by, replies_from, walk_after, walk_marked, walk_of}
+
+-- ---- a client's walk is what is kept of how far it is
+
+pub open_is : (lines : List TxnLine) → not (length lines == 0) ≡ is_inside lines
+open_is [] = refl
+open_is (line ∷ lines) = let some : (length (line ∷ lines) == 0) ≡ false = grind (arith, nat_tests) in rw some refl
+
+pub number_is : (client : Reached) → number_in (walk_of client) ≡ number_of client
+number_is client = rw (open_is client.lines) refl
+
+lines_are : (client : Reached) (line : ScriptLine) (mark : Mark) (ended : Option TxnEnd) → cond (is_some ended) 0 (length client.lines + 1) ≡ length (kept_unless ended (with_line client line.word mark))
+lines_are client line mark None = sym (length-append client.lines (record { word = line.word; mark = mark } ∷ []))
+lines_are client line mark (Some ended) = refl
+
+marked_is : (client : Reached) (mark : Mark) (reply : Option Reply) (left : List ScriptLine) → walk_marked (walk_of client) mark left ≡ walk_of (marked client mark reply left)
+marked_is client mark reply [] = refl
+marked_is client mark reply (line ∷ lines) = rw (open_is client.lines) (ap (λ (n : ℕ).
+    record {
+      left = left_after (is_inside client.lines) mark line lines;
+      begun = number_of client;
+      lines = n;
+      waits = false;
+    }) (lines_are client line mark (ends_with (is_inside client.lines) line.word mark)))
+
+pub after_is : (what : Became) (client : Reached) → walk_after what (walk_of client) ≡ walk_of (client_after what client)
+after_is Nothing client = refl
+after_is Waits client = refl
+after_is (Marked mark reply) client = marked_is client mark reply client.left
+after_is Broken client = refl
+
+replied_is : (what : Became) (client : Reached) → replied client what ≡ replied_by (walk_of client) what
+replied_is Nothing client = refl
+replied_is Waits client = refl
+replied_is (Marked mark reply) client = ap (λ (n : ℕ). record { transaction = n; line = length client.lines + 1; reply = reply } ∷ []) (sym (number_is client))
+replied_is Broken client = refl
+
+-- ---- the walk through a journal
+
+pub one_more : (plan : PlanData) (before : List Entry) (entry : Entry) (number : ℕ) → client_at plan (before ++ entry ∷ []) number ≡ after_turn number (client_at plan before number) entry
+unfolding client_at
+one_more plan before entry number = fold-append (after_turn number) (new_client (unwrap_or (script_of number plan) [])) before (entry ∷ [])
+
+pub own_turn : (plan : PlanData) (before : List Entry) (entry : Entry) (number : ℕ) → same_actor entry.actor (Client number) ≡ true
+    → client_at plan (before ++ entry ∷ []) number ≡ client_after (became (client_at plan before number) entry) (client_at plan before number)
+own_turn plan before entry number is = one_more plan before entry number ∙ rw is refl
+
+pub other_turn : (plan : PlanData) (before : List Entry) (entry : Entry) (number : ℕ) → same_actor entry.actor (Client number) ≡ false → client_at plan (before ++ entry ∷ []) number ≡ client_at plan before number
+other_turn plan before entry number is = one_more plan before entry number ∙ rw is refl
+
+walk_on : (plan : PlanData) (number : ℕ) (before : List Entry) (entry : Entry) (entries : List Entry) (b : Bool) → same_actor entry.actor (Client number) ≡ b
+    → gathered (replied_in plan number) (before ++ entry ∷ []) entries ≡ replies_from number (walk_of (client_at plan (before ++ entry ∷ []) number)) entries
+    → gathered (replied_in plan number) before (entry ∷ entries) ≡ replies_from number (walk_of (client_at plan before number)) (entry ∷ entries)
+unfolding replies_from
+walk_on plan number before entry entries true is others =
+    let client = client_at plan before number in
+    let next : walk_of (client_at plan (before ++ entry ∷ []) number) ≡ walk_after (became client entry) (walk_of client) =
+    ap walk_of (own_turn plan before entry number is) ∙ sym (after_is (became client entry) client) in
+    rw is (ap₂ (λ (xs ys : List NumberedReply). xs ++ ys) (replied_is (became client entry) client) (others ∙ ap (λ (walk : Walk). replies_from number walk entries) next))
+walk_on plan number before entry entries false is others =
+    let client = client_at plan before number in
+    let next : walk_of (client_at plan (before ++ entry ∷ []) number) ≡ walk_of client = ap walk_of (other_turn plan before entry number is) in
+    rw is (others ∙ ap (λ (walk : Walk). replies_from number walk entries) next)
+
+walk : (plan : PlanData) (number : ℕ) (before entries : List Entry) → gathered (replied_in plan number) before entries ≡ replies_from number (walk_of (client_at plan before number)) entries
+unfolding replies_from
+walk plan number before [] = refl
+walk plan number before (entry ∷ entries) = walk_on plan number before entry entries (same_actor entry.actor (Client number)) refl (walk plan number (before ++ entry ∷ []) entries)
+
+pub at_begin : (plan : PlanData) (number : ℕ) (script : List ScriptLine) → script_of number plan ≡ Some script → walk_of (client_at plan [] number) ≡ new_walk script
+unfolding client_at
+at_begin plan number script is = rw is refl
+
+-- A client's replies are those that its walk finds.
+pub replies_found : (plan : PlanData) (journal : List Entry) (number : ℕ) (script : List ScriptLine) → script_of number plan ≡ Some script → replies_of plan journal number ≡ replies_from number (new_walk script) journal
+unfolding replies_of
+replies_found plan journal number script is = walk plan number [] journal ∙ ap (λ (w : Walk). replies_from number w journal) (at_begin plan number script is)
+
+-- ---- the script behind a transaction, line by line
+
+pub ends_here : (lines : List ScriptLine) (place : ℕ) (line : ScriptLine) → place < length lines → line ≡ get_or lines place line → closes line.word ≡ true → after_transaction (drop place lines) ≡ after_transaction lines
+    → take (length lines - (place + 1)) (drop (place + 1) lines) ≡ after_transaction lines
+ends_here lines place line within at is so_far =
+    let here : after_transaction (drop place lines) ≡ drop (place + 1) lines = rw (drop_more lines place line within) (rw (sym at) (rw is refl)) in
+    take_rest lines (place + 1) ∙ sym here ∙ so_far
+
+pub goes_on : (lines : List ScriptLine) (place : ℕ) (line : ScriptLine) → place < length lines → line ≡ get_or lines place line → closes line.word ≡ false → after_transaction (drop place lines) ≡ after_transaction lines
+    → after_transaction (drop (place + 1) lines) ≡ after_transaction lines
+goes_on lines place line within at is so_far =
+    let here : after_transaction (drop place lines) ≡ after_transaction (drop (place + 1) lines) = rw (drop_more lines place line within) (rw (sym at) (rw is refl)) in
+    sym here ∙ so_far
+
+pub none_ends : (lines : List ScriptLine) (place : ℕ) → length lines ≤ place → after_transaction (drop place lines) ≡ after_transaction lines → [] ≡ after_transaction lines
+none_ends lines place past so_far = let none : after_transaction (drop place lines) ≡ [] = ap after_transaction (drop_all place lines past) in sym none ∙ so_far
+
+-- ---- its numbers stay small
+
+after_short : (lines : List ScriptLine) → length (after_transaction lines) ≤ length lines
+after_short [] = omega arith
+after_short (line ∷ lines) = go (closes line.word) refl (after_short lines)
+  where
+    go : (b : Bool) → closes line.word ≡ b → length (after_transaction lines) ≤ length lines → length (after_transaction (line ∷ lines)) ≤ length (line ∷ lines)
+    go true is others = rw is (omega arith)
+    go false is others = rw is (omega (arith, others))
+
+after_first : (line : ScriptLine) (lines : List ScriptLine) (b : Bool) → closes line.word ≡ b → length (after_transaction (line ∷ lines)) ≤ length lines
+after_first line lines true is = rw is (omega arith)
+after_first line lines false is = rw is (after_short lines)
+
+after_line_short : (inside : Bool) (mark : Mark) (line : ScriptLine) (lines : List ScriptLine) → length (after_line inside mark (line ∷ lines)) ≤ length lines
+after_line_short true marks.Answered line lines = omega arith
+after_line_short true marks.TimedOut line lines = after_first line lines (closes line.word) refl
+after_line_short true (marks.Lost side) line lines = omega arith
+after_line_short false marks.Answered line lines = omega arith
+after_line_short false marks.TimedOut line lines = omega arith
+after_line_short false (marks.Lost side) line lines = omega arith
+
+number_small : (walk : Walk) (b : Bool) → is_open walk ≡ b → number_in walk ≤ walk.begun + 1
+number_small walk true is = rw is (omega arith)
+number_small walk false is = rw is (omega arith)
+
+lines_small : (lines : ℕ) (b : Bool) → cond b 0 (lines + 1) ≤ lines + 1
+lines_small lines true = omega arith
+lines_small lines false = omega arith
+
+pub small_marked : (walk : Walk) (mark : Mark) (left : List ScriptLine) → walk.left ≡ left → IsSmall walk → IsSmall (walk_marked walk mark left)
+small_marked walk mark [] is small = small
+small_marked walk mark (line ∷ lines) is small =
+    let size : length walk.left ≡ suc (length lines) = ap (λ (left : List ScriptLine). length left) is in
+    let short : length (after_line (is_open walk) mark (line ∷ lines)) ≤ length lines = after_line_short (is_open walk) mark line lines in
+    let number : number_in walk ≤ walk.begun + 1 = number_small walk (is_open walk) refl in
+    let few : cond (ends_now (is_open walk) mark (line ∷ lines)) 0 (walk.lines + 1) ≤ walk.lines + 1 = lines_small walk.lines (ends_now (is_open walk) mark (line ∷ lines)) in
+    let begun : walk.begun + length walk.left < 2 ^ 63 = small.begun in
+    let open_lines : walk.lines + length walk.left < 2 ^ 63 = small.lines in
+    record { begun = omega (arith, size, short, number, begun); lines = omega (arith, size, short, few, open_lines) }
+
+-- the same, where a line is left
+pub small_after : (walk : Walk) (mark : Mark) → (length walk.left == 0) ≡ false → IsSmall walk
+    → IsSmall (record {
+      left = after_line (is_open walk) mark walk.left;
+      begun = number_in walk;
+      lines = cond (ends_now (is_open walk) mark walk.left) 0 (walk.lines + 1);
+      waits = false;
+    })
+small_after walk mark some small = go walk.left refl
+  where
+    go : (left : List ScriptLine) → walk.left ≡ left
+        → IsSmall (record {
+          left = after_line (is_open walk) mark walk.left;
+          begun = number_in walk;
+          lines = cond (ends_now (is_open walk) mark walk.left) 0 (walk.lines + 1);
+          waits = false;
+        })
+    go [] is = absurd (cc (sym (ap (λ (left : List ScriptLine). length left == 0) is) ∙ some))
+    go (line ∷ lines) is = rw is (small_marked walk mark (line ∷ lines) is small)

@@ -1,0 +1,4 @@
+mod BareNames
+pub mod Left
+pub mod Joining
+pub mod ClientLines

@@ -1,0 +1,124 @@
+//! What each client got.
+
+ghost use Rattle.std.specs.Prelude.{◌≡◌, ◌+◌, ◌++◌, OnOk, option_and_then};
+ghost use Rattle.std.specs.List.{flat_map};
+ghost use Rattle.tool_program.specs.JournalWords.Clients.{script_of};
+ghost use Rattle.server_model.specs.Alone.{reply_of};
+ghost use Rattle.server_model.specs.declared.transaction.Reply.TheVariants.{Rows};
+ghost use Rattle.std.specs.declared.option.Option.TheVariants.{Some};
+ghost use Rattle.top_report.specs.ClientLines.Replies.{client_line, client_text, clients_text, numbered_text, reply_text};
+ghost use Rattle.top_report.specs.ClientLines.Walks.{became_view, new_walk, number_in, replied_by, replies_from};
+
+use crate::client_lines::became::{Became, is_of};
+use crate::client_lines::numbers::{push_count, push_number_line};
+use crate::client_lines::walk::Walk;
+use base_script::ScriptLine;
+use base_values::{Row, Text};
+use plan_data::Plan;
+use server_model::{Answer, Entry};
+use std::alloc::AllocError;
+use table_print::push_row_lines;
+
+/// The number of the error that a time-out is (MySQL's manual, "Server Error Message Reference").
+const TIMED_OUT: u64 = 1205;
+
+#[tactic(auto, unfolding(crate::specs::ClientLines::Replies::reply_text))]
+fn push_rows(into: &mut Text, rows: &[Row]) -> Result<(), AllocError>
+    ensures { OnOk result (into.new ≡ into.old ++ reply_text (Some (Rows rows.now))) }
+{
+    push_number_line(into, "rows ", rows.len() as u64)?;
+    push_row_lines(into, rows)
+}
+
+/// Adds what a client is told of an answer that it heard, or that its session was lost.
+#[tactic(auto, unfolding(crate::specs::ClientLines::Replies::reply_text))]
+fn push_reply(into: &mut Text, heard: Option<&Answer>) -> Result<(), AllocError>
+    ensures { OnOk result (into.new ≡ into.old ++ reply_text (option_and_then (λ answer. reply_of answer.now) heard.entry)) }
+{
+    match heard {
+        Some(Answer::Ok(count)) => push_number_line(into, "ok ", *count),
+        Some(Answer::Rows(rows)) => push_rows(into, rows.as_slice()),
+        Some(Answer::Refused { number, .. }) => {
+            push_number_line(into, "error ", u64::from(*number))
+        }
+        Some(Answer::TimedOut { .. }) => push_number_line(into, "error ", TIMED_OUT),
+        _ => into.push_str("lost\n"),
+    }
+}
+
+/// Adds a reply behind the numbers of its transaction and its line.
+#[tactic(auto, unfolding(crate::specs::ClientLines::Replies::numbered_text))]
+fn push_numbered(into: &mut Text, walk: &Walk<'_>, heard: Option<&Answer>) -> Result<(), AllocError>
+    ensures { OnOk result (into.new ≡ into.old ++ numbered_text (record { transaction = number_in walk.now; line = walk.now.lines + 1; reply = option_and_then (λ answer. reply_of answer.now) heard.entry })) }
+{
+    push_count(into, walk.number())?;
+    into.push_str(".")?;
+    push_count(into, walk.line())?;
+    into.push_str(" ")?;
+    push_reply(into, heard)
+}
+
+/// Adds what a client got in its turn.
+#[tactic(auto, using(crate::proofs::ClientLines::Replying::lone_reply))]
+fn push_replied(into: &mut Text, walk: &Walk<'_>, became: &Became<'_>) -> Result<(), AllocError>
+    ensures { OnOk result (into.new ≡ into.old ++ flat_map numbered_text (replied_by walk.now (became_view became.now))) }
+{
+    match became {
+        Became::Marked(_, heard) => push_numbered(into, walk, *heard),
+        Became::Nothing | Became::Waits | Became::Broken => Ok(()),
+    }
+}
+
+/// Adds what the client of this number and script got.
+#[tactic(auto, unfolding(crate::specs::ClientLines::Walks::replies_from))]
+fn push_replies(
+    into: &mut Text,
+    journal: &[Entry],
+    client: u64,
+    script: &[ScriptLine],
+) -> Result<(), AllocError>
+    ensures { OnOk result (into.new ≡ into.old ++ flat_map numbered_text (replies_from client (new_walk script.now) journal.now)) }
+{
+    let mut walk = Walk::new(script);
+    for entry in journal {
+        if is_of(entry.actor, client) {
+            let became = walk.became(entry);
+            push_replied(into, &walk, &became)?;
+            walk.take(&became);
+        }
+    }
+    Ok(())
+}
+
+fn push_client_line(into: &mut Text, client: u64) -> Result<(), AllocError>
+    ensures { OnOk result (into.new ≡ into.old ++ client_line client) }
+{
+    push_number_line(into, "client c", client)
+}
+
+fn push_client(
+    into: &mut Text,
+    plan: &Plan,
+    journal: &[Entry],
+    client: u64,
+    script: &[ScriptLine],
+) -> Result<(), AllocError>
+    requires { script_of client plan.now ≡ Some script.now }
+    ensures { OnOk result (into.new ≡ into.old ++ client_text plan.now journal.now client) }
+{
+    push_client_line(into, client)?;
+    push_replies(into, journal, client, script)
+}
+
+/// Adds each client of the plan with what it got.
+#[tactic(auto, unfolding(crate::specs::ClientLines::Replies::clients_from))]
+pub fn push_clients(into: &mut Text, plan: &Plan, journal: &[Entry]) -> Result<(), AllocError>
+    ensures { OnOk result (into.new ≡ into.old ++ clients_text plan.now journal.now) }
+{
+    let mut client = 1;
+    for script in plan.clients().as_slice() {
+        push_client(into, plan, journal, client, script.as_slice())?;
+        client += 1;
+    }
+    Ok(())
+}

@@ -1,0 +1,102 @@
+//! The command that `clap` tells of the words.
+
+ghost use Rattle.std.specs.Prelude.{◌≡◌, false, IfOk, option_map};
+ghost use Rattle.clap.specs.Words.{app_of, subcommand_rows_of};
+ghost use Rattle.clap.specs.declared.builder.command.Command.TheViews.{out-Command};
+ghost use Rattle.top_words.specs.Matching.{bare_app, command_told, generate_app, program, run_app, run_told, told};
+ghost use Rattle.top_words.specs.Commands.{generate_of, run_by};
+
+use crate::command::Command;
+use crate::numbers::{number_of, workers_of};
+use clap::{Arg, ArgMatches, Command as Parser};
+use std::alloc::{AllocError, Global};
+
+/// The name under which a run's number is told.
+const WORKERS: &str = "workers";
+
+/// The name under which a plan's number is told.
+const NUMBER: &str = "number";
+
+/// How many workers a run has where nothing is said.
+const USUAL_WORKERS: u32 = 4;
+
+/// `run`, whose number stands behind `--workers`.
+fn run_parser<'a>(alloc: Global) -> Result<Parser<'a>, AllocError>
+    ensures app { IfOk result (λ parser. app_of parser ≡ run_app) }
+    ensures local { IfOk result (λ parser. (out-Command parser).has_globals ≡ false) }
+{
+    let workers = Arg::new(alloc, WORKERS).long(WORKERS);
+    Parser::new(alloc, "run").arg(workers)
+}
+
+/// `generate`, whose number stands alone.
+fn generate_parser<'a>(alloc: Global) -> Result<Parser<'a>, AllocError>
+    ensures app { IfOk result (λ parser. app_of parser ≡ generate_app) }
+    ensures local { IfOk result (λ parser. (out-Command parser).has_globals ≡ false) }
+{
+    Parser::new(alloc, "generate").arg(Arg::new(alloc, NUMBER))
+}
+
+/// The program itself. Among the words its name doesn't stand.
+fn bare_parser<'a>(alloc: Global) -> Parser<'a>
+    ensures app { app_of result ≡ bare_app }
+    ensures local { (out-Command result).has_globals ≡ false }
+{
+    Parser::new(alloc, "ghost").no_binary_name(true)
+}
+
+/// What `clap` is told of the program: one level of subcommands. Numbers are texts to it.
+pub(crate) fn program<'a>(alloc: Global) -> Result<Parser<'a>, AllocError>
+    ensures { IfOk result (λ parser. app_of parser ≡ program) }
+{
+    bare_parser(alloc)
+        .subcommand(Parser::new(alloc, "check"))?
+        .subcommand(Parser::new(alloc, "replay"))?
+        .subcommand(run_parser(alloc)?)?
+        .subcommand(generate_parser(alloc)?)
+}
+
+fn run_by(number: &str) -> Option<Command>
+    ensures { result ≡ run_by number.now }
+{
+    Some(Command::Run(workers_of(number)?))
+}
+
+fn run_told(number: Option<&str>) -> Option<Command>
+    ensures { result ≡ run_told (option_map (λ text. text.now) number.entry) }
+{
+    match number {
+        None => Some(Command::Run(USUAL_WORKERS)),
+        Some(number) => run_by(number),
+    }
+}
+
+fn generate_of(number: &str) -> Option<Command>
+    ensures { result ≡ generate_of number.now }
+{
+    Some(Command::Generate(number_of(number)?))
+}
+
+fn command_told(name: &str, workers: Option<&str>, number: Option<&str>) -> Option<Command>
+    ensures { result ≡ command_told name.now (option_map (λ text. text.now) workers.entry) (option_map (λ text. text.now) number.entry) }
+{
+    if name == "check" {
+        Some(Command::Check)
+    } else if name == "replay" {
+        Some(Command::Replay)
+    } else if name == "run" {
+        run_told(workers)
+    } else if name == "generate" {
+        generate_of(number?)
+    } else {
+        None
+    }
+}
+
+/// The command that the matches tell, if they tell one.
+pub(crate) fn told(matches: &ArgMatches<'_>) -> Option<Command>
+    ensures { result ≡ told (subcommand_rows_of matches.now) }
+{
+    let (name, numbers) = matches.subcommand()?;
+    command_told(name, numbers.get_str(WORKERS), numbers.get_str(NUMBER))
+}

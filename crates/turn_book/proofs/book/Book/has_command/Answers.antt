@@ -1,7 +1,0 @@
-use Rattle.std.proofs.Common.{ap, ◌∙◌}
-use Rattle.std.specs.Prelude.{is_some}
-use Rattle.turn_book.proofs.Givens.{command_left}
-use Rattle.turn_book.proofs.book.Book.has_command.Goals as goal
-
-pub returns : goal.returns
-returns c = c.is_some.ensures ∙ ap is_some c.next.ensures ∙ command_left _

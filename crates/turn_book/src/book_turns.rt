@@ -1,5 +1,0 @@
-//! What one turn makes of a run's book.
-
-mod adding;
-
-pub use adding::{Told, reserve, take};

@@ -1,9 +1,0 @@
-pub mod Counting
-pub mod Fitting
-pub mod Keeps
-pub mod Starts
-pub mod Ends
-pub mod Turning
-pub mod Dealing
-pub mod Gathering
-pub mod Meeting

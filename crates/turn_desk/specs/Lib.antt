@@ -1,5 +1,0 @@
-pub mod Turns
-pub mod Views
-pub mod Rule
-pub mod Steps
-pub mod Boards

@@ -1,5 +1,0 @@
-use Rattle.txn_session.proofs.SaidEvents.{job_fits, said_fits}
-use Rattle.txn_session.proofs.laws.said_events_fit.Goals as goal
-
-pub returns : goal.returns
-returns c = record { statements = said_fits; jobs = job_fits }

@@ -1,5 +1,0 @@
-use Rattle.std.proofs.Common.{arith}
-use Rattle.whole_host.proofs.turns.turns_in.Goals as goal
-
-pub push_reserved-requires : goal.push_reserved-requires
-push_reserved-requires c = omega (arith, c.loop-entry-test.true, c.loop-entry.invariant.count, c.loop-entry.invariant.room)

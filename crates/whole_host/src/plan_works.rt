@@ -1,6 +1,0 @@
-//! The run of a plan that was read by worker threads, on any server: its journal and whose turns it has, with all that is promised
-//! of them, and how it ended.
-
-mod working;
-
-pub use working::{Left, work_plan};

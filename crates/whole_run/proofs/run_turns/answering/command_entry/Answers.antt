@@ -1,8 +1,0 @@
-use Rattle.std.proofs.Common.{None, ap, ◌∙◌}
-use Rattle.plain_server.specs.declared.answer.Answer.TheVariants.{Ok}
-use Rattle.plain_server.specs.declared.entry.Asked.{Asked}
-use Rattle.whole_run.proofs.RunTurns.Served.{command_is}
-use Rattle.whole_run.proofs.run_turns.answering.command_entry.Goals as goal
-
-pub returns : goal.returns
-returns c = λ server. ap (λ (asked : Asked). record { actor = c.args.turn.actor; session = 0; asked = asked; side = None; answer = Ok 0; missed = None }) c.into_asked.ensures ∙ command_is server c.args.turn c.requires.asked c.requires.side

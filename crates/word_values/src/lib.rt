@@ -1,6 +1,0 @@
-//! Values as words: what a word stands for, and the lemmas by which each value that is printed is read back.
-#![tactic(auto)]
-
-mod literals;
-
-pub use literals::literal;

@@ -1,9 +1,0 @@
--- A run whose turns worker threads take at one desk: each turn is that of the actor that the rule gives its worker.
-pub mod ActorSeats
-pub mod Owning
-pub mod Seeking
-pub mod Waiting
-pub mod Picking
-pub mod Listing
-pub mod Rotating
-pub mod Working

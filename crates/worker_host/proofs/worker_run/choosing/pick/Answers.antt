@@ -1,9 +1,0 @@
-use Rattle.worker_host.proofs.WorkerRun.Picking.{by_first, by_second}
-use Rattle.worker_host.proofs.worker_run.choosing.pick.Goals as goal
-
-pub returns-in-Some-clause-picked : goal.returns-in-Some-clause-picked
-returns-in-Some-clause-picked g c = λ last goes. by_first c.args.run.now.plan c.args.run.now.journal c.args.member.workers c.args.member.worker c.args.from last c.in-Some.seat.actor goes c.in-Some.ensures.first
-
-pub returns-in-Some-next_seat-clause-picked : goal.returns-in-Some-next_seat-clause-picked
-returns-in-Some-next_seat-clause-picked g c =
-    λ last goes. by_second c.args.run.now.plan c.args.run.now.journal c.args.member.workers c.args.member.worker c.args.from last c.in-Some-next_seat.seat.actor goes c.in_default.ensures.first c.in-Some-next_seat.ensures.first

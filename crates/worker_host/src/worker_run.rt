@@ -1,9 +1,0 @@
-//! A run whose turns worker threads take at one desk: each turn is that of the actor that the rule gives its worker.
-
-mod choosing;
-mod noting;
-mod seats;
-mod worked;
-
-pub use noting::{Turns, WorkerTurn};
-pub use worked::{Opening, Worked};
