@@ -25,7 +25,7 @@ mod value;
 pub use comparison::compare;
 pub use duplicate::Duplicate;
 pub use event::{Change, Events, RowEvent};
-pub use fault::Fault;
+pub use fault::{Fault, because};
 pub use kind::Kind;
 pub use name::{Name, Names};
 pub use printer::{print_row, print_value};
