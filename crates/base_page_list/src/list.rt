@@ -156,7 +156,7 @@ impl Model for PagedList {
 }
 
 impl PagedList {
-    /// No entries. It takes no memory.
+    /// No entries.
     pub fn new(alloc: Global) -> PagedList
         ensures { result.pages ≡ [] }
     {
@@ -247,7 +247,7 @@ impl PagedList {
         self.pages.reserve(pages.saturating_sub(self.pages.len()))
     }
 
-    /// Puts an entry at a place, in a page that becomes two where it has 64 entries. It takes no memory.
+    /// Puts an entry at a place, in a page that becomes two where it has 64 entries.
     pub fn insert(&mut self, place: Place, entry: usize)
         requires room { 0 < self.old.spare }
         requires place { IsGap self.old.pages place.page place.at }
@@ -262,7 +262,7 @@ impl PagedList {
         }
     }
 
-    /// Takes the entry at a place out; a page that is left thin becomes one with its neighbour. It takes no memory.
+    /// Takes the entry at a place out; a page that is left thin becomes one with its neighbour.
     pub fn remove(&mut self, place: Place) -> usize
         requires page { place.page < length self.old.pages }
         requires at { place.at < length (get_or self.old.pages place.page []) }

@@ -6,7 +6,7 @@ ghost use Rattle.base_page_list.specs.Pages.{flat, joined, parted, place_in, pag
 use crate::list::Place;
 use crate::page::Page;
 
-/// Makes a page two, if it has more than 64 entries. It takes no memory.
+/// Makes a page two, if it has more than 64 entries.
 fn part(pages: &mut Vec<Page>, n: usize)
     requires within { n < length pages.old.items }
     requires room { 64 < length (get_or pages.old.items n []) → vec_len pages.old < vec_capacity pages.old }
@@ -23,7 +23,7 @@ fn part(pages: &mut Vec<Page>, n: usize)
     }
 }
 
-/// Makes a page and the next one, if they have together at most 32 entries. It takes no memory.
+/// Makes a page and the next one, if they have together at most 32 entries.
 fn join(pages: &mut Vec<Page>, n: usize)
     requires { n < length pages.old.items }
     ensures items { pages.new.items ≡ joined n pages.old.items }
@@ -64,7 +64,7 @@ fn take(pages: &mut Vec<Page>, place: Place) -> usize
     page.remove(place.at)
 }
 
-/// Puts an entry into a page, which becomes two if it is full. It takes no memory.
+/// Puts an entry into a page, which becomes two if it is full.
 pub fn insert_in(pages: &mut Vec<Page>, place: Place, entry: usize)
     requires are { ArePages pages.old.items }
     requires within { place.page < length pages.old.items }
@@ -79,7 +79,7 @@ pub fn insert_in(pages: &mut Vec<Page>, place: Place, entry: usize)
     part(pages, place.page);
 }
 
-/// Takes an entry out of a page, which joins a neighbour if they become small. It takes no memory.
+/// Takes an entry out of a page, which joins a neighbour if they become small.
 pub fn remove_in(pages: &mut Vec<Page>, place: Place) -> usize
     requires are { ArePages pages.old.items }
     requires within { place.page < length pages.old.items }

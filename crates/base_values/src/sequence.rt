@@ -34,7 +34,7 @@ impl<T> Model for Sequence<T> {
 }
 
 impl<T> Sequence<T> {
-    /// The sequence without items. It takes no memory.
+    /// The sequence without items.
     pub fn new(alloc: Global) -> Sequence<T>
         ensures { result ≡ [] }
     {
@@ -43,14 +43,14 @@ impl<T> Sequence<T> {
         }
     }
 
-    /// The items of a vector. It takes no memory.
+    /// The items of a vector.
     pub fn from_vec(items: Vec<T>) -> Sequence<T>
         ensures { result ≡ items.items }
     {
         Sequence { items }
     }
 
-    /// The items as a vector. It takes no memory.
+    /// The items as a vector.
     pub fn into_vec(self) -> Vec<T>
         ensures { result.items ≡ self }
     {
@@ -88,7 +88,7 @@ impl<T> Sequence<T> {
         self.items.iter()
     }
 
-    /// Takes the last item out, where there is one. It takes no memory.
+    /// Takes the last item out, where there is one.
     pub fn pop(&mut self) -> Option<T>
         ensures items { self.old ≡ self.new ++ option_to_list result }
         ensures none { result ≡ None → self.old ≡ [] }

@@ -93,7 +93,7 @@ impl Model for Text {
 }
 
 impl Text {
-    /// The empty text. It takes no memory.
+    /// The empty text.
     pub fn new(alloc: Global) -> Text
         ensures { result ≡ [] }
     {

@@ -55,7 +55,7 @@ fn is_name_with(table: &str, ending: &str, name: &str) -> bool
     }
 }
 
-/// Whether a table is the new one, as it is named before it takes the migrated table's name. It takes no memory.
+/// Whether a table is the new one, as it is named before it takes the migrated table's name.
 #[tactic(auto, unfolding(crate::specs::ToolNames::ghost_name))]
 pub fn is_ghost_name(table: &str, name: &str) -> bool
     ensures { result ≡ bytes_eq name.now (ghost_name table.now) }
@@ -63,7 +63,7 @@ pub fn is_ghost_name(table: &str, name: &str) -> bool
     is_name_with(table, "_gho", name)
 }
 
-/// Whether a table is the changelog, by its name. It takes no memory.
+/// Whether a table is the changelog, by its name.
 #[tactic(auto, unfolding(crate::specs::ToolNames::log_name))]
 pub fn is_log_name(table: &str, name: &str) -> bool
     ensures { result ≡ bytes_eq name.now (log_name table.now) }
@@ -71,7 +71,7 @@ pub fn is_log_name(table: &str, name: &str) -> bool
     is_name_with(table, "_ghc", name)
 }
 
-/// Whether a table has the name of the sentry and of the table from before. It takes no memory.
+/// Whether a table has the name of the sentry and of the table from before.
 #[tactic(auto, unfolding(crate::specs::ToolNames::old_name))]
 pub fn is_old_name(table: &str, name: &str) -> bool
     ensures { result ≡ bytes_eq name.now (old_name table.now) }
@@ -79,7 +79,7 @@ pub fn is_old_name(table: &str, name: &str) -> bool
     is_name_with(table, "_del", name)
 }
 
-/// Whether a table has one of the tool's three names. It takes no memory.
+/// Whether a table has one of the tool's three names.
 pub fn is_tool_name(table: &str, name: &str) -> bool
     ensures { result ≡ is_tool_name table.now name.now }
 {

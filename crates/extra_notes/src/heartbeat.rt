@@ -32,7 +32,7 @@ pub fn heartbeat_row(alloc: Global, number: u64) -> Result<Row, AllocError>
     ]?))
 }
 
-/// The number whose heartbeat row this is; none where it is no heartbeat row. It takes no memory.
+/// The number whose heartbeat row this is; none where it is no heartbeat row.
 pub fn heartbeat_of(row: &[Value]) -> Option<u64>
     ensures { result ≡ heartbeat_of row.now }
 {

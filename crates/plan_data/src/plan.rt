@@ -80,7 +80,7 @@ impl Model for Plan {
 }
 
 impl Plan {
-    /// A plan of these parts, whose ALTER leaves this schema. It takes no memory.
+    /// A plan of these parts, whose ALTER leaves this schema.
     pub fn new(parts: PlanParts, altered: AlteredSchema) -> Plan
         requires altered { plan_altered (data_of parts) ≡ Some (altered.schema, altered.map) }
         requires few { length parts.clients ≤ CLIENT_LIMIT }

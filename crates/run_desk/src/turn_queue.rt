@@ -98,7 +98,7 @@ impl<B: SharedState> TurnQueue<B> {
         board.load::<Compare>(&mut into.seat, SERVING);
     }
 
-    /// The book, with the turns of all workers. It takes no memory.
+    /// The book, with the turns of all workers.
     pub fn close(self, passes: Passes<B>) -> B
         requires all { length passes.items ≡ self.workers }
         requires passes { All (IsPassOf self) passes.items }

@@ -87,7 +87,7 @@ impl RunState<'_> {
         self.tool.operator.next(self.plan).is_some()
     }
 
-    /// Whether the actor is ready: something is given to it. It takes no memory.
+    /// Whether the actor is ready: something is given to it.
     #[tactic(auto, unfolding(tool_program::specs::Programs::given))]
     pub fn is_ready<V: Serve>(&self, server: &V, actor: Actor) -> bool
         requires run_state { IsRunState self.now.plan.now self.now.journal.items self.now }
@@ -103,7 +103,7 @@ impl RunState<'_> {
         }
     }
 
-    /// Whether every client has gone through its script or lost its session. It takes no memory.
+    /// Whether every client has gone through its script or lost its session.
     #[tactic(auto, using(crate::proofs::Clients::same_count, crate::proofs::Clients::reached_here), unfolding(tool_program::specs::JournalWords::Clients::all_over))]
     fn clients_over(&self) -> bool
         requires { IsRunState self.now.plan.now self.now.journal.items self.now }
@@ -118,7 +118,7 @@ impl RunState<'_> {
         true
     }
 
-    /// Whether the run has ended: the tool is over, and every client. It takes no memory.
+    /// Whether the run has ended: the tool is over, and every client.
     #[tactic(auto, using(proof_journals::proofs::RunLaws::Tallies::busy_counted), unfolding(tool_program::specs::Verdicts::has_ended))]
     pub fn has_ended(&self) -> bool
         requires { IsRunState self.now.plan.now self.now.journal.items self.now }

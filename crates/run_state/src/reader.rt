@@ -89,7 +89,7 @@ impl RunState<'_> {
         }
     }
 
-    /// Whether a client asks something next. It takes no memory.
+    /// Whether a client asks something next.
     #[tactic(auto, using(crate::proofs::Clients::scripted, crate::proofs::Clients::actor_state_within, crate::proofs::Clients::client_reached, crate::proofs::Clients::stranger_silent, crate::proofs::Clients::asks_is))]
     pub fn is_client_ready(&self, client: u32) -> bool
         requires { IsRunState self.now.plan.now self.now.journal.items self.now }

@@ -42,7 +42,7 @@ pub fn due<V: Serve>(
     }
 }
 
-/// Whether a turn is due where the actor is to take one. It takes no memory.
+/// Whether a turn is due where the actor is to take one.
 #[tactic(auto, using(crate::proofs::RunTurns::Planned::is_due_by), unfolding(crate::specs::DueTurns::Due::due))]
 pub fn is_due<V: Serve>(run_state: &RunState<'_>, server: &V, actor: Actor) -> bool
     requires run_state { IsRunState run_state.now.plan.now run_state.now.journal.items run_state.now }

@@ -55,7 +55,7 @@ impl<'a, V: Serve> Model for Run<'a, V> {
     ghost invariant = { λ r. IsRun r.run_state.plan.now r.run_state.journal.items r.run_state r.sessions (V.state r.server) };
 }
 
-/// The journal of a book. It takes no memory.
+/// The journal of a book.
 fn into_journal(run_state: RunState<'_>) -> Journal
     ensures { result ≡ run_state.entry.journal.items }
 {
@@ -77,7 +77,7 @@ impl<'a, V: Serve> Run<'a, V> {
         })
     }
 
-    /// Whether the actor is ready: something is given to it. It takes no memory.
+    /// Whether the actor is ready: something is given to it.
     #[tactic(auto, using(crate::proofs::Steps::after_moment))]
     pub fn ready(&self, actor: Actor) -> bool
         ensures { result ≡ is_ready self.now.plan self.now.journal actor }
@@ -85,7 +85,7 @@ impl<'a, V: Serve> Run<'a, V> {
         self.run_state.is_ready(&self.server, actor)
     }
 
-    /// Whether the actor's request waits. It takes no memory.
+    /// Whether the actor's request waits.
     #[tactic(auto, using(crate::proofs::Steps::waits_after))]
     pub fn waiting(&self, actor: Actor) -> bool
         ensures { result ≡ waits (state_at self.now.plan self.now.journal) (live_session self.now.journal actor) }
@@ -96,7 +96,7 @@ impl<'a, V: Serve> Run<'a, V> {
         }
     }
 
-    /// Whether the tool and every client are over. It takes no memory.
+    /// Whether the tool and every client are over.
     pub fn ended(&self) -> bool
         ensures { result ≡ has_ended self.now.plan self.now.journal }
     {
@@ -110,14 +110,14 @@ impl<'a, V: Serve> Run<'a, V> {
         self.run_state.plan
     }
 
-    /// Whether a loss between calls is due in the next turn, which a step of any actor takes. It takes no memory.
+    /// Whether a loss between calls is due in the next turn, which a step of any actor takes.
     pub fn is_cut_due(&self) -> bool
         ensures { result ≡ is_some (cut_due self.now.plan self.now.journal) }
     {
         self.run_state.cut_due().is_some()
     }
 
-    /// Whether no further turn is taken: the run has ended, or has as many turns as the plan allows. It takes no memory.
+    /// Whether no further turn is taken: the run has ended, or has as many turns as the plan allows.
     #[tactic(auto, using(crate::proofs::Steps::few_more), unfolding(crate::specs::Runs::is_over))]
     pub fn is_over(&self) -> bool
         ensures over { result ≡ is_over self.now.plan self.now.journal }
@@ -175,7 +175,7 @@ impl<'a, V: Serve> Run<'a, V> {
     }
 
     /// The turns so far. The server's answers are in them; each is a turn that the plan allows and that was given, in its
-    /// actor's session. It takes no memory.
+    /// actor's session.
     pub fn journal(&self) -> &[Entry]
         ensures turns { result.now ≡ self.now.journal }
         ensures faithful { IsFaithful self.now.plan self.now.journal }
@@ -187,7 +187,7 @@ impl<'a, V: Serve> Run<'a, V> {
         self.run_state.journal.as_slice()
     }
 
-    /// The server, behind the journal's turns. It takes no memory.
+    /// The server, behind the journal's turns.
     pub fn server(&self) -> &V
         ensures server { V.state result.now ≡ self.now.server }
         ensures behind { IsAfter (state_at self.now.plan self.now.journal) self.now.server }
@@ -195,7 +195,7 @@ impl<'a, V: Serve> Run<'a, V> {
         &self.server
     }
 
-    /// The server and the journal. It takes no memory.
+    /// The server and the journal.
     pub fn stop(self) -> (V, Journal)
         ensures server { V.state result.0 ≡ self.entry.server }
         ensures turns { result.1 ≡ self.entry.journal }

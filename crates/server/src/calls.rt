@@ -92,8 +92,7 @@ pub fn call<D: Data>(
     }
 }
 
-/// The session's request was polled, and stays blocked: it waits on, or its wait times out and its transaction is rolled
-/// back. It takes no memory.
+/// The session's request was polled, and stays blocked: it waits on, or its wait times out and its transaction is rolled back.
 fn stay_blocked<D: Data>(
     store: &mut D,
     all_sessions: &mut Sessions,

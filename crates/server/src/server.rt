@@ -36,7 +36,7 @@ impl<D: Data> Model for Server<D> {
 
 impl<D: Data> Server<D> {
     /// The server at its start, over data to which no transaction wrote yet. A wait may be polled once at least. How many
-    /// events are unread is known at once of the tables that are watched. It takes no memory.
+    /// events are unread is known at once of the tables that are watched.
     pub fn open(alloc: Global, store: D, limits: Limits, watched: Names) -> Server<D>
         requires clients { 1 ≤ limits.client_wait }
         requires tools { 1 ≤ limits.tool_wait }

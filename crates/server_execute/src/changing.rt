@@ -26,7 +26,7 @@ pub struct ReadyResult {
     pub changes: Changes,
 }
 
-/// An answer that changes nothing. It takes no memory.
+/// An answer that changes nothing.
 pub fn only(alloc: Global, answer: Answer) -> ReadyResult
     ensures { as_result result ≡ only answer }
 {

@@ -80,7 +80,7 @@ impl Model for Journal {
 impl Journal {
     ghost use Rattle.server_model.specs.Entries.{answer_at};
 
-    /// The journal without turns. It takes no memory.
+    /// The journal without turns.
     pub fn new(alloc: Global) -> Journal
         ensures { result ≡ [] }
     {
@@ -89,7 +89,7 @@ impl Journal {
         }
     }
 
-    /// The journal of these turns. It takes no memory.
+    /// The journal of these turns.
     pub fn from_vec(entries: Vec<Entry>) -> Journal
         ensures { result ≡ entries.items }
     {

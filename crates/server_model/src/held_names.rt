@@ -128,7 +128,7 @@ fn retain_granted(different: &mut Vec<HeldName>, granted: &[HeldName])
 }
 
 impl HeldNames {
-    /// No name is held. It takes no memory.
+    /// No name is held.
     pub fn new(alloc: Global) -> HeldNames
         ensures { result ≡ [] }
     {
@@ -172,7 +172,7 @@ impl HeldNames {
         held
     }
 
-    /// Lets go of all but the first so many. It takes no memory.
+    /// Lets go of all but the first so many.
     pub fn cut(&mut self, len: usize)
         ensures { self.new ≡ take len self.old }
     {
@@ -180,7 +180,7 @@ impl HeldNames {
         retain_granted(&mut self.different, self.granted.as_slice());
     }
 
-    /// Lets go of the names that are held shared. It takes no memory.
+    /// Lets go of the names that are held shared.
     pub fn keep_exclusive(&mut self)
         ensures { self.new ≡ kept_names self.old }
     {
@@ -188,7 +188,7 @@ impl HeldNames {
         retain_exclusive(&mut self.different);
     }
 
-    /// Lets go of the names that are held exclusively. It takes no memory.
+    /// Lets go of the names that are held exclusively.
     pub fn keep_shared(&mut self)
         ensures { self.new ≡ shared_names self.old }
     {

@@ -5,7 +5,7 @@ ghost use Rattle.server_model.specs.Entries.{answer_at};
 
 use crate::{Answer, Entry};
 
-/// The answer in the turn of this number, from 1; none where there is no such turn. It takes no memory.
+/// The answer in the turn of this number, from 1; none where there is no such turn.
 #[tactic(auto, unfolding(crate::specs::Entries::answer_at))]
 pub fn answer_at(turns: &[Entry], turn: u64) -> Option<&Answer>
     ensures { option_map (λ answer. answer.now) result ≡ answer_at turns.now turn }

@@ -126,7 +126,7 @@ impl KeySet {
         self.table.reserve(n)
     }
 
-    /// Puts a key in its place, unless it is there already. It takes no memory.
+    /// Puts a key in its place, unless it is there already.
     pub fn insert(&mut self, key: Key)
         requires width { length key ≤ self.old.width }
         requires room { 0 < self.old.spare }

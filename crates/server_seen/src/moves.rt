@@ -13,7 +13,7 @@ use crate::keys::KeySet;
 use base_values::{Key, Keys};
 use table_store::paged_tables::row_pages::Table;
 
-/// Moves the row of a key into a table, in place of that which has the key there. It takes no memory.
+/// Moves the row of a key into a table, in place of that which has the key there.
 fn move_row(key: &Key, from: &mut Table, into: &mut Table)
     requires schema { into.old.table.schema ≡ from.old.table.schema }
     requires room { length from.old.table.rows ≤ into.old.spare }
@@ -29,7 +29,7 @@ fn move_row(key: &Key, from: &mut Table, into: &mut Table)
     }
 }
 
-/// Lays rows and keys over what was written earlier. It takes no memory.
+/// Lays rows and keys over what was written earlier.
 pub fn lay_over(keys: Keys, from: &mut Table, into: &mut Table, set: &mut KeySet)
     requires schema { into.old.table.schema ≡ from.old.table.schema }
     requires room { length from.old.table.rows ≤ into.old.spare }

@@ -38,7 +38,7 @@ impl<'a> Model for SeenTable<'a> {
 impl<'a> SeenTable<'a> {
     ghost use Rattle.server_seen.specs.Written.{seen};
 
-    /// The table with what was written to it. It takes no memory.
+    /// The table with what was written to it.
     pub fn new(table: &'a Table, written: &'a WrittenRows) -> SeenTable<'a>
         requires { written.now.schema ≡ table.now.table.schema }
         ensures schema { result.schema ≡ table.now.table.schema }

@@ -102,7 +102,7 @@ impl WrittenRows {
         self.keys.reserve(n)
     }
 
-    /// Takes the row of a key out. It takes no memory.
+    /// Takes the row of a key out.
     fn remove(&mut self, key: Key)
         requires width { length key ≤ length (key_places self.old.schema) }
         requires room { 0 < self.old.spare }
@@ -114,7 +114,7 @@ impl WrittenRows {
         self.keys.insert(key);
     }
 
-    /// Puts a row in, in place of that of its key. It takes no memory.
+    /// Puts a row in, in place of that of its key.
     fn store(&mut self, key: Key, row: Row)
         requires key { key ≡ key_of (key_places self.old.schema) row }
         requires room { 0 < self.old.spare }
@@ -181,7 +181,7 @@ impl WrittenRows {
         merged(alloc, places, mine.as_slice(), left)
     }
 
-    /// How many rows stand. It takes no memory.
+    /// How many rows stand.
     pub fn rows(&self) -> usize
         ensures { result ≡ length self.now.written.rows }
     {
@@ -195,7 +195,7 @@ impl WrittenRows {
         self.keys.copies(alloc)
     }
 
-    /// Lays what was written later over this, where its keys are also listed. It takes no memory.
+    /// Lays what was written later over this, where its keys are also listed.
     pub fn lay_over(&mut self, later: WrittenRows, keys: Keys)
         requires schema { later.schema ≡ self.old.schema }
         requires keys { keys ≡ later.written.keys }

@@ -24,7 +24,7 @@ pub fn append<T: Drop>(
     appended
 }
 
-/// Leaves this many items, the first ones. It takes no memory.
+/// Leaves this many items, the first ones.
 fn cut<T: Drop>(alloc: Global, items: &mut Sequence<T>, len: usize)
     ensures { items.new ≡ take len items.old }
 {

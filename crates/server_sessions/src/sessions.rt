@@ -34,7 +34,7 @@ pub fn connect(
     Ok(())
 }
 
-/// The session is gone, with all that it holds. It takes no memory.
+/// The session is gone, with all that it holds.
 pub fn disconnect(sessions: &mut Vec<Session>, number: u32)
     ensures { sessions.new.items ≡ filter (λ session. not (session.number == number)) sessions.old.items }
 {
@@ -69,8 +69,7 @@ fn rest_one(alloc: Global, session: &mut Session) -> Events
     mem::replace(&mut session.writes, Sequence::new(alloc))
 }
 
-/// The session's transaction is over: its row locks and shared names are free. What it wrote is given. It takes no
-/// memory.
+/// The session's transaction is over: its row locks and shared names are free. What it wrote is given.
 pub fn rest(alloc: Global, sessions: &mut Vec<Session>, number: u32) -> Events
     ensures sessions { sessions.new.items ≡ with_session number at_rest sessions.old.items }
     ensures writes { result ≡ writes_of (session_of number sessions.old.items) }
@@ -92,7 +91,7 @@ pub fn lock_tables(sessions: &mut Vec<Session>, number: u32, names: Names) -> Re
     }
 }
 
-/// The session holds no name exclusively from now on. It takes no memory.
+/// The session holds no name exclusively from now on.
 pub fn unlock_tables(sessions: &mut Vec<Session>, number: u32)
     ensures { sessions.new.items ≡ with_session number unlocking sessions.old.items }
 {
@@ -101,7 +100,7 @@ pub fn unlock_tables(sessions: &mut Vec<Session>, number: u32)
     }
 }
 
-/// The session's request was polled so often. It takes no memory.
+/// The session's request was polled so often.
 pub fn count_polls(sessions: &mut Vec<Session>, number: u32, polls: u32)
     ensures { sessions.new.items ≡ with_session number (counting polls) sessions.old.items }
 {

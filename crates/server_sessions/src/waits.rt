@@ -38,7 +38,7 @@ pub fn begin_wait(
     Ok(())
 }
 
-/// The session's request waits no more. It takes no memory.
+/// The session's request waits no more.
 pub fn end_wait(waiting: &mut Vec<Waiting>, number: u32)
     ensures { waiting.new.items ≡ filter (λ one. not (one.session == number)) waiting.old.items }
 {

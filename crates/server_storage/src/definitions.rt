@@ -33,7 +33,7 @@ pub fn create_table(alloc: Global, tables: &mut Tables, schema: &Schema) -> Resu
     }
 }
 
-/// Drops the table of this name, to which no open transaction wrote (DROP TABLE). It takes no memory.
+/// Drops the table of this name, to which no open transaction wrote (DROP TABLE).
 pub fn drop_table(tables: &mut Tables, name: &Name)
     ensures committed { database tables.new ≡ without_table name.now (database tables.old) }
     ensures kept { (txns : List OpenTxn) → ((session : ℕ) → NoneOf (name.now ∷ []) (written_of session txns)) → IsKept tables.old txns → IsKept tables.new txns }

@@ -12,7 +12,7 @@ use crate::open_txns::{OpenTxn, take_txn};
 use server_transaction::commit;
 use table_store::paged_tables::Tables;
 
-/// Commits what the session wrote. It takes no memory.
+/// Commits what the session wrote.
 pub fn commit_txn(tables: &mut Tables, txns: &mut Vec<OpenTxn>, session: u32)
     requires kept { IsKept tables.old txns.old.items }
     requires fit { (other : ℕ) → (other == session) ≡ false → EventsFit (after_events (database tables.old) (written_of session txns.old.items)) (written_of other txns.old.items) }
@@ -26,7 +26,7 @@ pub fn commit_txn(tables: &mut Tables, txns: &mut Vec<OpenTxn>, session: u32)
     commit(txn, tables);
 }
 
-/// Forgets what the session wrote. It takes no memory.
+/// Forgets what the session wrote.
 pub fn roll_back_txn(txns: &mut Vec<OpenTxn>, session: u32)
     ensures { (tables : List StoredTable) → IsKept tables txns.old.items → IsKeptWith session [] tables txns.old.items txns.new.items }
 {

@@ -26,7 +26,7 @@ fn look_at(tables: &Tables, name: &Name)
     }
 }
 
-/// Puts a row into the table of this name. It takes no memory.
+/// Puts a row into the table of this name.
 fn put(tables: &mut Tables, name: &Name, row: Row)
     requires fits { FitsIn (changes.Write row) (find_table name.now (database tables.old)) }
     requires room { 1 ≤ spare_in name.now tables.old }
@@ -38,7 +38,7 @@ fn put(tables: &mut Tables, name: &Name, row: Row)
     tables.put_in(name, row);
 }
 
-/// Takes a row out of the table of this name, by its key. It takes no memory.
+/// Takes a row out of the table of this name, by its key.
 fn take_out(tables: &mut Tables, name: &Name, row: &Row, gone: &Option<Key>)
     requires fits { FitsIn (changes.Delete row.now) (find_table name.now (database tables.old)) }
     requires key { IfSome (find_table name.now (database tables.old)) (λ table. gone.now ≡ Some (key_of (key_places table.schema) row.now)) }
@@ -55,7 +55,7 @@ fn take_out(tables: &mut Tables, name: &Name, row: &Row, gone: &Option<Key>)
     }
 }
 
-/// Changes a row of the table of this name, whose key is given. It takes no memory.
+/// Changes a row of the table of this name, whose key is given.
 fn change(tables: &mut Tables, name: &Name, before: &Row, after: Row, gone: &Option<Key>)
     requires fits { FitsIn (changes.Update before.now after) (find_table name.now (database tables.old)) }
     requires key { IfSome (find_table name.now (database tables.old)) (λ table. gone.now ≡ Some (key_of (key_places table.schema) before.now)) }
@@ -68,7 +68,7 @@ fn change(tables: &mut Tables, name: &Name, before: &Row, after: Row, gone: &Opt
     put(tables, name, after);
 }
 
-/// Does an event to its table. It takes no memory.
+/// Does an event to its table.
 pub fn apply(tables: &mut Tables, one: KeyedEvent)
     requires fits { FitsIn one.event.change (find_table one.event.table (database tables.old)) }
     requires key { IfSome (find_table one.event.table (database tables.old)) (λ table. one ≡ keyed (key_places table.schema) one.event) }

@@ -13,7 +13,7 @@ use crate::keyed::KeyedEvent;
 use crate::txn::Txn;
 use table_store::paged_tables::Tables;
 
-/// Does events to their tables, one by one. It takes no memory.
+/// Does events to their tables, one by one.
 fn apply_all(tables: &mut Tables, events: Vec<KeyedEvent>)
     requires fit { EventsFit (database tables.old) (map (λ one. one.event) events.items) }
     requires keys { AllByRecursion (IsKeyedIn (database tables.old)) events.items }
@@ -26,7 +26,7 @@ fn apply_all(tables: &mut Tables, events: Vec<KeyedEvent>)
     }
 }
 
-/// Commits the transaction: its events are done to their tables. It takes no memory.
+/// Commits the transaction: its events are done to their tables.
 pub fn commit(txn: Txn, tables: &mut Tables)
     requires of { IsOf (database tables.old) txn }
     requires room { (name : List ℕ) → puts_in name txn.events ≤ spare_in name tables.old }

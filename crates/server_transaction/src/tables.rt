@@ -55,7 +55,7 @@ pub fn reserve_for(tables: &mut Vec<WrittenRows>, name: &Name, n: usize) -> Resu
     }
 }
 
-/// Lays what was written over what was written to its table before. It takes no memory.
+/// Lays what was written over what was written to its table before.
 pub fn write_to(tables: &mut Vec<WrittenRows>, written: WrittenRows, keys: Keys)
     requires keys { keys ≡ written.written.keys }
     requires schema { IfSome (find_writes written.schema.name tables.old.items) (λ table. table.schema ≡ written.schema) }

@@ -34,7 +34,7 @@ impl Model for Txn {
 }
 
 impl Txn {
-    /// A transaction that wrote nothing. It takes no memory.
+    /// A transaction that wrote nothing.
     pub fn new(alloc: Global) -> Txn
         ensures events { result.events ≡ [] }
         ensures tables { result.tables ≡ [] }
@@ -77,7 +77,7 @@ impl Txn {
         reserve_for(&mut self.tables, writes.table(), writes.size())
     }
 
-    /// Writes down what a statement writes to a table of the schema that it is known by. It takes no memory.
+    /// Writes down what a statement writes to a table of the schema that it is known by.
     pub fn write(&mut self, writes: Writes)
         requires room { HasRoom self.old writes }
         requires schema { IfSome (find_writes writes.schema.name self.old.tables) (λ table. table.schema ≡ writes.schema) }
@@ -93,7 +93,7 @@ impl Txn {
         append_events(&mut self.events, events);
     }
 
-    /// Its events, each with the key of the row that it takes out. It takes no memory.
+    /// Its events, each with the key of the row that it takes out.
     pub(crate) fn into_events(self) -> Vec<KeyedEvent>
         ensures events { map (λ one. one.event) result.items ≡ self.events }
         ensures keyed { AllByRecursion (λ one. IsKeyed one (find_writes one.event.table self.tables)) result.items }

@@ -29,7 +29,7 @@ fn null_literal<'a>(text: &'a str) -> Option<LiteralRef<'a>>
     }
 }
 
-/// The literal that the word is; none where it is no NULL, number, text or bytes. It takes no memory.
+/// The literal that the word is; none where it is no NULL, number, text or bytes.
 pub fn read_literal<'a>(word: &Word<'a>) -> Option<LiteralRef<'a>>
     ensures { option_map literal result ≡ written_literal word.now.class word.now.text.now }
 {

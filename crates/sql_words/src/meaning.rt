@@ -40,7 +40,7 @@ impl<'a> Word<'a> {
         unquoted(alloc, bytes[0], &self.text[1..])
     }
 
-    /// What stands between the quotes, as it is written, or None where the word is no text. It takes no memory.
+    /// What stands between the quotes, as it is written, or None where the word is no text.
     pub fn written_text(&self) -> Option<&'a str>
         ensures { option_map (λ text. text.now) result ≡ written_text self.now.text.now }
     {
@@ -58,7 +58,7 @@ impl<'a> Word<'a> {
         unhexed(alloc, &bytes[2..])
     }
 
-    /// The digits between the quotes, as they are written, or None where the word is no bytes. It takes no memory.
+    /// The digits between the quotes, as they are written, or None where the word is no bytes.
     pub fn written_bytes(&self) -> Option<&'a str>
         ensures { option_map (λ digits. digits.now) result ≡ written_bytes self.now.text.now }
     {

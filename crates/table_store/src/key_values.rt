@@ -25,7 +25,7 @@ impl<'a> Model for KeyValues<'a> {
 }
 
 impl<'a> KeyValues<'a> {
-    /// The values of the row at these places, in their order. It takes no memory.
+    /// The values of the row at these places, in their order.
     pub fn new(places: &'a [usize], row: &'a [Value]) -> KeyValues<'a>
         ensures { result ≡ key_of places.now row.now }
     {

@@ -55,7 +55,7 @@ fn is_only_key(schema: &Schema) -> bool
 }
 
 impl Table {
-    /// The table without rows. It takes no memory.
+    /// The table without rows.
     pub fn new(alloc: Global, schema: Schema) -> Table
         ensures schema { result.table.schema ≡ schema }
         ensures rows { result.table.rows ≡ [] }
@@ -66,7 +66,7 @@ impl Table {
         }
     }
 
-    /// The table of rows that stand in order of the clustered key. It takes no memory.
+    /// The table of rows that stand in order of the clustered key.
     pub fn from_rows(schema: Schema, rows: Rows) -> Table
         requires { Ascends (key_places schema) rows }
         ensures schema { result.table.schema ≡ schema }
@@ -149,7 +149,7 @@ impl Table {
         })
     }
 
-    /// Gives the table another name, and answers the one that it had. It takes no memory.
+    /// Gives the table another name, and answers the one that it had.
     pub(crate) fn set_name(&mut self, name: Name) -> Name
         ensures table { self.new.table ≡ name_table name self.old.table }
         ensures spare { self.new.spare ≡ self.old.spare }
@@ -167,7 +167,7 @@ impl Table {
         self.rows.reserve(n)
     }
 
-    /// Puts a row in its place. It takes no memory.
+    /// Puts a row in its place.
     pub fn put(&mut self, row: Row)
         requires room { 0 < self.old.spare }
         requires new_key { row_at_key self.old.table (key_of (key_places self.old.table.schema) row) ≡ None }
@@ -186,7 +186,7 @@ impl Table {
         }
     }
 
-    /// Takes the row with this key out. It takes no memory.
+    /// Takes the row with this key out.
     pub fn remove(&mut self, key: &Key) -> Option<Row>
         ensures row { result ≡ row_at_key self.old.table key.now }
         ensures schema { self.new.table.schema ≡ self.old.table.schema }

@@ -28,7 +28,7 @@ impl Model for PlainTable {
 pub type PlainTables = Sequence<PlainTable>;
 
 impl PlainTable {
-    /// A table of this schema and these rows. It takes no memory.
+    /// A table of this schema and these rows.
     pub fn new(schema: Schema, rows: Rows) -> PlainTable
         ensures { result ≡ record { schema = schema; rows = rows } }
     {

@@ -28,7 +28,7 @@ pub struct AnswerAndChanges {
     pub changes: Changes,
 }
 
-/// An answer that changes nothing. It takes no memory.
+/// An answer that changes nothing.
 pub fn only(alloc: Global, answer: Answer) -> AnswerAndChanges
     ensures { as_result result ≡ only answer }
 {

@@ -25,7 +25,7 @@ pub fn hint_row(alloc: Global, attempt: u64) -> Result<Row, AllocError>
     ]?))
 }
 
-/// The attempt whose hint row this is; none where it is no hint row. It takes no memory.
+/// The attempt whose hint row this is; none where it is no hint row.
 pub fn hint_of(row: &[Value]) -> Option<u128>
     ensures { result ≡ hint_of row.now }
 {
@@ -48,7 +48,7 @@ fn hint_in(last: u128, change: &Change) -> u128
     }
 }
 
-/// The attempt of the last hint row that was written among the events, else `last`. It takes no memory.
+/// The attempt of the last hint row that was written among the events, else `last`.
 pub fn last_hint(table: &Name, last: u128, events: &[RowEvent]) -> u128
     ensures { result ≡ last_hint table.now last events.now }
 {

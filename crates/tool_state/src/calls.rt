@@ -130,7 +130,7 @@ impl<'a, V: Serve> ToolView<'a, V> {
     }
 }
 
-/// What the operator commands next; none where no command is left. It takes no memory.
+/// What the operator commands next; none where no command is left.
 pub fn commands(plan: &Plan, tool: &Tool) -> Option<Asked>
     ensures { result ≡ commands (slice_get (words_of plan.now) (tool_of tool.now).operator.taken) }
 {

@@ -36,7 +36,7 @@ pub(crate) struct Outcome {
     pub(crate) journal: Journal,
 }
 
-/// What comes where no turn is taken. It takes no memory.
+/// What comes where no turn is taken.
 pub(crate) fn untaken(alloc: Global, printed: Option<Printed>) -> Outcome
     ensures { result ≡ record { printed = printed; turns = []; journal = [] } }
 {

@@ -9,7 +9,7 @@ use run_workers::worker_run::WorkerTurn;
 use server_model::Entry;
 use top_endings::{Turn, Turns};
 
-/// Whose turns a replay's journal has, in the room that was made for them. It takes no memory.
+/// Whose turns a replay's journal has, in the room that was made for them.
 pub(crate) fn turns_in(room: Vec<Turn>, journal: &[Entry]) -> Turns
     requires empty { room.items ≡ [] }
     requires none { vec_len room ≡ 0 }
@@ -26,7 +26,7 @@ pub(crate) fn turns_in(room: Vec<Turn>, journal: &[Entry]) -> Turns
     Sequence::from_vec(turns)
 }
 
-/// Whose turns a run by workers has, in the room that was made for them. It takes no memory.
+/// Whose turns a run by workers has, in the room that was made for them.
 pub(crate) fn turns_of_workers(room: Vec<Turn>, taken: &[WorkerTurn]) -> Turns
     requires empty { room.items ≡ [] }
     requires none { vec_len room ≡ 0 }

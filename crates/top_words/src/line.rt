@@ -52,7 +52,7 @@ fn command_of(alloc: Global, words: &[String]) -> Result<Option<Command>, AllocE
 }
 
 impl Line {
-    /// No words. It takes no memory.
+    /// No words.
     pub fn new(alloc: Global) -> Line
         ensures { result ≡ [] }
     {

@@ -82,7 +82,7 @@ pub fn key_of(alloc: Global, places: &[usize], row: &[Value]) -> Result<Key, All
 }
 
 impl KeyedRows {
-    /// No rows, with their keys at these places. It takes no memory.
+    /// No rows, with their keys at these places.
     pub fn new(alloc: Global, places: Places) -> KeyedRows
         ensures places { result.places ≡ places }
         ensures rows { result.rows ≡ [] }

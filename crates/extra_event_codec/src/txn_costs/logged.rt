@@ -38,7 +38,7 @@ impl Model for LoggedTxn {
     ghost invariant = { λ t. t.events.items ≡ t.txn.events };
 }
 
-/// Adds events behind others. It takes no memory.
+/// Adds events behind others.
 fn append_events(events: &mut Vec<RowEvent>, more: Events)
     requires { length more ≤ vec_capacity events.old - vec_len events.old }
     ensures { events.new.items ≡ events.old.items ++ more }
@@ -51,7 +51,7 @@ fn append_events(events: &mut Vec<RowEvent>, more: Events)
 }
 
 impl LoggedTxn {
-    /// A transaction that wrote nothing. It takes no memory.
+    /// A transaction that wrote nothing.
     pub fn new(alloc: Global) -> LoggedTxn
         ensures events { result.txn.events ≡ [] }
         ensures tables { result.txn.tables ≡ [] }
@@ -80,8 +80,7 @@ impl LoggedTxn {
         self.txn.reserve(writes)
     }
 
-    /// Writes down what a statement writes to a table of the schema that it is known by, with its events. It takes no
-    /// memory.
+    /// Writes down what a statement writes to a table of the schema that it is known by, with its events.
     pub fn write(&mut self, writes: Writes, events: Events)
         requires events { events ≡ events_in writes }
         requires room { HasRoom self.old.txn writes }
@@ -94,8 +93,8 @@ impl LoggedTxn {
         self.txn.write(writes);
     }
 
-    /// What the events cost that its commit gives: in how many bytes they are encoded, or the greatest number where they
-    /// are more. It takes no memory.
+    /// What the events cost that its commit gives: in how many bytes they are encoded, or the greatest number where they are
+    /// more.
     pub fn cost(&self) -> u64
         requires { AllByRecursion IsEncodable self.now.txn.events }
         ensures { result ≡ cost_of self.now.txn.events }
@@ -103,7 +102,7 @@ impl LoggedTxn {
         cost(self.events.as_slice())
     }
 
-    /// How many rows its commit puts. It takes no memory.
+    /// How many rows its commit puts.
     pub fn puts(&self) -> usize
         ensures { result ≡ count_by is_put self.now.txn.events }
     {
@@ -117,7 +116,7 @@ impl LoggedTxn {
         self.events.as_slice()
     }
 
-    /// Commits the transaction: its events are done to their tables, and given. It takes no memory.
+    /// Commits the transaction: its events are done to their tables, and given.
     pub fn commit(self, tables: &mut Tables) -> Events
         requires of { IsOf (database tables.old) self.txn }
         requires room { (name : List ℕ) → puts_in name self.txn.events ≤ spare_in name tables.old }

@@ -67,14 +67,14 @@ impl ClientState {
         }
     }
 
-    /// Whether the client asks something next. It takes no memory.
+    /// Whether the client asks something next.
     pub fn is_ready(&self, script: &Script) -> bool
         ensures { (client : Reached) → IsReached script.now self.now client → result ≡ is_some (asks_so client) }
     {
         !self.is_over(script)
     }
 
-    /// Whether the client is over, by its script's end or its loss. It takes no memory.
+    /// Whether the client is over, by its script's end or its loss.
     pub fn is_over(&self, script: &Script) -> bool
         ensures over { (client : Reached) → IsReached script.now self.now client → result ≡ client_over client }
         ensures silent { (client : Reached) → IsReached script.now self.now client → result ≡ not (is_some (asks_so client)) }

@@ -77,7 +77,7 @@ fn open_turn_queue<B: SharedState + Drop>(
     }
 }
 
-/// The book of a desk whose workers have stopped, with the turns of all of them. It takes no memory.
+/// The book of a desk whose workers have stopped, with the turns of all of them.
 fn close_turn_queue<B: SharedState + Drop>(
     turn_queue: TurnQueue<B>,
     workers: Workers<B>,

@@ -34,7 +34,7 @@ pub(crate) fn workers_of<B: SharedState + Drop>(
     Ok(workers)
 }
 
-/// The passes of the workers, in the room that was made for them. It takes no memory.
+/// The passes of the workers, in the room that was made for them.
 pub(crate) fn passes_of<B: SharedState + Drop>(workers: Workers<B>, room: Passes<B>) -> Passes<B>
     requires empty { room.items ≡ [] }
     requires none { vec_len room ≡ 0 }

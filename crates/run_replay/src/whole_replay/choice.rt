@@ -11,7 +11,7 @@ use run_turns::Run;
 use server_api::Serve;
 
 /// The actor whose turn comes next: that of the first word whose actor is ready; else the first ready one of the pass, else of
-/// the next pass. It takes no memory.
+/// the next pass.
 #[tactic(auto, using(crate::proofs::WholeReplay::Choices::by_words, crate::proofs::WholeReplay::Choices::by_round, crate::proofs::WholeReplay::Choices::by_pass))]
 pub(crate) fn choose<V: Serve>(run: &Run<'_, V>, place: Place) -> Option<NextTurn>
     ensures { option_map (choice_of run.now.plan) result ≡ chosen run.now.plan run.now.journal (queue_of run.now.plan place) }

@@ -36,7 +36,7 @@ pub fn ahead_of(
     }
 }
 
-/// The range that an answer tells. It takes no memory.
+/// The range that an answer tells.
 fn range_of(answer: Answer) -> Option<KeyRange>
     ensures { result ≡ range_told answer }
 {
@@ -46,7 +46,7 @@ fn range_of(answer: Answer) -> Option<KeyRange>
     }
 }
 
-/// The range that an answer tells, where that is the one that was copied ahead. It takes no memory.
+/// The range that an answer tells, where that is the one that was copied ahead.
 pub fn range_told(ahead: Option<KeyRange>, answer: &Answer) -> Option<KeyRange>
     requires { IsTold ahead answer.now }
     ensures { result ≡ range_told answer.now }

@@ -69,7 +69,7 @@ fn next_seat<V: Serve>(
 }
 
 /// Whose turn the worker takes, where its rotation goes on from this place: its next ready actor, else the first ready one of
-/// others that doesn't wait, else the first one of others that waits. It takes no memory.
+/// others that doesn't wait, else the first one of others that waits.
 #[tactic(auto, using(crate::proofs::WorkerRun::Picking::by_first, crate::proofs::WorkerRun::Picking::by_second, crate::proofs::WorkerRun::Picking::by_third, crate::proofs::WorkerRun::Picking::by_last))]
 pub(crate) fn pick<V: Serve>(run: &Run<'_, V>, member: Member, from: usize) -> Option<Seat>
     requires some { 0 < member.workers }

@@ -120,7 +120,7 @@ impl<'a, V: Serve> Worked<'a, V> {
         }
     }
 
-    /// The run, and the worker of each of its turns. It takes no memory.
+    /// The run, and the worker of each of its turns.
     pub fn stop(self) -> (Run<'a, V>, Turns)
         ensures plan { result.0.plan ≡ self.entry.plan }
         ensures journal { result.0.journal ≡ journal_of self.entry.list }

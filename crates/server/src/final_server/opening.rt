@@ -16,7 +16,7 @@ use table_store::paged_tables::Tables;
 pub type FinalServer = Server<Store>;
 
 /// The server at its start, over tables in pages. A wait may be polled once at least. How many events are unread is known at
-/// once of the tables that are watched. It takes no memory.
+/// once of the tables that are watched.
 pub fn open_server(alloc: Global, tables: Tables, limits: Limits, watched: Names) -> FinalServer
     requires clients { 1 ≤ limits.client_wait }
     requires tools { 1 ≤ limits.tool_wait }

@@ -13,7 +13,7 @@ use server_model::Answer;
 use std::alloc::{AllocError, Global};
 use table_store::paged_tables::Tables;
 
-/// A refusal by this number. It takes no memory.
+/// A refusal by this number.
 pub fn refuses(number: u16) -> Answer
     ensures { result ≡ refuses number }
 {
@@ -66,7 +66,7 @@ pub fn keys_of_span(
     }
 }
 
-/// Whether tables of all these names stand. It takes no memory.
+/// Whether tables of all these names stand.
 pub fn all_stand(tables: &Tables, names: &[Name]) -> bool
     ensures { result ≡ all_stand names.now (database tables.now) }
 {

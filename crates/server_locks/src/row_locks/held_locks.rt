@@ -35,7 +35,7 @@ impl Model for HeldLocks {
 }
 
 impl HeldLocks {
-    /// No lock is held. It takes no memory.
+    /// No lock is held.
     pub fn new(alloc: Global) -> HeldLocks
         ensures { result ≡ [] }
     {

@@ -75,7 +75,7 @@ fn need_of(alloc: Global, request: &Request, locks: LockSet) -> Result<Need, All
 }
 
 impl Sessions {
-    /// The desk at its start, without a session. Its log watches these tables. It takes no memory.
+    /// The desk at its start, without a session. Its log watches these tables.
     pub fn new(alloc: Global, limits: Limits, watched: Names) -> Sessions
         requires clients { 1 ≤ limits.client_wait }
         requires tools { 1 ≤ limits.tool_wait }
@@ -109,7 +109,7 @@ impl Sessions {
         Ok(number)
     }
 
-    /// The session is gone, with all that it holds, and with its request that waits. It takes no memory.
+    /// The session is gone, with all that it holds, and with its request that waits.
     #[tactic(auto, unfolding(server_model::specs::Serving::loses))]
     pub fn lose(&mut self, session: u32)
         ensures { self.new ≡ loses session self.old }
@@ -135,7 +135,7 @@ impl Sessions {
         hold(self.alloc, &mut self.sessions, session, need, events)
     }
 
-    /// What the session wrote is logged, and its transaction is over. It takes no memory.
+    /// What the session wrote is logged, and its transaction is over.
     pub fn commit(&mut self, session: u32)
         ensures { self.new ≡ logs session [] self.old }
     {
@@ -155,7 +155,7 @@ impl Sessions {
         Ok(())
     }
 
-    /// The session's transaction is over, and what it wrote is forgotten. It takes no memory.
+    /// The session's transaction is over, and what it wrote is forgotten.
     pub fn forget(&mut self, session: u32)
         ensures { self.new ≡ forgets session self.old }
     {
@@ -170,7 +170,7 @@ impl Sessions {
         lock_tables(&mut self.sessions, session, names.copy()?)
     }
 
-    /// The session holds no name exclusively from now on (UNLOCK TABLES). It takes no memory.
+    /// The session holds no name exclusively from now on (UNLOCK TABLES).
     pub fn unlock(&mut self, session: u32)
         ensures { self.new ≡ record self.old { sessions = with_session session unlocking self.old.sessions } }
     {
@@ -187,7 +187,7 @@ impl Sessions {
         Ok(())
     }
 
-    /// The session's request waits no more. It takes no memory.
+    /// The session's request waits no more.
     pub fn end_wait(&mut self, session: u32)
         ensures { self.new ≡ without_waiting session self.old }
     {
@@ -205,8 +205,7 @@ impl Sessions {
         }
     }
 
-    /// The session's request was polled, and the other session still blocks it: it waits on, or its wait times out. It
-    /// takes no memory.
+    /// The session's request was polled, and the other session still blocks it: it waits on, or its wait times out.
     pub fn stay_blocked(&mut self, session: u32, by: u32) -> Answer
         ensures answer { result ≡ (polled_over (is_over self.old session) by self.old session).answer }
         ensures after { self.new ≡ (polled_over (is_over self.old session) by self.old session).after }
@@ -269,7 +268,7 @@ impl Sessions {
         }
     }
 
-    /// The least session that blocks a name which the request mentions, or one of these row locks. It takes no memory.
+    /// The least session that blocks a name which the request mentions, or one of these row locks.
     pub fn blocker(&self, session: u32, request: &Request, locks: &[Lock]) -> Option<u32>
         ensures { result ≡ blocker self.now session (record { exclusive = is_exclusive request.now; names = names_in request.now; locks = locks.now }) }
     {

@@ -111,7 +111,7 @@ fn blocker_of_pairs(
     by
 }
 
-/// The least session that refuses one of the names that the request mentions. It takes no memory.
+/// The least session that refuses one of the names that the request mentions.
 #[tactic(auto, using(crate::proofs::SessionLocks::Pairs::steps))]
 pub fn names_blocker(
     sessions: &[Session],
@@ -142,8 +142,7 @@ pub fn names_blocker(
     }
 }
 
-/// The least session that blocks one of the names that the request mentions, or one of these row locks. It takes no
-/// memory.
+/// The least session that blocks one of the names that the request mentions, or one of these row locks.
 pub fn blocker(
     sessions: &[Session],
     waiting: &[Waiting],

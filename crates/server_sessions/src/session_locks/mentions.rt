@@ -160,7 +160,7 @@ fn mentions_other(held: &HeldNames, request: &Request) -> bool
     }
 }
 
-/// Whether the session holds LOCK TABLES and the request names a table that it hasn't locked. It takes no memory.
+/// Whether the session holds LOCK TABLES and the request names a table that it hasn't locked.
 #[tactic(auto, using(crate::proofs::SessionLocks::Mentioned::beyond_locked))]
 pub fn is_outside(session: &Session, request: &Request) -> bool
     ensures { result ≡ is_outside (Some session.now) request.now }

@@ -31,7 +31,7 @@ pub fn reserve_in(txns: &mut Vec<OpenTxn>, session: u32, writes: &Writes) -> Res
     one.txn.reserve(writes)
 }
 
-/// Writes down what a statement of the session writes in its open transaction. It takes no memory.
+/// Writes down what a statement of the session writes in its open transaction.
 pub fn write_in(txns: &mut Vec<OpenTxn>, session: u32, writes: Writes)
     requires { IsSomeAnd (txn_of session txns.old.items) (λ one. Takes writes one.txn) }
     ensures { IsWritten session writes txns.old.items txns.new.items }

@@ -43,7 +43,7 @@ fn retain_others(txns: &mut Vec<OpenTxn>, session: u32)
     txns.retain(|one| one.session != session);
 }
 
-/// Takes the open transaction of a session out, to commit it or to roll it back. It takes no memory.
+/// Takes the open transaction of a session out, to commit it or to roll it back.
 pub fn take_txn(txns: &mut Vec<OpenTxn>, session: u32) -> Option<Txn>
     ensures txn { result ≡ option_map (λ one. one.txn) (txn_of session txns.old.items) }
     ensures others { txns.new.items ≡ others session txns.old.items }

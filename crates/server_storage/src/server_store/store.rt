@@ -58,7 +58,7 @@ impl Model for Store {
 }
 
 impl Store {
-    /// These tables, to which no session wrote. It takes no memory.
+    /// These tables, to which no session wrote.
     pub fn new(alloc: Global, tables: Tables) -> Store
         requires { IsWellFormedDatabase (database tables) }
         ensures committed { database result.tables ≡ database tables }

@@ -50,7 +50,7 @@ pub trait Data: Drop {
     /// They were made ready for this session, and nothing was said, written, committed, rolled back or defined since.
     ghost is_ready: { Self → ℕ → Self.Writes → Type 0 };
 
-    /// The committed tables. It takes no memory.
+    /// The committed tables.
     fn tables(&self) -> &Tables
         ensures { database result.now ≡ committed self.now };
 
@@ -89,7 +89,7 @@ pub trait Data: Drop {
         ensures written { (other : ℕ) → written self.new other ≡ written self.old other };
 
     /// Writes the events in the session's transaction, behind those that it wrote. They fit the tables as the session sees
-    /// them, and leave them tables. It takes no memory.
+    /// them, and leave them tables.
     fn write(&mut self, session: u32, writes: Self::Writes)
         requires ready { is_ready self.old session writes }
         requires fit { EventsFit (after_events (committed self.old) (written self.old session)) (events writes) }
@@ -99,7 +99,7 @@ pub trait Data: Drop {
         ensures others { (other : ℕ) → (other == session) ≡ false → written self.new other ≡ written self.old other };
 
     /// Commits what the session wrote. What each other one wrote is to fit the tables as they then are, and to leave them
-    /// tables. It takes no memory.
+    /// tables.
     fn commit(&mut self, session: u32)
         requires fit { (other : ℕ) → (other == session) ≡ false → EventsFit (after_events (committed self.old) (written self.old session)) (written self.old other) }
         requires well_formed { (other : ℕ) → (other == session) ≡ false → IsWellFormedDatabase (after_events (after_events (committed self.old) (written self.old session)) (written self.old other)) }
@@ -107,7 +107,7 @@ pub trait Data: Drop {
         ensures own { written self.new session ≡ [] }
         ensures others { (other : ℕ) → (other == session) ≡ false → written self.new other ≡ written self.old other };
 
-    /// Forgets what the session wrote. It takes no memory.
+    /// Forgets what the session wrote.
     fn roll_back(&mut self, session: u32)
         ensures committed { committed self.new ≡ committed self.old }
         ensures own { written self.new session ≡ [] }
@@ -121,7 +121,7 @@ pub trait Data: Drop {
         ensures err { OnErr result (committed self.new ≡ committed self.old) }
         ensures written { (session : ℕ) → written self.new session ≡ written self.old session };
 
-    /// Drops the table of this name, to which no open transaction wrote (DROP TABLE). It takes no memory.
+    /// Drops the table of this name, to which no open transaction wrote (DROP TABLE).
     fn drop_table(&mut self, name: &Name)
         requires { (session : ℕ) → NoneOf (name.now ∷ []) (written self.old session) }
         ensures committed { committed self.new ≡ without_table name.now (committed self.old) }

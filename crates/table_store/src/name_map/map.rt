@@ -26,7 +26,7 @@ impl<T> Model for NameMap<T> {
 }
 
 impl<T> NameMap<T> {
-    /// No values. It takes no memory.
+    /// No values.
     pub fn new(alloc: Global) -> NameMap<T>
         ensures names { result.names ≡ [] }
         ensures values { result.values ≡ [] }
@@ -106,7 +106,7 @@ impl<T: Drop> NameMap<T> {
         }
     }
 
-    /// Takes the value at this place out. It takes no memory.
+    /// Takes the value at this place out.
     pub fn take(&mut self, place: usize) -> T
         requires { place < length self.old.values }
         ensures value { slice_get self.old.values place ≡ Some result }

@@ -36,7 +36,7 @@ impl Model for Tables {
 }
 
 impl Tables {
-    /// No tables. It takes no memory.
+    /// No tables.
     pub fn new(alloc: Global) -> Tables
         ensures { result ≡ [] }
     {
@@ -117,7 +117,7 @@ impl Tables {
         Ok(())
     }
 
-    /// Takes the table of this name out. It takes no memory.
+    /// Takes the table of this name out.
     pub fn take(&mut self, name: &Name) -> Option<Table>
         ensures table { option_map stored_of result ≡ find_stored name.now self.old }
         ensures others { self.new ≡ others name.now self.old }
@@ -143,7 +143,7 @@ impl Tables {
         table.reserve(n)
     }
 
-    /// Puts a row into the table of this name, in its place. It takes no memory.
+    /// Puts a row into the table of this name, in its place.
     pub fn put_in(&mut self, name: &Name, row: Row)
         requires room { 0 < spare_in name.now self.old }
         requires new_key { IsSomeAnd (find_table name.now (database self.old)) (IsNewIn row) }
@@ -156,7 +156,7 @@ impl Tables {
         table.put(row);
     }
 
-    /// Takes the row of this key out of the table of this name. It takes no memory.
+    /// Takes the row of this key out of the table of this name.
     pub fn remove_in(&mut self, name: &Name, key: &Key) -> Option<Row>
         requires { IsSome (find_table name.now (database self.old)) }
         ensures row { result ≡ option_and_then (λ table. row_at_key table key.now) (find_table name.now (database self.old)) }

@@ -50,7 +50,7 @@ fn ends_with(inside: bool, word: &ScriptWord, mark: Mark) -> Option<TxnEnd>
 }
 
 impl<'a> Reached<'a> {
-    /// A client at its script's begin. It takes no memory.
+    /// A client at its script's begin.
     pub(crate) fn new(alloc: Global, script: &'a [ScriptLine]) -> Reached<'a>
         ensures { result ≡ new_client script.now }
     {
@@ -103,7 +103,7 @@ impl<'a> Reached<'a> {
         self.begun.checked_add(1).ok_or(AllocError)
     }
 
-    /// Its open transaction, which ended so, with the client's number. It takes no memory.
+    /// Its open transaction, which ended so, with the client's number.
     fn end(&mut self, alloc: Global, client: u32, ended: TxnEnd) -> Past
         ensures past { result ≡ record { client = client; number = self.old.begun; txn = record { lines = self.old.lines; ended = ended }; replies = self.old.replies } }
         ensures rest { self.new ≡ record self.old { lines = []; replies = [] } }
@@ -164,7 +164,7 @@ impl<'a> Reached<'a> {
         }
     }
 
-    /// Its session is lost between lines: the transaction that was open, where one was. It takes no memory.
+    /// Its session is lost between lines: the transaction that was open, where one was.
     fn broken(&mut self, alloc: Global, client: u32) -> Option<Past>
         ensures ended { ended_items result ≡ breaks client self.old (is_inside self.old.lines) }
         ensures rest { self.new ≡ client_after Broken self.old }

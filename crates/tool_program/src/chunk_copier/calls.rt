@@ -11,7 +11,7 @@ use server_model::{Entry, Request};
 use std::alloc::{AllocError, Global};
 
 impl Copier {
-    /// Whether the next call begins a chunk. It takes no memory.
+    /// Whether the next call begins a chunk.
     pub fn starts(&self) -> bool
         ensures { result ≡ starts self.now }
     {
@@ -101,7 +101,7 @@ impl Copier {
         }
     }
 
-    /// Whether there is a next call. It takes no memory.
+    /// Whether there is a next call.
     #[tactic(auto, unfolding(crate::specs::ChunkCopier::Copiers::next))]
     pub fn has_next(&self, journal: &[Entry]) -> bool
         ensures { result ≡ is_some (next journal.now self.now) }

@@ -126,7 +126,7 @@ impl CutOver {
         }
     }
 
-    /// Whether one of the three has a call next. It takes no memory.
+    /// Whether one of the three has a call next.
     #[tactic(auto, unfolding(crate::specs::CutoverCore::Attempts::next))]
     pub fn has_next(&self, role: Role) -> bool
         ensures { result ≡ is_some (next role self.now) }

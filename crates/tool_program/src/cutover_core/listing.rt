@@ -13,14 +13,14 @@ use server_model::TableNames;
 use std::alloc::{AllocError, Global};
 use tool_changelog::SENTRY_COMMENT;
 
-/// Whether the new table is listed, by the name that it has before the RENAME. It takes no memory.
+/// Whether the new table is listed, by the name that it has before the RENAME.
 pub fn lists_new_table(table: &Name, tables: &TableNames) -> bool
     ensures { result ≡ has_name (ghost_name table.now) tables.now }
 {
     tables.as_slice().iter().any(|listed| is_ghost_name(table.as_str(), listed.name.as_str()))
 }
 
-/// Whether the changelog is listed. It takes no memory.
+/// Whether the changelog is listed.
 pub fn lists_log(table: &Name, tables: &TableNames) -> bool
     ensures { result ≡ has_name (log_name table.now) tables.now }
 {
@@ -30,7 +30,7 @@ pub fn lists_log(table: &Name, tables: &TableNames) -> bool
         .any(|listed| is_log_name(table.as_str(), listed.name.as_str()))
 }
 
-/// Whether a table is listed that has the name of the sentry and of the table from before. It takes no memory.
+/// Whether a table is listed that has the name of the sentry and of the table from before.
 pub fn lists_old_table(table: &Name, tables: &TableNames) -> bool
     ensures { result ≡ has_name (old_name table.now) tables.now }
 {
@@ -40,7 +40,7 @@ pub fn lists_old_table(table: &Name, tables: &TableNames) -> bool
         .any(|listed| is_old_name(table.as_str(), listed.name.as_str()))
 }
 
-/// Whether the sentry is listed, and no other table of its name. It takes no memory.
+/// Whether the sentry is listed, and no other table of its name.
 #[tactic(auto, unfolding(tool_changelog::specs::ToolTables::sentry_comment))]
 pub(crate) fn lists_sentry(table: &Name, tables: &TableNames) -> bool
     ensures { result ≡ has_sentry table.now tables.now }

@@ -14,7 +14,7 @@ use server_model::{Entry, Request};
 use std::alloc::{AllocError, Global};
 
 impl Applier {
-    /// Whether the next call reads events. It takes no memory.
+    /// Whether the next call reads events.
     pub fn starts(&self) -> bool
         ensures { result ≡ starts self.now }
     {

@@ -21,7 +21,7 @@ impl Model for Tries {
 }
 
 impl Tries {
-    /// No try has failed. It takes no memory.
+    /// No try has failed.
     pub fn new(alloc: Global) -> Tries
         ensures { result.turns ≡ [] }
     {
@@ -67,7 +67,7 @@ impl Tries {
         self.turns.reserve(more)
     }
 
-    /// One more failed. It takes no memory.
+    /// One more failed.
     pub fn add(&mut self, turn: u64)
         requires { length self.old.turns < self.old.room }
         ensures turns { self.new.turns ≡ self.old.turns ++ turn ∷ [] }
@@ -76,7 +76,7 @@ impl Tries {
         self.turns.push_reserved(turn);
     }
 
-    /// The task is done: none of the next task has failed. It takes no memory.
+    /// The task is done: none of the next task has failed.
     pub fn clear(&mut self)
         ensures turns { self.new.turns ≡ [] }
         ensures room { self.new.room ≡ self.old.room }
@@ -84,7 +84,7 @@ impl Tries {
         self.turns.clear();
     }
 
-    /// The same turns as the other's. It takes no memory.
+    /// The same turns as the other's.
     pub fn copy_from(&mut self, other: &Tries)
         requires { length other.now.turns ≤ self.old.room }
         ensures turns { self.new.turns ≡ other.now.turns }

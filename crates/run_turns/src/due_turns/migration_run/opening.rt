@@ -35,7 +35,7 @@ pub fn open_session<V: Serve>(
     }
 }
 
-/// Loses a session that was opened for a turn, since there is no memory for its call. It takes no memory.
+/// Loses a session that was opened for a turn, since there is no memory for its call.
 #[tactic(auto, using(crate::proofs::DueTurns::MigrationRun::Connecting::closes, crate::proofs::DueTurns::MigrationRun::Connecting::may_lose))]
 pub fn close_session<V: Serve>(server: &mut V, session: u32)
     requires { is_live (V.state server.old) session ≡ true }

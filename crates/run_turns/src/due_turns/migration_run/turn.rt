@@ -30,7 +30,7 @@ impl Drop for Turn {
 }
 
 impl Turn {
-    /// What is asked. It takes no memory.
+    /// What is asked.
     pub fn into_asked(self) -> Asked
         ensures { result ≡ self.asked }
     {
@@ -42,7 +42,7 @@ impl Turn {
         asked
     }
 
-    /// Whether the session is lost in the turn, in a call or between calls. It takes no memory.
+    /// Whether the session is lost in the turn, in a call or between calls.
     pub fn is_lost(&self) -> bool
         ensures { result ≡ is_lost_in self.now.side self.now.asked }
     {

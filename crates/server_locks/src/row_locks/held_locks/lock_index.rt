@@ -31,7 +31,7 @@ fn conflicts_at(locks: &[Lock], place: usize, lock: &Lock) -> bool
 }
 
 impl LockIndex {
-    /// The index of no locks. It takes no memory.
+    /// The index of no locks.
     pub fn new(alloc: Global) -> LockIndex
         ensures points { result.points.pages ≡ [] }
         ensures wide { result.wide.items ≡ [] }
@@ -56,7 +56,7 @@ impl LockIndex {
         self.wide.reserve(more)
     }
 
-    /// Puts the place of a lock on one key where it belongs. It takes no memory.
+    /// Puts the place of a lock on one key where it belongs.
     fn add_point(&mut self, locks: &[Lock], place: usize)
         requires indexed { IsIndexed locks.now place (flat self.old.points.pages) self.old.wide.items }
         requires within { place < length locks.now }
@@ -70,7 +70,7 @@ impl LockIndex {
         self.points.insert(at, place);
     }
 
-    /// Puts the place of another lock behind those of the others. It takes no memory.
+    /// Puts the place of another lock behind those of the others.
     fn add_wide(&mut self, locks: &[Lock], place: usize)
         requires indexed { IsIndexed locks.now place (flat self.old.points.pages) self.old.wide.items }
         requires within { place < length locks.now }
@@ -82,7 +82,7 @@ impl LockIndex {
         self.wide.push_reserved(place);
     }
 
-    /// Puts the place of a lock where it belongs. It takes no memory.
+    /// Puts the place of a lock where it belongs.
     fn add(&mut self, locks: &[Lock], place: usize)
         requires indexed { IsIndexed locks.now place (flat self.old.points.pages) self.old.wide.items }
         requires within { place < length locks.now }
@@ -97,7 +97,7 @@ impl LockIndex {
         }
     }
 
-    /// Puts the places from this one on where they belong. It takes no memory.
+    /// Puts the places from this one on where they belong.
     pub fn add_from(&mut self, locks: &[Lock], first: usize)
         requires indexed { IsIndexed locks.now first (flat self.old.points.pages) self.old.wide.items }
         requires within { first ≤ length locks.now }

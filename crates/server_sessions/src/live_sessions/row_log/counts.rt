@@ -31,7 +31,7 @@ impl Model for Counts {
 }
 
 impl Counts {
-    /// The counts of a log without events. It takes no memory.
+    /// The counts of a log without events.
     #[tactic(auto, using(crate::proofs::LiveSessions::RowLog::WatchedCounts::steps))]
     pub(crate) fn new(alloc: Global, watched: Names) -> Counts
         ensures counted { IsCounted [] result }
@@ -54,7 +54,7 @@ impl Counts {
         self.before.reserve(n)
     }
 
-    /// Counts one event more. It takes no memory.
+    /// Counts one event more.
     #[tactic(auto, using(crate::proofs::LiveSessions::RowLog::WatchedCounts::steps))]
     pub(crate) fn add(&mut self, event: &RowEvent)
         requires { 1 ≤ self.old.spare }

@@ -32,7 +32,7 @@ impl Model for Log {
     ghost invariant = { λ log. IsCounted log.events.items log.counts };
 }
 
-/// Counts events behind others. It takes no memory.
+/// Counts events behind others.
 fn count_all(counts: &mut Counts, more: &[RowEvent])
     requires { length more.now ≤ counts.old.spare }
     ensures counted { (events : List Event) → IsCounted events counts.old → IsCounted (events ++ more.now) counts.new }
@@ -44,7 +44,7 @@ fn count_all(counts: &mut Counts, more: &[RowEvent])
 }
 
 impl Log {
-    /// The log before the first commit, which watches these tables. It takes no memory.
+    /// The log before the first commit, which watches these tables.
     pub fn new(alloc: Global, watched: Names) -> Log
         ensures { result.events ≡ [] }
     {
@@ -54,7 +54,7 @@ impl Log {
         }
     }
 
-    /// How many events it has. It takes no memory.
+    /// How many events it has.
     pub fn end(&self) -> u64
         ensures { result ≡ length self.now.events }
     {
@@ -71,7 +71,7 @@ impl Log {
         self.counts.reserve(n)
     }
 
-    /// Adds the events of a committed transaction behind all others. It takes no memory.
+    /// Adds the events of a committed transaction behind all others.
     pub fn append(&mut self, events: Events)
         requires { length events ≤ self.old.spare }
         ensures events { self.new.events ≡ self.old.events ++ events }

@@ -117,7 +117,7 @@ fn add(rows: &Slab<Row>, clustered: &[usize], index: &mut KeyIndex, entry: usize
     index.entries.insert(place, entry);
 }
 
-/// Puts an entry in its place in each index. It takes no memory.
+/// Puts an entry in its place in each index.
 pub fn add_all(rows: &Slab<Row>, clustered: &[usize], indexes: &mut Vec<KeyIndex>, entry: usize)
     requires { AllByRecursion (IsReady rows.now clustered.now) indexes.old.items }
     ensures { AllZip (IsAdded rows.now clustered.now entry) indexes.old.items indexes.new.items }
@@ -140,7 +140,7 @@ fn take(rows: &Slab<Row>, clustered: &[usize], index: &mut KeyIndex, entry: usiz
     index.entries.remove(place);
 }
 
-/// Takes an entry out of its place in each index. It takes no memory.
+/// Takes an entry out of its place in each index.
 pub fn take_all(rows: &Slab<Row>, clustered: &[usize], indexes: &mut Vec<KeyIndex>, entry: usize)
     requires { AllByRecursion (IsHolding rows.now clustered.now entry) indexes.old.items }
     ensures { AllZip (IsTaken rows.now clustered.now entry) indexes.old.items indexes.new.items }

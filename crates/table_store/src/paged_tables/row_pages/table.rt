@@ -65,7 +65,7 @@ impl Model for Table {
 }
 
 impl Table {
-    /// The table without rows. It takes no memory.
+    /// The table without rows.
     pub fn new(alloc: Global, schema: Schema) -> Table
         ensures schema { result.table.schema ≡ schema }
         ensures rows { result.table.rows ≡ [] }
@@ -180,7 +180,7 @@ impl Table {
         SpanRows::new(&self.rows, entries)
     }
 
-    /// Gives the table another name, and answers the one that it had. It takes no memory.
+    /// Gives the table another name, and answers the one that it had.
     pub fn set_name(&mut self, name: Name) -> Name
         ensures table { self.new.table ≡ name_table name self.old.table }
         ensures pages { self.new.pages ≡ self.old.pages }
@@ -230,7 +230,7 @@ impl Table {
         self.rows.reserve(n)
     }
 
-    /// Puts a row in its place. It takes no memory.
+    /// Puts a row in its place.
     pub fn put(&mut self, row: Row)
         requires room { 0 < self.old.spare }
         requires new_key { row_at_key self.old.table (key_of (key_places self.old.table.schema) row) ≡ None }
@@ -246,7 +246,7 @@ impl Table {
         self.order.insert(place, entry);
     }
 
-    /// Takes the row with this key out. It takes no memory.
+    /// Takes the row with this key out.
     pub fn remove(&mut self, key: &Key) -> Option<Row>
         ensures row { result ≡ row_at_key self.old.table key.now }
         ensures schema { self.new.table.schema ≡ self.old.table.schema }
