@@ -16,6 +16,7 @@ pub enum ScriptWord {
     Do(Statement),
 }
 
+// By hand, so that crates above prove it as one call.
 impl Drop for ScriptWord {
     fn drop(self) {
         match self {
@@ -44,6 +45,7 @@ pub struct ScriptLine {
     pub word: ScriptWord,
 }
 
+// By hand, so that crates above prove it as one call.
 impl Drop for ScriptLine {
     fn drop(self) {
         let ScriptLine { word, line: _ } = self;

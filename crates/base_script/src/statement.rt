@@ -69,6 +69,7 @@ pub struct Set {
     pub value: Value,
 }
 
+// By hand, so that crates above prove it as one call.
 impl Drop for Set {
     fn drop(self) {
         let Set { column, value } = self;
@@ -90,6 +91,7 @@ pub struct Comparison {
     pub value: Value,
 }
 
+// By hand, so that crates above prove it as one call.
 impl Drop for Comparison {
     fn drop(self) {
         let Comparison {
@@ -129,6 +131,7 @@ pub enum Shown {
     Count,
 }
 
+// By hand, so that crates above prove it as one call.
 impl Drop for Statement {
     fn drop(self) {
         match self {

@@ -15,6 +15,7 @@ pub struct Name {
     text: String,
 }
 
+// By hand, so that crates above prove it as one call.
 impl Drop for Name {
     fn drop(self) {
         let Name { text } = self;

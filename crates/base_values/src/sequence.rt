@@ -18,6 +18,7 @@ pub struct Sequence<T> {
     items: Vec<T>,
 }
 
+// By hand, so that crates above prove it as one call.
 impl<T: Drop> Drop for Sequence<T> {
     fn drop(self) {
         let Sequence { items } = self;

@@ -16,6 +16,7 @@ pub struct Chars {
     text: String,
 }
 
+// By hand, so that crates above prove it as one call.
 impl Drop for Chars {
     fn drop(self) {
         let Chars { text } = self;
@@ -77,6 +78,7 @@ pub struct Text {
     text: String,
 }
 
+// By hand, so that crates above prove it as one call.
 impl Drop for Text {
     fn drop(self) {
         let Text { text } = self;

@@ -22,6 +22,7 @@ pub enum Value {
     Blob(Bytes),
 }
 
+// By hand, so that crates above prove it as one call.
 impl Drop for Value {
     fn drop(self) {
         match self {

@@ -9,10 +9,10 @@ use crate::fault::{PlanFault, PlanRefusal};
 use crate::limits::{OPEN_SELECT_LIMIT, STATEMENT_LIMIT};
 use base_script::{Condition, Script, ScriptLine, ScriptWord, Shown, Statement};
 use base_values::tool_names::{ghost_name, log_name, old_name};
-use base_values::{Name, Names, Sequence};
+use base_values::{Name, Names, Sequence, because};
 use plan_data::Scripts;
 use plan_keys::KeyRefusal;
-use sql_statement::{ScriptFault, read_script};
+use sql_statement::read_script;
 use std::alloc::{AllocError, Global};
 
 #[tactic(auto, unfolding(crate::specs::Clients::is_statement))]
@@ -147,13 +147,10 @@ fn few_statements(scripts: Scripts) -> Result<Scripts, PlanFault>
 fn script_of(alloc: Global, tools: &[Name], client: u32, text: &str) -> Result<Script, PlanFault>
     ensures { Answers (λ script. script) result (client_script tools.now client text.now) }
 {
-    match read_script(alloc, text, tools) {
-        Ok(script) => Ok(script),
-        Err(ScriptFault::Refused(refusal)) => {
-            Err(PlanFault::Refused(PlanRefusal::Script { client, refusal }))
-        }
-        Err(ScriptFault::Memory) => Err(PlanFault::Memory),
-    }
+    because(
+        read_script(alloc, text, tools),
+        |refusal| PlanRefusal::Script { client, refusal },
+    )
 }
 
 fn scripts_of(alloc: Global, tools: &[Name], texts: &[&str]) -> Result<Scripts, PlanFault>

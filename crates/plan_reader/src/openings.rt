@@ -14,15 +14,15 @@ ghost use Rattle.plan_reader.specs.Refusals.{of_tables, of_alter};
 ghost use Rattle.base_values.specs.Faults.{Answers};
 
 use crate::fault::{PlanFault, PlanRefusal};
-use crate::plan_tables::{TableFault, read_tables};
-use base_values::Name;
+use crate::plan_tables::read_tables;
 use base_values::gho_schema::Schema;
 use base_values::row_conversion::Clauses;
 use base_values::tool_names::{ghost_name, old_name};
+use base_values::{Name, because};
 use plan_data::{AlteredSchema, Options};
 use plan_keys::PlanKeys;
 use sql_alter::read_alter;
-use sql_change::{AlterFault, altered};
+use sql_change::altered;
 use std::alloc::{AllocError, Global};
 use table_store::{Table, Tables};
 use tool_changelog::SENTRY_COMMENT;
@@ -44,11 +44,8 @@ fn tables_of(alloc: Global, keys: &PlanKeys<'_>) -> Result<Tables, PlanFault>
     ensures tables { Answers database result (of_tables (tables_of keys.now.texts.table.now (map table_data keys.now.texts.tables.items))) }
     ensures sound { IfOk result (λ tables. AllByRecursion IsSound (database tables)) }
 {
-    match read_tables(alloc, keys.texts.table, keys.texts.tables.as_slice()) {
-        Ok(tables) => Ok(tables),
-        Err(TableFault::Refused(refusal)) => Err(PlanFault::Refused(PlanRefusal::Tables(refusal))),
-        Err(TableFault::Memory) => Err(PlanFault::Memory),
-    }
+    let tables = read_tables(alloc, keys.texts.table, keys.texts.tables.as_slice());
+    because(tables, PlanRefusal::Tables)
 }
 
 /// The table to migrate.
@@ -120,11 +117,7 @@ fn without_leftovers(
 fn clauses_of(alloc: Global, migrated: &Name, text: &str) -> Result<Clauses, PlanFault>
     ensures { Answers (λ clauses. clauses) result (of_alter (alter_at migrated.now text.now)) }
 {
-    match read_alter(alloc, text, migrated) {
-        Ok(clauses) => Ok(clauses),
-        Err(AlterFault::Refused(code)) => Err(PlanFault::Refused(PlanRefusal::Alter(code))),
-        Err(AlterFault::Memory) => Err(PlanFault::Memory),
-    }
+    because(read_alter(alloc, text, migrated), PlanRefusal::Alter)
 }
 
 /// What the clauses make of a schema.
@@ -137,11 +130,9 @@ fn altered_of(
     requires { IsValid schema.now }
     ensures { Answers (λ new. (new.schema, new.map)) result (of_alter (altered options.approve_renamed_columns schema.now clauses.now)) }
 {
-    match altered(alloc, schema, clauses, options.approve_renamed_columns) {
-        Ok((schema, map)) => Ok(AlteredSchema { schema, map }),
-        Err(AlterFault::Refused(code)) => Err(PlanFault::Refused(PlanRefusal::Alter(code))),
-        Err(AlterFault::Memory) => Err(PlanFault::Memory),
-    }
+    let new = altered(alloc, schema, clauses, options.approve_renamed_columns);
+    let (schema, map) = because(new, PlanRefusal::Alter)?;
+    Ok(AlteredSchema { schema, map })
 }
 
 /// The opening of a plan. That schemas which are read are lawful is a law: `law_texts::schema_laws` proves it.

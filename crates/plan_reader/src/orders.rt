@@ -12,11 +12,11 @@ ghost use Rattle.base_values.specs.Faults.{Answers};
 use crate::fault::{PlanFault, PlanRefusal};
 use crate::limits::{COMMAND_LIMIT, ORDER_LIMIT};
 use base_script::{Commands, Loss};
-use base_values::Sequence;
+use base_values::{Sequence, because};
 use plan_data::{ActorRuns, Losses};
 use plan_keys::{KeyRefusal, PlanKeys, PlanTexts};
-use plan_orders::turn_order::{TurnFault, has_more_turns, read_turns};
-use plan_orders::{OrderFault, has_more_commands, read_fault, read_operator};
+use plan_orders::turn_order::{has_more_turns, read_turns};
+use plan_orders::{has_more_commands, read_fault, read_operator};
 use std::alloc::{AllocError, Global};
 
 /// What is ordered beside the clients' scripts.
@@ -55,26 +55,17 @@ pub fn few_orders<'a>(alloc: Global, keys: PlanKeys<'a>) -> Result<PlanKeys<'a>,
 fn operator_of(alloc: Global, text: &str) -> Result<Commands, PlanFault>
     ensures { Answers (λ commands. commands) result (of_operator (operator_of text.now)) }
 {
-    match read_operator(alloc, text) {
-        Ok(commands) => Ok(commands),
-        Err(OrderFault::Refused(refusal)) => {
-            Err(PlanFault::Refused(PlanRefusal::Operator(refusal)))
-        }
-        Err(OrderFault::Memory) => Err(PlanFault::Memory),
-    }
+    because(read_operator(alloc, text), PlanRefusal::Operator)
 }
 
 /// The loss of this number.
 fn loss_of(alloc: Global, clients: u32, fault: u32, text: &str) -> Result<Loss, PlanFault>
     ensures { Answers (λ loss. loss) result (numbered_loss clients fault text.now) }
 {
-    match read_fault(alloc, text, clients) {
-        Ok(loss) => Ok(loss),
-        Err(OrderFault::Refused(refusal)) => {
-            Err(PlanFault::Refused(PlanRefusal::Fault { fault, refusal }))
-        }
-        Err(OrderFault::Memory) => Err(PlanFault::Memory),
-    }
+    because(
+        read_fault(alloc, text, clients),
+        |refusal| PlanRefusal::Fault { fault, refusal },
+    )
 }
 
 fn faults_of(alloc: Global, clients: u32, texts: &[&str]) -> Result<Losses, PlanFault>
@@ -93,11 +84,7 @@ fn faults_of(alloc: Global, clients: u32, texts: &[&str]) -> Result<Losses, Plan
 fn turns_of(alloc: Global, clients: u32, text: &str) -> Result<ActorRuns, PlanFault>
     ensures { Answers (λ runs. runs) result (of_turns (turns_of clients text.now)) }
 {
-    match read_turns(alloc, text, clients) {
-        Ok(runs) => Ok(runs),
-        Err(TurnFault::Refused(refusal)) => Err(PlanFault::Refused(PlanRefusal::Turn(refusal))),
-        Err(TurnFault::Memory) => Err(PlanFault::Memory),
-    }
+    because(read_turns(alloc, text, clients), PlanRefusal::Turn)
 }
 
 /// The orders of a plan with so many clients.

@@ -21,9 +21,9 @@ use crate::fault::{PlanFault, PlanRefusal};
 use crate::limits::PLAN_LIMIT;
 use crate::openings::opening_of;
 use crate::orders::{few_orders, orders_of};
-use base_values::Name;
+use base_values::{Name, because};
 use plan_data::{Plan, PlanParts};
-use plan_keys::{KeyFault, PlanKeys, keys_of};
+use plan_keys::{PlanKeys, keys_of};
 use std::alloc::Global;
 use toml::Table;
 
@@ -32,11 +32,7 @@ fn said_keys<'a>(alloc: Global, document: &'a Table) -> Result<PlanKeys<'a>, Pla
     ensures keys { Answers key_data result (of_keys (keys_of (table_view document.now))) }
     ensures few { IfOk result (λ keys. length keys.texts.clients.items ≤ CLIENT_LIMIT) }
 {
-    match keys_of(alloc, document) {
-        Ok(keys) => Ok(keys),
-        Err(KeyFault::Refused(refusal)) => Err(PlanFault::Refused(PlanRefusal::Keys(refusal))),
-        Err(KeyFault::Memory) => Err(PlanFault::Memory),
-    }
+    because(keys_of(alloc, document), PlanRefusal::Keys)
 }
 
 /// What the keys say, and how many of each there are.

@@ -61,6 +61,7 @@ pub struct Journal {
     entries: Sequence<Entry>,
 }
 
+// By hand, so that crates above prove it as one call.
 impl Drop for Journal {
     fn drop(self) {
         let Journal { entries } = self;

@@ -13,6 +13,7 @@ pub struct TableName {
     pub comment: Chars,
 }
 
+// By hand, so that crates above prove it as one call.
 impl Drop for TableName {
     fn drop(self) {
         let TableName { name, comment } = self;
@@ -34,6 +35,7 @@ pub struct ShownWaiter {
     pub by: u32,
 }
 
+// By hand, so that crates above prove it as one call.
 impl Drop for ShownWaiter {
     fn drop(self) {
         let ShownWaiter {

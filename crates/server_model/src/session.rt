@@ -41,6 +41,7 @@ pub struct Session {
     pub polls: u32,
 }
 
+// By hand, so that crates above prove it as one call.
 impl Drop for Session {
     fn drop(self) {
         let Session {

@@ -20,6 +20,7 @@ pub struct KeySet {
     table: Table,
 }
 
+// By hand, so that crates above prove it as one call.
 impl Drop for KeySet {
     fn drop(self) {
         let KeySet { table } = self;

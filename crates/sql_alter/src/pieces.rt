@@ -8,42 +8,33 @@ ghost use Rattle.sql_grammar.specs.Pieces.{keyword_at, name_at};
 ghost use Rattle.base_values.specs.Faults.{Answers};
 ghost use Rattle.sql_alter.specs.Pieces.{in_alter, after_column, is_index_word, is_out_of_scope};
 
-use base_values::{Kind, Name};
+use base_values::{Kind, Name, because};
 use sql_change::{AlterCode, AlterFault};
-use sql_grammar::{Attribute, KeyText, SchemaFault, Token, after_keyword};
+use sql_grammar::{Attribute, KeyText, Token, after_keyword};
 use std::alloc::Global;
 
 /// What stands behind this keyword, which has to be the first word.
 pub fn keyword_at<'a>(keyword: &str, words: &'a [Token]) -> Result<&'a [Token], AlterFault>
     ensures { Answers (λ rest. rest.now) result (in_alter (keyword_at keyword.now words.now)) }
 {
-    match sql_grammar::keyword_at(keyword, words) {
-        Ok(rest) => Ok(rest),
-        Err(SchemaFault::Refused(_)) => Err(AlterFault::Refused(AlterCode::Syntax)),
-        Err(SchemaFault::Memory) => Err(AlterFault::Memory),
-    }
+    because(
+        sql_grammar::keyword_at(keyword, words),
+        |_| AlterCode::Syntax,
+    )
 }
 
 /// The name at the front, and what stands behind it.
 pub fn name_at(alloc: Global, words: &[Token]) -> Result<(Name, &[Token]), AlterFault>
     ensures { Answers (λ name. (name.0, name.1.now)) result (in_alter (name_at words.now)) }
 {
-    match sql_grammar::name_at(alloc, words) {
-        Ok(read) => Ok(read),
-        Err(SchemaFault::Refused(_)) => Err(AlterFault::Refused(AlterCode::Syntax)),
-        Err(SchemaFault::Memory) => Err(AlterFault::Memory),
-    }
+    because(sql_grammar::name_at(alloc, words), |_| AlterCode::Syntax)
 }
 
 /// The kind at the front, and what stands behind it.
 pub fn kind_at(words: &[Token]) -> Result<(Kind, &[Token]), AlterFault>
     ensures { Answers (λ kind. (kind.0, kind.1.now)) result (in_alter (kind_at words.now)) }
 {
-    match sql_grammar::kind_at(words) {
-        Ok(read) => Ok(read),
-        Err(SchemaFault::Refused(_)) => Err(AlterFault::Refused(AlterCode::Syntax)),
-        Err(SchemaFault::Memory) => Err(AlterFault::Memory),
-    }
+    because(sql_grammar::kind_at(words), |_| AlterCode::Syntax)
 }
 
 /// The attribute at the front and what stands behind it; none where the first word begins none.
@@ -53,22 +44,17 @@ pub fn attribute_at(
 ) -> Result<Option<(Attribute, &[Token])>, AlterFault>
     ensures { Answers (option_map (λ read. (read.0, read.1.now))) result (in_alter (attribute_at words.now)) }
 {
-    match sql_grammar::attribute_at(alloc, words) {
-        Ok(read) => Ok(read),
-        Err(SchemaFault::Refused(_)) => Err(AlterFault::Refused(AlterCode::Syntax)),
-        Err(SchemaFault::Memory) => Err(AlterFault::Memory),
-    }
+    because(
+        sql_grammar::attribute_at(alloc, words),
+        |_| AlterCode::Syntax,
+    )
 }
 
 /// The name and the columns of an index, and what stands behind them.
 pub fn key_at(alloc: Global, words: &[Token]) -> Result<(KeyText, &[Token]), AlterFault>
     ensures { Answers (λ key. (key.0, key.1.now)) result (in_alter (key_at words.now)) }
 {
-    match sql_grammar::key_at(alloc, words) {
-        Ok(read) => Ok(read),
-        Err(SchemaFault::Refused(_)) => Err(AlterFault::Refused(AlterCode::Syntax)),
-        Err(SchemaFault::Memory) => Err(AlterFault::Memory),
-    }
+    because(sql_grammar::key_at(alloc, words), |_| AlterCode::Syntax)
 }
 
 /// What stands behind COLUMN, which may be left out.

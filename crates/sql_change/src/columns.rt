@@ -9,7 +9,7 @@ use crate::so_far::Standing;
 use base_values::gho_schema::{Column, Index, same_name};
 use base_values::row_conversion::{ColumnPosition, NewColumn};
 use base_values::schema_rules::{defaults_fit, stored_default};
-use base_values::{Duplicate, Name, StoreFault, Value};
+use base_values::{Duplicate, Name, Value, because};
 use std::alloc::Global;
 
 /// The place of the column of this name.
@@ -117,21 +117,17 @@ pub fn column_of(
 ) -> Result<Column, AlterFault>
     ensures { Answers (λ column. column) result (column_of origin written.now nullable) }
 {
-    match stored_default(alloc, written.kind, nullable, &written.default) {
-        Err(StoreFault::Refused(_)) => Err(AlterFault::Refused(AlterCode::Default)),
-        Err(StoreFault::Memory) => Err(AlterFault::Memory),
-        Ok(default) => {
-            if lacks_default(origin, nullable, &default) {
-                return Err(AlterFault::Refused(AlterCode::Default));
-            }
-            Ok(Column {
-                name: written.name.copy()?,
-                kind: written.kind,
-                nullable,
-                default,
-            })
-        }
+    let stored = stored_default(alloc, written.kind, nullable, &written.default);
+    let default = because(stored, |_| AlterCode::Default)?;
+    if lacks_default(origin, nullable, &default) {
+        return Err(AlterFault::Refused(AlterCode::Default));
     }
+    Ok(Column {
+        name: written.name.copy()?,
+        kind: written.kind,
+        nullable,
+        default,
+    })
 }
 
 /// The table, where its defaults fit together.

@@ -17,7 +17,7 @@ use base_values::schema_rules::{
     stored_default,
 };
 use base_values::tool_names::is_tool_name;
-use base_values::{Chars, Duplicate, Name, Names, Sequence, StoreFault};
+use base_values::{Chars, Duplicate, Name, Names, Sequence, because};
 use sql_grammar::{SchemaCode, SchemaFault};
 use std::alloc::{AllocError, Global};
 
@@ -155,16 +155,14 @@ fn declared_column(
 {
     let nullable = nullable_of(primaries, column);
     let written = &column.attributes.plain.default;
-    match stored_default(alloc, column.kind, nullable, written) {
-        Ok(default) => Ok(Column {
-            name: column.name.copy()?,
-            kind: column.kind,
-            nullable,
-            default,
-        }),
-        Err(StoreFault::Refused(_)) => Err(SchemaFault::Refused(SchemaCode::BadDefault)),
-        Err(StoreFault::Memory) => Err(SchemaFault::Memory),
-    }
+    let stored = stored_default(alloc, column.kind, nullable, written);
+    let default = because(stored, |_| SchemaCode::BadDefault)?;
+    Ok(Column {
+        name: column.name.copy()?,
+        kind: column.kind,
+        nullable,
+        default,
+    })
 }
 
 fn declared_columns(

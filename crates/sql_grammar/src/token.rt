@@ -14,6 +14,7 @@ pub struct Token {
     pub text: Chars,
 }
 
+// By hand, so that crates above prove it as one call.
 impl Drop for Token {
     fn drop(self) {
         let Token { text, class: _ } = self;

@@ -5,9 +5,10 @@ ghost use Rattle.sql_grammar.specs.Tokens.{text_words};
 ghost use Rattle.base_values.specs.Faults.{Answers};
 ghost use Rattle.sql_statement.specs.Lines.{asked_of, line_of, is_line, has_lines};
 
-use crate::code::{LineFault, ScriptCode, StatementFault};
+use crate::code::{LineFault, ScriptCode};
 use crate::statements::read_statement;
 use base_script::ScriptWord;
+use base_values::because;
 use sql_grammar::{TextWords, Token, text_words};
 use std::alloc::{AllocError, Global};
 
@@ -16,13 +17,7 @@ fn asked_of(alloc: Global, words: &[Token]) -> Result<Option<ScriptWord>, LineFa
 {
     match words {
         [] => Ok(None),
-        [_, ..] => match read_statement(alloc, words) {
-            Ok(asked) => Ok(Some(asked)),
-            Err(StatementFault::Refused(code)) => {
-                Err(LineFault::Refused(ScriptCode::Statement(code)))
-            }
-            Err(StatementFault::Memory) => Err(LineFault::Memory),
-        },
+        [_, ..] => Ok(Some(because(read_statement(alloc, words), ScriptCode::Statement)?)),
     }
 }
 

@@ -10,7 +10,7 @@ ghost use Rattle.sql_statement.specs.Scripts.{table_of, names_one_of, closed, op
 use crate::code::{LineFault, ScriptCode, ScriptFault, ScriptRefusal};
 use crate::lines::{has_lines, line_at};
 use base_script::{Script, ScriptLine, ScriptWord, Statement};
-use base_values::{Name, Sequence};
+use base_values::{Name, Sequence, because};
 use std::alloc::{AllocError, Global};
 
 fn table_of(statement: &Statement) -> &Name
@@ -144,14 +144,8 @@ fn numbered_line(
 ) -> Result<(Option<ScriptWord>, bool), ScriptFault>
     ensures { Answers (λ line. line) result (at_line number (fitting_line tools.now (map (λ text. text.now) texts.now) is_open text.now)) }
 {
-    match fitting_line(alloc, tools, texts, is_open, text) {
-        Ok(line) => Ok(line),
-        Err(LineFault::Refused(code)) => Err(ScriptFault::Refused(ScriptRefusal {
-            code,
-            line: number,
-        })),
-        Err(LineFault::Memory) => Err(ScriptFault::Memory),
-    }
+    let line = fitting_line(alloc, tools, texts, is_open, text);
+    because(line, |code| ScriptRefusal { code, line: number })
 }
 
 fn push_line(script: &mut Script, number: u32, asked: Option<ScriptWord>) -> Result<(), AllocError>

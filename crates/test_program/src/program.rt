@@ -16,6 +16,7 @@ pub struct Ended {
     pub journal: Journal,
 }
 
+// By hand, so that crates above prove it as one call.
 impl Drop for Ended {
     fn drop(self) {
         let Ended {

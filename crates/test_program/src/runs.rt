@@ -32,6 +32,7 @@ pub struct Ran {
     pub sink: BytesSink,
 }
 
+// By hand, so that crates above prove it as one call.
 impl Drop for Ran {
     fn drop(self) {
         let Ran {

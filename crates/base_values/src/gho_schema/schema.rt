@@ -32,6 +32,7 @@ pub struct Column {
     pub default: Option<Value>,
 }
 
+// By hand, so that crates above prove it as one call.
 impl Drop for Column {
     fn drop(self) {
         let Column {
@@ -53,6 +54,7 @@ pub struct Index {
     pub places: Places,
 }
 
+// By hand, so that crates above prove it as one call.
 impl Drop for Index {
     fn drop(self) {
         let Index { name, places } = self;
@@ -70,6 +72,7 @@ pub type Indexes = Sequence<Index>;
 /// Places of columns, from 0.
 pub type Places = Sequence<usize>;
 
+// By hand, so that crates above prove it as one call.
 impl Drop for Schema {
     fn drop(self) {
         let Schema {

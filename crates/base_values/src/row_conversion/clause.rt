@@ -40,6 +40,7 @@ pub enum Clause {
     DropIndex(Name),
 }
 
+// By hand, so that crates above prove it as one call.
 impl Drop for Clause {
     fn drop(self) {
         match self {
@@ -84,6 +85,7 @@ pub struct NewColumn {
     pub default: Option<Value>,
 }
 
+// By hand, so that crates above prove it as one call.
 impl Drop for NewColumn {
     fn drop(self) {
         let NewColumn {

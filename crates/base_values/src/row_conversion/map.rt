@@ -15,6 +15,7 @@ pub struct MapColumn {
     pub origin: Origin,
 }
 
+// By hand, so that crates above prove it as one call.
 impl Drop for MapColumn {
     fn drop(self) {
         let MapColumn {
@@ -34,6 +35,7 @@ pub enum Origin {
     Added(Value),
 }
 
+// By hand, so that crates above prove it as one call.
 impl Drop for Origin {
     fn drop(self) {
         match self {

@@ -12,11 +12,12 @@ ghost use Rattle.plan_reader.specs.PlanTables.Tables.{of_schema, newly_named, ta
 
 use crate::plan_tables::fault::{TableFault, TableRefusal};
 use crate::plan_tables::rows::read_rows;
+use base_values::because;
 use base_values::gho_schema::Schema;
 use base_values::laws::stored_values_store_again;
 use plan_keys::TableKeys;
 use sql_create::read_schema;
-use sql_grammar::{SchemaCode, SchemaFault};
+use sql_grammar::SchemaCode;
 use std::alloc::{AllocError, Global};
 use table_store::laws::put_keeps_tables;
 use table_store::paged_tables::row_pages::Table as PagedTable;
@@ -28,14 +29,13 @@ fn schema_of(alloc: Global, migrated: &str, number: u32, create: &str) -> Result
     ensures schema { Answers (λ schema. schema) result (of_schema number (schema_at migrated.now create.now)) }
     ensures valid { IfOk result IsValid }
 {
-    match read_schema(alloc, create, migrated) {
-        Ok(schema) => Ok(schema),
-        Err(SchemaFault::Refused(code)) => Err(TableFault::Refused(TableRefusal::Schema {
+    because(
+        read_schema(alloc, create, migrated),
+        |code| TableRefusal::Schema {
             code,
             table: number,
-        })),
-        Err(SchemaFault::Memory) => Err(TableFault::Memory),
-    }
+        },
+    )
 }
 
 /// The table of this number without rows, where its name didn't come before.

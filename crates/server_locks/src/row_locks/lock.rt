@@ -19,6 +19,7 @@ pub struct Lock {
     pub exclusive: bool,
 }
 
+// By hand, so that crates above prove it as one call.
 impl Drop for Lock {
     fn drop(self) {
         let Lock {

@@ -35,6 +35,7 @@ pub struct Table {
     indexes: Vec<KeyIndex>,
 }
 
+// By hand, so that crates above prove it as one call.
 impl Drop for Table {
     fn drop(self) {
         let Table {
