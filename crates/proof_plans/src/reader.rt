@@ -15,6 +15,7 @@ pub fn read_accepted_plan(alloc: Global, bytes: &[u8]) -> Result<Plan, PlanFault
     ensures was_read { IfOk result WasRead }
 {
     let plan = read_plan(alloc, bytes)?;
+    // For the prover: that the name is read as a `str` says that it is UTF-8.
     let _name = plan.table().as_str();
     Ok(plan)
 }

@@ -106,6 +106,7 @@ impl KeySet {
         ensures ascend { KeysAscend self.now.keys }
         ensures lengths { AllByRecursion (λ key. length key ≤ self.now.width) self.now.keys }
     {
+        // For the prover: `schema` says that the rows, which are the keys, are in order.
         let _schema = self.table.schema();
         self.table.rows()
     }
@@ -135,6 +136,7 @@ impl KeySet {
         ensures width { self.new.width ≡ self.old.width }
         ensures spare { self.old.spare ≤ self.new.spare + 1 }
     {
+        // For the prover: `schema` says that the rows, which are the keys, are in order.
         let _schema = self.table.schema();
         match self.table.get(&key) {
             Some(_) => {}

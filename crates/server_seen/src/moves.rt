@@ -41,6 +41,7 @@ pub fn lay_over(keys: Keys, from: &mut Table, into: &mut Table, set: &mut KeySet
     ensures keys { set.new.keys ≡ with_keys keys set.old.keys }
     ensures width { set.new.width ≡ set.old.width }
 {
+    // For the prover: `schema` says that the rows are in order of the clustered key.
     let _schema = into.schema();
     for key in keys.into_vec() {
         move_row(&key, from, into);

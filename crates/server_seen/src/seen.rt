@@ -52,6 +52,7 @@ impl<'a> SeenTable<'a> {
         ensures schema { result.now ≡ self.now.schema }
         ensures ascends { Ascends (key_places self.now.schema) self.now.rows }
     {
+        // For the prover: `schema` says that what was written is well formed (`IsWritten`).
         let _written = self.written.schema();
         self.table.schema()
     }
@@ -60,6 +61,7 @@ impl<'a> SeenTable<'a> {
     pub fn met(&self, alloc: Global, reach: &Reach) -> Result<Rows, AllocError>
         ensures { IfOk result (λ rows. rows ≡ rows_met self.now.schema reach.now self.now.rows) }
     {
+        // For the prover: both `schema` say that the rows are in order of the clustered key.
         let _schema = self.table.schema();
         let _written = self.written.schema();
         let below = rows_met(alloc, self.table, reach)?;
@@ -71,6 +73,7 @@ impl<'a> SeenTable<'a> {
     pub fn displaced(&self, alloc: Global, new: &Row) -> Result<Rows, AllocError>
         ensures { IfOk result (λ rows. rows ≡ displaced self.now.schema new.now self.now.rows) }
     {
+        // For the prover: both `schema` say that the rows are in order of the clustered key.
         let _schema = self.table.schema();
         let _written = self.written.schema();
         let below = rows_clashing(alloc, self.table, new)?;
@@ -88,6 +91,7 @@ impl<'a> SeenTable<'a> {
         requires { later.now.schema ≡ self.now.schema }
         ensures { IfOk result (λ rows. rows ≡ displaced self.now.schema new.now (seen (key_places self.now.schema) later.now.written self.now.rows)) }
     {
+        // For the prover: both `schema` say that the rows are in order of the clustered key.
         let _schema = self.schema();
         let _later = later.schema();
         let below = self.displaced(alloc, new)?;

@@ -208,6 +208,7 @@ impl WrittenRows {
             mut rows,
             keys: touched,
         } = later;
+        // For the prover: `keys` says that the keys ascend, and how long each is.
         let _keys = touched.keys();
         lay_over(keys, &mut rows, &mut self.rows, &mut self.keys);
     }

@@ -15,7 +15,8 @@ use crate::keyed::KeyedEvent;
 use base_values::{Change, Key, Name, Row, RowEvent};
 use table_store::paged_tables::Tables;
 
-/// The tables' names differ, and the rows of the one of this name stand in order.
+/// Only for the prover: the tables' names differ (which `len` says), and the rows of the one of this name are in order (which
+/// `schema` says).
 fn look_at(tables: &Tables, name: &Name)
     ensures differ { NamesDiffer (database tables.now) }
     ensures ascends { WhereFound (λ table. Ascends (key_places table.schema) table.rows) (find_table name.now (database tables.now)) }

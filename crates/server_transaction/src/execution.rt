@@ -142,6 +142,7 @@ pub fn say(
     let Some(table) = tables.find(name) else {
         return Ok(missing(alloc));
     };
+    // For the prover: `schema` says that the rows are in order of the clustered key.
     let _schema = table.schema();
     match txn.written_to(name) {
         Some(written) => say_of(alloc, table, written, statement),
@@ -166,6 +167,7 @@ pub fn statement_needs(
     let Some(table) = tables.find(name) else {
         return Ok(Sequence::new(alloc));
     };
+    // For the prover: `schema` says that the rows are in order of the clustered key.
     let _schema = table.schema();
     match txn.written_to(name) {
         Some(written) => needs_of(alloc, table, written, statement),

@@ -66,6 +66,7 @@ pub(crate) fn actor_at<V: Serve>(run: &Run<'_, V>, place: usize) -> Actor
     requires { place < length (actors run.now.plan) }
     ensures { slice_get (actors run.now.plan) place ≡ Some result }
 {
+    // For the prover: `clients` says that the clients are few, so their numbers fit a u32.
     let _few = run.plan().clients();
     match tool_actor(place) {
         Some(actor) => actor,

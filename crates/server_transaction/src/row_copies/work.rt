@@ -131,6 +131,7 @@ pub fn work_of_copy(
     let Some(table) = tables.find(from) else {
         return Ok(Work::Refuse(refuses(1146)));
     };
+    // For the prover: `schema` says that the rows are in order of the clustered key.
     let _schema = table.schema();
     match txn.written_to(from) {
         Some(written) => work_from(alloc, table, written, map, key, into),

@@ -49,7 +49,7 @@ impl Tables {
     pub fn from_plain(alloc: Global, tables: &PlainTables) -> Result<Tables, AllocError>
         ensures { IfOk result (λ paged. database paged ≡ database tables.now) }
     {
-        // That names differ is what `len` says of all tables.
+        // For the prover: `len` says that the tables' names differ.
         let _count = tables.len();
         Ok(Tables {
             tables: paged_tables(alloc, tables)?,

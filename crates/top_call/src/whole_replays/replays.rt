@@ -73,6 +73,7 @@ pub fn replay_plan<V: Serve>(alloc: Global, plan: &Plan, server: V) -> Result<Le
     let mut run = Run::open(alloc, plan, server)?;
     let replayed = replay(&mut run);
     let verdict = verdict_after(&run, replayed);
+    // For the prover: `journal` says that each turn is in its actor's session.
     let _in_sessions = run.journal();
     let (server, journal) = run.stop();
     Ok(Left {
