@@ -1,4 +1,4 @@
-//! What is told of a worker's turns.
+//! Who is told of a worker's turns.
 
 /// Is told when a worker asks for a turn and when it has had it, always between turns, so that a test can order the workers.
 pub trait Gate {

@@ -1,5 +1,5 @@
-//! The outside of the program, as traits: where bytes come from, where they go, and what is told of a worker's turns; and
-//! texts that are read and given as a whole.
+//! The outside of the program, as traits: where bytes come from, where they go, and who is told of a worker's turns; and texts
+//! that are read and given as a whole.
 #![tactic(auto)]
 
 mod counts;

@@ -36,13 +36,13 @@ StoresWhatFits =
 abbrev pub StoresNullWhereNullable : Type 0
 StoresNullWhereNullable = (value : Value) (kind : Kind) (nullable : Bool) → stores value kind nullable ≡ Ok Null → (value ≡ Null) × (nullable ≡ true)
 
--- What is stored and no null, and what is sought, is of the column's kind.
+-- What is stored and no null, and what is wanted, is of the column's kind.
 abbrev pub KeepsKind : Type 0
 KeepsKind =
     ((value : Value) (kind : Kind) (nullable : Bool) (stored : Value) → stores value kind nullable ≡ Ok stored → stored ≢ Null → IsOfKind stored kind)
     × ((value : Value) (kind : Kind) (sought : Value) → seeks value kind ≡ Ok sought → IsOfKind sought kind)
 
--- Where a value is stored and no null, the same value is sought.
+-- Where a value is stored and no null, the same value is wanted.
 abbrev pub SeeksWhatIsStored : Type 0
 SeeksWhatIsStored = (value : Value) (kind : Kind) (nullable : Bool) (stored : Value) → stores value kind nullable ≡ Ok stored → stored ≢ Null → seeks value kind ≡ Ok stored
 

@@ -27,12 +27,12 @@ pub fn nulls_are_stored_where_nullable()
     ensures { StoresNullWhereNullable }
 {}
 
-/// What is stored and no null, and what is sought, is of the column's kind.
+/// What is stored and no null, and what is wanted, is of the column's kind.
 pub fn columns_keep_their_kind()
     ensures { KeepsKind }
 {}
 
-/// Where a value is stored and no null, the same value is sought.
+/// Where a value is stored and no null, the same value is wanted.
 pub fn stored_values_are_wanted()
     ensures { SeeksWhatIsStored }
 {}

@@ -10,8 +10,8 @@ abbrev pub is_number : List ℕ → Bool
 is_number [] = false
 is_number (digit ∷ digits) = not (digit == 48) && list_all is_ascii_digit (digit ∷ digits)
 
--- The number that a word is. (Numbers past 32 bits aren't told apart: each stands for the greatest of 32 bits, which is
--- out of every range.)
+-- The number that a word is. (Numbers past 32 bits are taken for one: each stands for the greatest of 32 bits, which is out of
+-- every range.)
 abbrev pub number_of : List ℕ → Option ℕ
 number_of word = if is_number word then Some (min (digits_value 10 word) (2 ^ 32 - 1)) else None
 

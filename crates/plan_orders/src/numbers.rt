@@ -35,7 +35,7 @@ fn value_of(digits: &[u8]) -> u32
     value
 }
 
-/// The number that a word is. Numbers past 32 bits aren't told apart.
+/// The number that a word is. Numbers past 32 bits are taken for one.
 pub fn number_of(word: &[u8]) -> Option<u32>
     ensures { result ≡ number_of word.now }
 {

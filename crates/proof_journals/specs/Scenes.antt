@@ -138,11 +138,12 @@ pub record IsSteady (tables : Database) (hold : SessionHold) (going : Going) : T
   pub stable : Stable hold.names hold.locks going.lines (record { replies = going.replies; writes = hold.writes }) tables
   pub covered : EventsCovered hold.names hold.locks tables hold.writes
 
--- *Safe*: on every orderly database that agrees, what was written leaves an orderly one.
+-- *Safe*: on every well-formed database that agrees, what was written leaves a well-formed one.
 pub record IsSafe (names : List (List ℕ)) (locks : List Lock) (writes : List RowEvent) (tables : Database) : Type 0 where
   pub each : (other : Database) → IsWellFormedDatabase other → Agree names locks tables other → IsWellFormedDatabase (after_events other writes)
 
--- what lasts of an open transaction: of a client's, that its lines run so; of the tool's, that its writes leave an orderly database
+-- what lasts of an open transaction: of a client's, that its lines run so; of the tool's, that its writes leave a well-formed
+-- database
 abbrev pub IsLasting : Bool → Database → SessionHold → Going → Type 0
 IsLasting true tables hold going = Stable hold.names hold.locks going.lines (record { replies = going.replies; writes = hold.writes }) tables
 IsLasting false tables hold going = IsSafe hold.names hold.locks hold.writes tables

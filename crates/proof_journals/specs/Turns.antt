@@ -276,7 +276,7 @@ AtRest busy (Some (Drop name)) = busy ≡ false
 AtRest busy (Some (Rename pairs)) = busy ≡ false
 AtRest busy asks = Unit {0}
 
--- what is told of a turn; only where the request was done the RENAME counts
+-- what is seen of a turn; only where the request was done the RENAME counts
 abbrev pub DefinesSo : Scene → Bool → Database → Option Request → Option Answer → Type 0
 DefinesSo scene busy tables asks told = AtRest busy asks × (told ≡ Some ok → RenamesSo scene tables asks)
 

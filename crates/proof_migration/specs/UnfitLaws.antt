@@ -1,2 +1,2 @@
--- That a row without an image, as a verdict names it, stands: each function's contract is a law.
+-- That a row that can't be converted, as a verdict names it, stands: each function's contract is a law.
 pub mod Laws

@@ -1,4 +1,4 @@
-//! The seat of an actor. Nothing here takes memory.
+//! The state of an actor. Nothing here takes memory.
 
 ghost use Rattle.std.specs.Prelude.{◌≡◌, ◌<◌, ◌^◌, map};
 ghost use Rattle.std.specs.List.{AllByRecursion};
@@ -14,7 +14,7 @@ use server_model::{Answer, Asked, Entry};
 /// What is kept of an actor.
 #[derive(Clone, Copy)]
 pub struct ActorState {
-    /// Whose seat it is.
+    /// Whose state it is.
     pub actor: Actor,
     /// Its live session.
     pub session: Option<u32>,
@@ -45,7 +45,7 @@ fn renames_after(table: &Name, entry: &Entry, old: bool) -> bool
     }
 }
 
-/// The seat of the turn's actor behind it.
+/// The state of the turn's actor behind it.
 fn turn(actor_state: &mut ActorState, table: &Name, entry: &Entry)
     requires { actor_state.old.turns < 2 ^ 32 }
     ensures { actor_state.new ≡ turned table.now entry.now actor_state.old }
@@ -66,7 +66,7 @@ fn actor_state_after(actor_state: &mut ActorState, table: &Name, entry: &Entry)
     }
 }
 
-/// Marks a turn in the seat of its actor.
+/// Marks a turn in the state of its actor.
 pub fn take_turn(actor_states: &mut Vec<ActorState>, table: &Name, entry: &Entry)
     requires { AllByRecursion (λ actor_state. actor_state.turns < 2 ^ 32) actor_states.old.items }
     ensures { actor_states.new.items ≡ map (actor_state_after table.now entry.now) actor_states.old.items }

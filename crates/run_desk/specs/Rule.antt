@@ -1,7 +1,8 @@
--- The rule of the desk's table, which every step keeps. It is this project's own.
+-- The rule of the turn queue's table, which every step keeps. It is this project's own.
 --
--- The table has three words and one slot. Word 0 is the number of tickets drawn, word 1 the number of tickets served, and word 2 the number of entries, each modulo 2 ^ 64.
--- The slot has the book, or nothing while a worker holds the turn. The entries in order of their counting are the desk's list.
+-- The table has three words and one slot. Word 0 is the number of tickets drawn, word 1 the number of tickets served, and word
+-- 2 the number of entries, each modulo 2 ^ 64. The slot has the shared state, or nothing while a worker holds the turn. The
+-- entries in order of their counting are the turn queue's list.
 --
 -- A seat knows something of the list: it has a hand for each worker that it speaks for. The seat of a pass has one hand, its worker's. A new table has one seat with the hands of all workers,
 -- from which the seats of the passes are split; a meeting splits a witness from one seat, which only says what was seen, and joins it to another; and the close joins all seats to one.
@@ -11,10 +12,10 @@
 --   draw          one more in word 0: the worker has the ticket that was next                                        `draws`
 --   look          a read of word 1: where it is the worker's ticket, the worker holds the turn and the slot, and has
 --                 seen the whole list; else nothing changes                                                          `looks`
---   slot out      the book is taken out of the slot that the worker holds, as plain memory: no view changes
---   slot back     the book is put back, with the turn that it took: no view changes
+--   slot out      the shared state is taken out of the slot that the worker holds, as plain memory: no view changes
+--   slot back     the shared state is put back, with the turn that it took: no view changes
 --   count         one more in word 2: the entry joins the list, the worker's own turns and what it has seen          `counts`
---   serve         one more in word 1: the worker rests, and the slot has its book                                    `serves`
+--   serve         one more in word 1: the worker rests, and the slot has its shared state                                    `serves`
 --   split         a read of word 0: a seat gives one of its hands to a new seat, or a witness of what it has seen    `deals`, `tells`
 --   join          a read of word 0: a seat takes in the hands of another                                             `gathers`
 --   compare       a look that ends a meeting: the worker has seen the longer of what both had seen                   `compares`
@@ -107,7 +108,7 @@ abbrev pub Fits : {O E : Type 0} → O → ℕ → ℕ → ℕ → List (Entry E
 Fits opening workers drawn served entries hand = (hand.opening ≡ opening) × StartsWith entries hand.seen × FitsRole workers drawn served entries hand.seen hand.role
 
 module _ {B O E : Type 0} (opening_of : B → O) (entries_in : B → List (Entry E)) (opening : O) where
-  -- The slot has a book of this opening and of these entries.
+  -- The slot has a shared state of this opening and of these entries.
   abbrev pub IsHome : List (Entry E) → List (maybe.Option (Option B)) → Type 0
   IsHome entries homes = (shared_state : B) × (homes ≡ some (Some shared_state) ∷ []) × (opening_of shared_state ≡ opening) × (entries_in shared_state ≡ entries)
 
@@ -118,7 +119,7 @@ module _ {B O E : Type 0} (opening_of : B → O) (entries_in : B → List (Entry
     pub served : ℕ
     -- The words are these numbers and the list's length.
     pub words : s.words ≡ drawn % 2 ^ 64 ∷ served % 2 ^ 64 ∷ length entries % 2 ^ 64 ∷ []
-    -- Where nobody holds the turn, the book is in its slot.
+    -- Where nobody holds the turn, the shared state is in its slot.
     pub home : count holds_turn s.views ≡ 0 → IsHome entries s.homes
     -- What each seat knows fits the list and the queue.
     pub hands : (seat : ℕ) (view : List (Hand O E)) → get_elem? s.views seat ≡ some view → All (Fits opening workers drawn served entries) view

@@ -13,7 +13,7 @@ Agree [] = Unit {0}
 Agree (told ∷ []) = Unit {0}
 Agree (told ∷ mine ∷ hands) = StartsWith told.seen mine.seen ⊎ StartsWith mine.seen told.seen
 
--- The entries of the book that a seat took last.
+-- The entries of the shared state that a seat took last.
 abbrev pub shared_state_entries : {B E : Type 0} → (B → List (Entry E)) → Option B → List (Entry E)
 shared_state_entries entries None = []
 shared_state_entries entries (Some shared_state) = entries shared_state
@@ -36,7 +36,7 @@ module _ {S O E : Type 0} where
   Compared step before found after = (after.1 ≡ before.1) × (after.0 ≡ compared before.0) × Agree before.0
 
 module _ {B O E : Type 0} (opening : B → O) (entries : B → List (Entry E)) where
-  -- The turn has come: the seat has taken the book, and has seen its whole list, which begins with what it had seen.
+  -- The turn has come: the seat has taken the shared state, and has seen its whole list, which begins with what it had seen.
   abbrev pub Comes : Me (Option B) (List (Hand O E)) → Me (Option B) (List (Hand O E)) → Type 0
   Comes before after =
       (shared_state : B) × (after.1 ≡ (0, Some shared_state) ∷ before.1) × (after.0 ≡ staged (Holds (ticket_of before.0)) (shown (entries shared_state) before.0))
@@ -46,6 +46,6 @@ module _ {B O E : Type 0} (opening : B → O) (entries : B → List (Entry E)) w
   abbrev pub Looked : Step (Option B) → Me (Option B) (List (Hand O E)) → ℕ → Me (Option B) (List (Hand O E)) → Type 0
   Looked step before found after = (found ≡ ticket_of before.0 % 2 ^ 64 → Comes before after) × (found ≢ ticket_of before.0 % 2 ^ 64 → after ≡ before)
 
--- The entry was counted that the book has more than the seat had seen.
+-- The entry was counted that the shared state has more than the seat had seen.
 abbrev pub Counted : {B O E : Type 0} → (B → List (Entry E)) → Step (Option B) → Me (Option B) (List (Hand O E)) → ℕ → Me (Option B) (List (Hand O E)) → Type 0
 Counted entries step before found after = (after.1 ≡ before.1) × (after.0 ≡ recorded (held_entries entries before.1) before.0)

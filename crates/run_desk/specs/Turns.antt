@@ -1,4 +1,4 @@
--- The list of a desk, and what its passes know of it. The rules are this project's own.
+-- The list of a turn queue, and what its passes know of it. The rules are this project's own.
 use Rattle.std.specs.Prelude.{◌≡◌, ◌≢◌, ℕ, zero, suc, ◌+◌, ◌==◌, ltb, cond, List, [], ◌∷◌, ◌++◌, length, map, filter, All, AllPairs, Contains, Option, Some}
 use Rattle.atomic_table.specs.Seated.{TableId}
 use Rattle.run_desk.specs.declared.shared_state.Entry.{Entry}
@@ -16,13 +16,14 @@ abbrev pub numbers_from : ℕ → ℕ → List ℕ
 numbers_from first zero = []
 numbers_from first (suc count) = first ∷ numbers_from (first + 1) count
 
--- A desk: which one it is, what its book began with, and how many workers it has.
+-- A turn queue: which one it is, what its shared state began with, and how many workers it has.
 pub record TurnQueueView (O : Type 0) : Type 0 where
   pub table : TableId
   pub opening : O
   pub workers : ℕ
 
--- A pass: the desk that it is for, its worker's number, what the book began with (some, for every pass of a desk), the turns that its worker took, and the entries seen so far.
+-- A pass: the turn queue that it is for, its worker's number, what the shared state began with (some, for every pass of a turn
+-- queue), the turns that its worker took, and the entries seen so far.
 pub record PassView (O E : Type 0) : Type 0 where
   pub table : TableId
   pub worker : ℕ
@@ -34,7 +35,8 @@ pub record PassView (O E : Type 0) : Type 0 where
 abbrev pub longer : {X : Type 0} → List X → List X → List X
 longer xs ys = cond (ltb (length xs) (length ys)) ys xs
 
--- A desk's list is the list of turns in the order in which they were counted. Each pass's own turns stand in it once and in their order, it has no other turns, and what each pass has seen is a beginning of it.
+-- A turn queue's list is the list of turns in the order in which they were counted. Each pass's own turns stand in it once and
+-- in their order, it has no other turns, and what each pass has seen is a beginning of it.
 pub record TurnQueueList {O E : Type 0} (entries : List (Entry E)) (passes : List (PassView O E)) : Type 0 where
   -- Each pass's own turns are the entries of its worker's number, in their order.
   pub own : All (λ pass. entries_of pass.worker entries ≡ pass.own) passes
@@ -46,11 +48,11 @@ pub record TurnQueueList {O E : Type 0} (entries : List (Entry E)) (passes : Lis
   pub seen : All (λ pass. StartsWith entries pass.seen) passes
 
 module _ {O E : Type 0} where
-  -- The pass is for the desk of this table, whose book began with this opening.
+  -- The pass is for the turn queue of this table, whose shared state began with this opening.
   abbrev pub IsOurs : TableId → O → PassView O E → Type 0
   IsOurs table opening pass = (pass.table ≡ table) × (pass.opening ≡ Some opening)
 
-  -- The pass is one that the desk gave.
+  -- The pass is one that the turn queue gave.
   abbrev pub IsPassOf : TurnQueueView O → PassView O E → Type 0
   IsPassOf turn_queue pass = IsOurs turn_queue.table turn_queue.opening pass
 
@@ -58,7 +60,7 @@ module _ {O E : Type 0} where
   abbrev pub first_pass : TurnQueueView O → ℕ → PassView O E
   first_pass turn_queue number = record { table = turn_queue.table; worker = number; opening = Some turn_queue.opening; own = []; seen = [] }
 
-  -- The passes of a desk in order of the workers' numbers, before any turn.
+  -- The passes of a turn queue in order of the workers' numbers, before any turn.
   abbrev pub first_passes : TurnQueueView O → List (PassView O E)
   first_passes turn_queue = map (first_pass turn_queue) (numbers_from 0 turn_queue.workers)
 
@@ -66,7 +68,8 @@ module _ {O E : Type 0} where
   abbrev pub IsSamePass : PassView O E → PassView O E → Type 0
   IsSamePass before after = (after.table ≡ before.table) × (after.worker ≡ before.worker) × (after.opening ≡ before.opening)
 
-  -- After a turn that was taken: the own turns have one entry more, and what is seen begins with what was seen and ends with that entry. Before the entry the book wasn't over.
+  -- After a turn that was taken: the own turns have one entry more, and what is seen begins with what was seen and ends with
+  -- that entry. Before the entry the shared state wasn't over.
   abbrev pub Takes : (List (Entry E) → Type 0) → PassView O E → PassView O E → Type 0
   Takes is_over before after =
       (event : E) × (between : List (Entry E))

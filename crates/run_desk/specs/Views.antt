@@ -82,6 +82,6 @@ module _ {O E : Type 0} where
   compared (told ∷ []) = told ∷ []
   compared (told ∷ mine ∷ hands) = record { opening = mine.opening; seen = longer told.seen mine.seen; role = mine.role } ∷ hands
 
-  -- The hand of a pass, whose book began with this opening.
+  -- The hand of a pass, whose shared state began with this opening.
   abbrev pub hand_of : O → PassView O E → Hand O E
   hand_of opening pass = record { opening = opening; seen = pass.seen; role = Worker pass.worker pass.own Rests }

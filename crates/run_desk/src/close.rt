@@ -1,4 +1,4 @@
-//! How the book of a desk comes back.
+//! How the shared state of a turn queue comes back.
 ghost use Rattle.std.specs.Prelude.{◌≡◌, ◌<◌, [], ◌∷◌, ◌++◌, length, map, All, Some};
 ghost use Rattle.std.specs.Mem.Slots.{slots_items, slots_len, IsFull};
 ghost use Rattle.run_desk.specs.Turns.{IsOurs};
@@ -29,7 +29,7 @@ pub(crate) fn gather<B: SharedState>(board: &Board<B>, mut passes: Passes<B>) ->
     seat
 }
 
-/// The book that stands in the slot.
+/// The shared state that stands in the slot.
 pub(crate) fn taken_out<B: SharedState>(mut closed: Closed<Option<B>, Global>) -> B
     requires slots { (slots_len closed.slots ≡ 1) × IsFull closed.slots × IsFull closed.words }
     requires shared_state { (shared_state : B) × (slots_items closed.slots ≡ Some shared_state ∷ []) }

@@ -1,4 +1,4 @@
-//! What a seat at the desk's table knows. No value of these types is made.
+//! What a seat at the turn queue's table knows. No value of these types is made.
 use crate::shared_state::Entry;
 use std::collections::LinkedList;
 
@@ -22,7 +22,7 @@ pub enum Role<E> {
 
 /// What one pass knows.
 pub struct Hand<O, E> {
-    /// What the book began with.
+    /// What the shared state began with.
     pub opening: O,
     /// The entries that it has seen, in order.
     pub seen: LinkedList<Entry<E>>,

@@ -1,4 +1,4 @@
-//! How a desk is made.
+//! How a turn queue is made.
 ghost use Rattle.std.specs.Prelude.{◌≡◌, ◌≤◌, [], ◌++◌, map, vec_len, vec_capacity, IfOk, IfErr};
 ghost use Rattle.run_desk.specs.Rule.{newcomers};
 ghost use Rattle.run_desk.specs.Turns.{first_passes};
@@ -10,7 +10,7 @@ use crate::shared_state::SharedState;
 use atomic_table::{Refused, Table};
 use std::alloc::Global;
 
-/// The words, and the slot with the book. The seat has the hands of all workers.
+/// The words, and the slot with the shared state. The seat has the hands of all workers.
 pub(crate) fn lay<B: SharedState>(
     alloc: Global,
     shared_state: B,

@@ -1,12 +1,13 @@
-//! What one worker has of a desk.
+//! What one worker has of a turn queue.
 use crate::hand::View;
 use crate::shared_state::SharedState;
 use atomic_table::Seat;
 use std::marker::Model;
 
-/// The right to take turns as one worker. It is good for the desk that gave it.
+/// The right to take turns as one worker. It is good for the turn queue that gave it.
 ///
-/// A contract sees its desk, the worker's number, what the book began with, the turns that the worker took, and the entries that it has seen.
+/// A contract sees its turn queue, the worker's number, what the shared state began with, the turns that the worker took, and
+/// the entries that it has seen.
 #[derive(Drop)]
 pub struct Pass<B: SharedState> {
     pub(crate) seat: Seat<Option<B>, View<B::Opening, B::Event>>,
@@ -27,5 +28,5 @@ impl<B: SharedState> Model for Pass<B> {
     ghost invariant = { λ pass. (opening : B.Opening) × (pass.seat.me ≡ (worker_view opening (seen_of pass.seat.me.0) pass.worker (own_of pass.seat.me.0) Rests, [])) };
 }
 
-/// The passes of a desk.
+/// The passes of a turn queue.
 pub type Passes<B> = Vec<Pass<B>>;

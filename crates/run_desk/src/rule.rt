@@ -1,4 +1,4 @@
-//! The desk's table and its rule, which `specs/Rule.antt` states.
+//! The turn queue's table and its rule, which `specs/Rule.antt` states.
 use crate::hand::View;
 use crate::shared_state::SharedState;
 use atomic_table::{Seat, Shared, Table, TableRule};
@@ -15,10 +15,10 @@ pub(crate) const SERVING: usize = 1;
 /// Word 2 counts the entries.
 pub(crate) const COUNT: usize = 2;
 
-/// The one slot, for the book.
+/// The one slot, for the shared state.
 pub(crate) const SHARED_STATE: usize = 0;
 
-/// What a desk begins with, for the proofs alone.
+/// What a turn queue begins with, for the proofs alone.
 #[derive(Drop)]
 pub struct Start<B> {
     pub shared_state: Snapshot<B>,
@@ -38,7 +38,7 @@ impl<B: SharedState> TableRule<Option<B>, View<B::Opening, B::Event>, Start<B>> 
     ghost first = { λ start. newcomers (B.opening start.shared_state.value) start.workers };
 }
 
-/// The words, the slot and the seats of a desk.
+/// The words, the slot and the seats of a turn queue.
 pub(crate) type Board<B> = Shared<
     Option<B>,
     View<<B as SharedState>::Opening, <B as SharedState>::Event>,

@@ -1,14 +1,14 @@
 //! What the workers take turns at.
 ghost use Rattle.std.specs.Prelude.{◌≡◌, ◌≢◌, ◌↔◌, List, [], ◌∷◌, ◌++◌};
 
-/// One turn in a book's list: which worker took it, and what it adds.
+/// One turn in a shared state's list: which worker took it, and what it adds.
 #[derive(Debug, Drop)]
 pub struct Entry<E> {
     pub worker: u32,
     pub event: E,
 }
 
-/// What a book answers to a worker that asks for a turn.
+/// What a shared state answers to a worker that asks for a turn.
 #[derive(Clone, Copy, PartialEq, Eq, Debug)]
 pub enum Turned {
     /// The turn was taken, and the list has one entry more.
@@ -21,7 +21,7 @@ pub enum Turned {
 
 /// A list of turns that workers add to, one at a time.
 pub trait SharedState {
-    /// What a book begins with.
+    /// What a shared state begins with.
     type Opening;
 
     /// What one turn adds to the list, beside the worker's number.

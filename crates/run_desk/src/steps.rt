@@ -53,7 +53,7 @@ pub(crate) fn wait<B: SharedState, R: Wait>(
     unreachable!()
 }
 
-/// Counts the entry that the book has more than the seat has seen.
+/// Counts the entry that the shared state has more than the seat has seen.
 pub(crate) fn count<B: SharedState>(board: &Board<B>, seat: &mut Place<B>)
     requires board { IsAt board.now.table_id seat.old }
     requires holds { HoldsMore B.opening B.entries seat.old.me }
@@ -63,7 +63,7 @@ pub(crate) fn count<B: SharedState>(board: &Board<B>, seat: &mut Place<B>)
     board.fetch_add::<Count<B>>(seat, COUNT, 1);
 }
 
-/// Gives the book back to the slot and the turn on to the next ticket.
+/// Gives the shared state back to the slot and the turn on to the next ticket.
 pub(crate) fn serve<B: SharedState>(board: &Board<B>, seat: &mut Place<B>)
     requires board { IsAt board.now.table_id seat.old }
     requires holds { HoldsAll B.opening B.entries seat.old.me }
@@ -74,7 +74,7 @@ pub(crate) fn serve<B: SharedState>(board: &Board<B>, seat: &mut Place<B>)
     board.wake_all(SERVING);
 }
 
-/// Takes a turn at the book, counts its entry where it was taken, and gives the turn on.
+/// Takes a turn at the shared state, counts its entry where it was taken, and gives the turn on.
 pub(crate) fn take<B: SharedState>(board: &Board<B>, seat: &mut Place<B>, worker: u32) -> Turned
     requires board { IsAt board.now.table_id seat.old }
     requires holds { (opening : B.Opening) × (entries : List (Entry B.Event)) × (own : List (Entry B.Event)) × HoldsSharedState B.opening B.entries opening entries worker own entries seat.old.me }

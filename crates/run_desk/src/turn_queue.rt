@@ -1,4 +1,4 @@
-//! The desk, at which workers take turns at one book.
+//! The turn queue: workers take turns at one shared state.
 ghost use Rattle.std.specs.Prelude.{◌≡◌, ◌≢◌, ◌≤◌, ◌⊎◌, [], ◌∷◌, ◌++◌, length, All, IfOk, IfErr};
 ghost use Rattle.run_desk.specs.Turns.{IsPassOf, IsSamePass, first_passes, StartsWith, longer, TurnQueueList, Takes, Sees};
 
@@ -14,9 +14,9 @@ use std::marker::Model;
 use std::snapshot::Snapshot;
 use std::sync::Wait;
 
-/// A book and the queue of the workers that take turns at it, in the order in which they ask.
+/// A shared state and the queue of the workers that take turns at it, in the order in which they ask.
 ///
-/// A contract sees which desk it is, what the book began with, and how many workers there are.
+/// A contract sees which turn queue it is, what the shared state began with, and how many workers there are.
 #[derive(Drop)]
 pub struct TurnQueue<B: SharedState> {
     board: OwnBoard<B>,
@@ -35,7 +35,8 @@ impl<B: SharedState> Model for TurnQueue<B> {
 }
 
 impl<B: SharedState> TurnQueue<B> {
-    /// A desk for a book whose list is empty, with a pass for each worker. Where memory is short, the book comes back.
+    /// A turn queue for a shared state whose list is empty, with a pass for each worker. Where memory is short, the shared
+    /// state comes back.
     pub fn open(
         alloc: Global,
         shared_state: B,
@@ -67,7 +68,7 @@ impl<B: SharedState> TurnQueue<B> {
         }
     }
 
-    /// Waits until the worker's turn has come, and takes a turn at the book. The answer is the book's.
+    /// Waits until the worker's turn has come, and takes a turn at the shared state. The answer is the shared state's.
     pub fn turn<R: Wait>(&self, rt: &R, pass: &mut Pass<B>) -> Turned
         requires { IsPassOf self.now pass.old }
         ensures pass { IsSamePass pass.old pass.new }
@@ -98,7 +99,7 @@ impl<B: SharedState> TurnQueue<B> {
         board.load::<Compare>(&mut into.seat, SERVING);
     }
 
-    /// The book, with the turns of all workers.
+    /// The shared state, with the turns of all workers.
     pub fn close(self, passes: Passes<B>) -> B
         requires all { length passes.items ≡ self.workers }
         requires passes { All (IsPassOf self) passes.items }

@@ -1,4 +1,4 @@
-//! Worker threads that take turns at one desk, whatever its book is.
+//! Worker threads that take turns in one turn queue, whatever its shared state is.
 
 mod ending;
 mod work;

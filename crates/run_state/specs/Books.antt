@@ -46,7 +46,7 @@ free_actor_state actor = record { actor = actor; session = None; turns = 0; rena
 abbrev pub actor_state_of : PlanData → List Entry → Actor → Option ActorState
 actor_state_of plan journal actor = if is_planned plan actor then Some (actor_state_at plan.table journal actor) else None
 
--- the seat that stands at an actor's place, where it is the actor's
+-- the actor state that stands at an actor's place, where it is the actor's
 abbrev pub own_actor_state : Actor → Option ActorState → Option ActorState
 own_actor_state actor None = None
 own_actor_state actor (Some actor_state) = if same_actor actor_state.actor actor then Some actor_state else None
@@ -70,7 +70,7 @@ renames_of (Some actor_state) = actor_state.renames
 abbrev pub free_client : List ScriptLine → ClientState
 free_client script = record { place = 0; is_inside = false; waits = false; is_lost = false }
 
--- the seats are those of the clients from this number on
+-- the states are those of the clients from this number on
 unfoldable pub AreReached : PlanData → List Entry → ℕ → List (List ScriptLine) → List ClientState → Type 0
 AreReached plan journal number [] [] = Unit {0}
 AreReached plan journal number (script ∷ scripts) (actor_state ∷ actor_states) = IsReached script actor_state (client_at plan journal number) × AreReached plan journal (number + 1) scripts actor_states

@@ -1,4 +1,4 @@
-//! The book of a plan without turns.
+//! The run state of a plan without turns.
 
 ghost use Rattle.std.specs.Prelude.{◌≡◌, [], ◌∷◌, map, IfOk};
 ghost use Rattle.base_script.specs.declared.actor.Actor.TheVariants.{Op, Insp, Copy, Apply, Lock, Ren};
@@ -16,7 +16,7 @@ use run_actors::client_turns::ClientState;
 use std::alloc::{AllocError, Global};
 use tool_state::tool_state::Tool;
 
-/// The seat of an actor before the first turn.
+/// The state of an actor before the first turn.
 fn free_actor_state(actor: Actor) -> ActorState
     ensures { result ≡ free_actor_state actor }
 {
@@ -28,7 +28,7 @@ fn free_actor_state(actor: Actor) -> ActorState
     }
 }
 
-/// The seats of the tool's actors before the first turn.
+/// The states of the tool's actors before the first turn.
 fn tool_actor_states(alloc: Global) -> Result<Vec<ActorState>, AllocError>
     ensures { IfOk result (λ actor_states. actor_states.items ≡ map free_actor_state (Op ∷ Insp ∷ Copy ∷ Apply ∷ Lock ∷ Ren ∷ [])) }
 {
@@ -46,7 +46,7 @@ fn tool_actor_states(alloc: Global) -> Result<Vec<ActorState>, AllocError>
     Ok(actor_states)
 }
 
-/// The seats of all actors before the first turn, in the fixed order.
+/// The states of all actors before the first turn, in the fixed order.
 #[tactic(auto, unfolding(tool_program::specs::Orders::actors, tool_program::specs::Orders::clients_from))]
 fn actor_states_of(alloc: Global, plan: &Plan) -> Result<Vec<ActorState>, AllocError>
     ensures { IfOk result (λ actor_states. actor_states.items ≡ map free_actor_state (actors plan.now)) }
@@ -60,7 +60,7 @@ fn actor_states_of(alloc: Global, plan: &Plan) -> Result<Vec<ActorState>, AllocE
     Ok(actor_states)
 }
 
-/// The seats of the clients before the first turn.
+/// The states of the clients before the first turn.
 fn client_states(alloc: Global, plan: &Plan) -> Result<Vec<ClientState>, AllocError>
     ensures { IfOk result (λ actor_states. actor_states.items ≡ map free_client plan.now.clients) }
 {
@@ -84,7 +84,7 @@ fn names_of(alloc: Global, table: &Name) -> Result<Names, AllocError>
 }
 
 impl<'a> RunState<'a> {
-    /// The book of the plan without turns.
+    /// The run state of the plan without turns.
     pub fn open(alloc: Global, plan: &'a Plan) -> Result<RunState<'a>, AllocError>
         ensures run_state { IfOk result (λ run_state. IsRunState plan.now [] run_state) }
         ensures plan { IfOk result (λ run_state. run_state.plan.now ≡ plan.now) }

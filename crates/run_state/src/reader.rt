@@ -1,4 +1,4 @@
-//! What the book says of the actors.
+//! What the run state says of the actors.
 
 ghost use Rattle.std.specs.Prelude.{◌≡◌, option_map, is_some, IfOk};
 ghost use Rattle.tool_program.specs.JournalWords.Clients.{script_of, client_asks};

@@ -1,4 +1,4 @@
-//! What one turn makes of a run's book.
+//! What one turn makes of the run state.
 
 mod additions;
 

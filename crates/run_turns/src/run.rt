@@ -55,7 +55,7 @@ impl<'a, V: Serve> Model for Run<'a, V> {
     ghost invariant = { λ r. IsRun r.run_state.plan.now r.run_state.journal.items r.run_state r.sessions (V.state r.server) };
 }
 
-/// The journal of a book.
+/// The journal of a run state.
 fn into_journal(run_state: RunState<'_>) -> Journal
     ensures { result ≡ run_state.entry.journal.items }
 {

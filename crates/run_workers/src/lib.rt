@@ -1,4 +1,5 @@
-//! A run whose turns are taken by worker threads, at one desk. In `worker_run` the run as the book of that desk.
+//! A run whose turns are taken by worker threads, in one turn queue. In `worker_run` the run as the shared state of that turn
+//! queue.
 #![tactic(auto)]
 
 mod runs;

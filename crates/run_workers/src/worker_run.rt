@@ -1,4 +1,4 @@
-//! A run whose turns worker threads take at one desk: each turn is that of the actor that the rule gives its worker.
+//! A run whose turns worker threads take in one turn queue: each turn is that of the actor that the rule gives its worker.
 
 mod choice;
 mod notes;

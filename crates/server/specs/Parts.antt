@@ -15,7 +15,7 @@ use Rattle.server_model.specs.Serving.{serves}
 use Rattle.server_model.specs.States.{State, holds_tables, is_exclusive, is_in_transaction, is_live, names_in, session_of, view, writes_of}
 use Rattle.proof_journals.specs.ServerFacts.Keeping.{IsServing}
 
--- *The server's state*: what its desk keeps, with the committed tables
+-- *The server's state*: what its sessions keep, with the committed tables
 abbrev pub state_of : Database → State → State
 state_of tables all_sessions = record all_sessions { tables = tables }
 

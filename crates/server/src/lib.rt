@@ -1,4 +1,4 @@
-//! A server over any data: sessions, waits and the log at its desk, and the plain server's answers.
+//! A server over any data: its sessions with their waits, the log, and the plain server's answers.
 #![tactic(auto)]
 
 mod calls;

@@ -42,7 +42,7 @@ pub fn statement<D: Data>(
     keep(store, all_sessions, session, request, locks, told)
 }
 
-/// INSERT IGNORE of the image of one row.
+/// INSERT IGNORE of one converted row.
 pub fn copy_row<D: Data>(
     store: &mut D,
     all_sessions: &mut Sessions,

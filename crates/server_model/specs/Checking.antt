@@ -122,7 +122,7 @@ abbrev pub wanted_at : ℕ → Option Column → Option Value → Result Value A
 wanted_at place (Some column) (Some value) = value_at place (seeks value column.kind)
 wanted_at place column value = Err (refuses 1054)
 
--- the values sought in the columns at these places, in the order in which they were written
+-- the wanted values in the columns at these places, in the order in which they were written
 unfoldable pub wanted_each : Schema → List ℕ → List Value → Result (List Value) Answer
 wanted_each schema [] values = Ok []
 wanted_each schema (place ∷ places) [] = Ok []

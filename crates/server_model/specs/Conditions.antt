@@ -45,7 +45,7 @@ pub record IsTableName (name : List ℕ) : Type 0 where
   pub characters : character_count name ≤ 64
   pub bytes : length name ≤ 255
 
--- a new table's schema: a lawful one, of such a name
+-- a new table's schema: a valid one, of such a name
 pub record IsNewSchema (schema : Schema) : Type 0 where
   pub named : IsTableName schema.name
   pub valid : IsValid schema

@@ -85,7 +85,7 @@ defined (Err number) = Rests (refuses number)
 abbrev pub nothing_needed : Need
 nothing_needed = record { exclusive = false; names = []; locks = [] }
 
--- the deed of a request, by whether its session is in a transaction, and by the tables as it sees them
+-- the effect of a request, by whether its session is in a transaction, and by the tables as it sees them
 abbrev pub effect_within : Bool → Database → State → Request → Effect
 effect_within busy seen state requests.Begin = Grows ok nothing_needed []
 effect_within busy seen state requests.Commit = Writes ok []

@@ -1,6 +1,6 @@
--- *What a statement says* and *needs* on a database; copying a row, which is INSERT IGNORE of its image (MySQL's manual,
--- "INSERT Statement", after gh-ost's copy of rows; that an image which doesn't fit is refused and never cut is this
--- project's rule); and databases after events.
+-- *What a statement says* and *needs* on a database; copying a row, which is INSERT IGNORE of its converted row (MySQL's
+-- manual, "INSERT Statement", after gh-ost's copy of rows; that a converted row which doesn't fit is refused and never cut is
+-- this project's rule); and databases after events.
 use Rattle.std.specs.Prelude.{ℕ, List, [], ◌∷◌, map, Option, Some, None, Result, Ok, Err}
 use Rattle.std.specs.Option.{option_map}
 use Rattle.base_values.specs.declared.value.Value.{Value}
@@ -72,8 +72,8 @@ says tables statement = job_says tables (job_of statement)
 abbrev pub row_needs : Database → Statement → List Lock
 row_needs tables statement = job_needs tables (job_of statement)
 
--- Copying an image: INSERT IGNORE of its values, which are stored by the columns of the table that they go into (where
--- the map is of that table, they are stored as they are); an image that doesn't fit is refused, and a row that isn't
+-- Copying a converted row: INSERT IGNORE of its values, which are stored by the columns of the table that they go into (where
+-- the map is of that table, they are stored as they are); a converted row that doesn't fit is refused, and a row that isn't
 -- there is nothing.
 abbrev pub copy_work : Option (Result (List Value) UnfitAt) → Schema → Work
 copy_work None schema = works.Refuse (answers.Ok 0)

@@ -6,7 +6,7 @@ use Rattle.base_values.specs.declared.event.RowEvent.{RowEvent}
 use Rattle.server_model.specs.declared.answer.Answer.{Answer}
 use Rattle.server_model.specs.declared.answer.Answer.TheVariants as answers
 
--- the keys of a chunk, and where the chunk ends, as the copier was told them
+-- the keys of a chunk, and where the chunk ends, as the copier got them
 abbrev pub keys_in : Option Answer → List (List Value)
 keys_in (Some (answers.Keys keys end)) = keys
 keys_in answer = []
@@ -16,7 +16,7 @@ end_in (Some (answers.Keys keys end)) = end
 end_in (Some (answers.End end)) = end
 end_in answer = []
 
--- the events of a batch, as the applier was told them
+-- the events of a batch, as the applier got them
 abbrev pub events_in : Option Answer → List RowEvent
 events_in (Some (answers.Events events next)) = events
 events_in answer = []

@@ -1,7 +1,7 @@
 -- *Serves*: the plain server's answer to what a session asks, and the state afterwards. In four steps: the locks that the
--- request needs, the least session that blocks one, the deed, and what the deed does. (MySQL's manual, "START
--- TRANSACTION, COMMIT, and ROLLBACK Statements", "LOCK TABLES and UNLOCK TABLES Statements"; polls, time-outs and losses
--- are this project's rule.)
+-- request needs, the least session that blocks one, the effect, and what the effect does. (MySQL's manual, "START TRANSACTION,
+-- COMMIT, and ROLLBACK Statements", "LOCK TABLES and UNLOCK TABLES Statements"; polls, time-outs and losses are this project's
+-- rule.)
 use Rattle.std.specs.Prelude.{ℕ, ◌+◌, ◌==◌, Bool, true, false, not, List, [], ◌∷◌, ◌++◌, map, filter, Option, Some, None}
 use Rattle.base_values.specs.declared.event.RowEvent.{RowEvent}
 use Rattle.base_script.specs.declared.actor.Side.{Side}

@@ -21,7 +21,7 @@ pub type Numbers = Sequence<u64>;
 /// Why a migration was reverted.
 #[derive(Drop)]
 pub enum Cause {
-    /// A row's image has a value that doesn't fit its new column.
+    /// A converted row has a value that doesn't fit its new column.
     Unfit {
         /// The turn at which the column refused, from 1.
         turn: u64,
@@ -66,7 +66,7 @@ pub enum Progress {
     TaskDone,
     /// This try of the task failed.
     TaskFailed,
-    /// A row's image has a value that doesn't fit its new column.
+    /// A converted row has a value that doesn't fit its new column.
     Unfit {
         /// The column's place in the new schema, from 0.
         column: usize,

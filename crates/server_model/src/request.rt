@@ -41,13 +41,13 @@ pub enum Request {
         /// How many keys are given at most.
         size: u32,
     },
-    /// INSERT IGNORE of the image of one row.
+    /// INSERT IGNORE of one converted row.
     CopyRow {
         /// The table with the row.
         from: Name,
-        /// The table that gets its image.
+        /// The table that gets its converted row.
         into: Name,
-        /// Where the image's values come from.
+        /// Where the converted row's values come from.
         map: ColumnMap,
         /// The row's clustered key.
         key: Key,

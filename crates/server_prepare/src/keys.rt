@@ -64,7 +64,7 @@ fn wanted_at(
     }
 }
 
-/// The values that are sought in the columns at these places.
+/// The values that are wanted in the columns at these places.
 #[tactic(auto, unfolding(server_model::specs::Checking::wanted_each))]
 pub fn wanted_each(
     alloc: Global,

@@ -1,4 +1,4 @@
-//! A session copies the image of a row from one table into another: what is said, written and needed.
+//! A session copies a row, converted, from one table into another: what is said, written and needed.
 
 mod copies;
 mod work;

@@ -4,6 +4,6 @@ use Rattle.base_values.specs.declared.gho_schema.schema.Schema.{Schema}
 use Rattle.base_values.specs.SchemaRules.Valid.{IsValid}
 use Rattle.sql_create.specs.Reading.{schema_at}
 
--- Every schema that is read is lawful.
+-- Every schema that is read is valid.
 abbrev pub ReadSchemasAreValid : Type 0
 ReadSchemasAreValid = (migrated text : List ℕ) (schema : Schema) → schema_at migrated text ≡ Ok schema → IsValid schema

@@ -1,4 +1,4 @@
--- The words of a text up to its first fault, and how they are told apart.
+-- The words of a text up to its first fault, and how they are distinguished.
 use Rattle.std.specs.Prelude.{ℕ, Bool, true, false, ◌&&◌, List, [], take, map, Result, Ok, Err}
 use Rattle.std.specs.Str.{bytes_eq}
 use Rattle.sql_words.specs.declared.word.WordClass.{WordClass}

@@ -1,4 +1,5 @@
--- The bytes by which the words of MySQL's dialect are told apart. All of them are ASCII, so no byte of another character is taken for one.
+-- The bytes by which the words of MySQL's dialect are distinguished. All of them are ASCII, so no byte of another character is
+-- taken for one.
 use Rattle.std.specs.Prelude.{ℕ, Bool, false, not, ◌||◌, ◌==◌, List, [], ◌∷◌}
 use Rattle.std.specs.Char.{is_ascii_alphabetic, is_ascii_digit}
 

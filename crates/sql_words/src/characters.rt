@@ -1,4 +1,4 @@
-//! The bytes by which words are told apart.
+//! The bytes by which words are distinguished.
 
 ghost use Rattle.std.specs.Prelude.{◌≡◌, ◌<◌, IsTrue};
 ghost use Rattle.std.specs.Char.{is_ascii_hexdigit, digit_value};

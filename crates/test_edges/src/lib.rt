@@ -1,4 +1,4 @@
-//! Tests of the edges and of the turn desk, of what no program shows: sources and sinks that fail, memory that is short, and
+//! Tests of the edges and of the turn queue, of what no program shows: sources and sinks that fail, memory that is short, and
 //! threads.
 #![tactic(auto)]
 

@@ -1,4 +1,4 @@
-//! A book of turns up to a limit, with four workers in threads, and with memory that is short once.
+//! A shared state of turns up to a limit, with four workers in threads, and with memory that is short once.
 ghost use Rattle.std.specs.Prelude.{All};
 ghost use Rattle.run_desk.specs.Turns.{IsPassOf};
 

@@ -31,7 +31,7 @@ abbrev pub goes_on : PlanData → List HistoryStep → Option InOrder → Option
 goes_on plan history_steps None = None
 goes_on plan history_steps (Some so_far) = with_replies so_far.replies (alone_in_order plan so_far.tables history_steps)
 
--- each table's schema is lawful
+-- each table's schema is valid
 abbrev pub AreValid : Database → Type 0
 AreValid tables = AllByRecursion (λ table. IsValid table.schema) tables
 

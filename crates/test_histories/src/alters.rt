@@ -17,7 +17,7 @@ use sql_change::{AlterFault, altered};
 use std::alloc::{AllocError, Global};
 use test_model::{PlainTable, PlainTables, find_table, is_named};
 
-/// The image of every row; none where a row has no image.
+/// Every row converted; none where a row can't be converted.
 #[tactic(auto, unfolding(base_values::specs::RowConversion::ConvertedRows::converted_rows))]
 fn converted_rows(
     alloc: Global,
@@ -37,7 +37,7 @@ fn converted_rows(
     Ok(Some(made))
 }
 
-/// The table of a new schema, with the image of every row.
+/// The table of a new schema, with every row converted.
 fn imaged(
     alloc: Global,
     schema: Schema,
@@ -114,7 +114,7 @@ fn altered_in(
     }
 }
 
-/// The tables with the migrated one altered; none where the ALTER is refused or a row has no image.
+/// The tables with the migrated one altered; none where the ALTER is refused or a row can't be converted.
 #[tactic(auto, unfolding(tool_program::specs::JournalWords::Serials::altered_database))]
 pub fn altered_database(
     alloc: Global,

@@ -9,7 +9,7 @@ use server_model::{Answer, Mark, Reply, StatementResult, TxnLine};
 use std::alloc::{AllocError, Global};
 use test_model::{PlainTable, says};
 
-/// What a client is told of an answer; nothing where it isn't one of a client's.
+/// What a client sees of an answer; nothing where it isn't one of a client's.
 fn reply_of(answer: Answer) -> Option<Reply>
     ensures { result ≡ reply_of answer }
 {

@@ -1,4 +1,4 @@
-//! Calls of sessions on a server, as lines write them, and what is told of the answers: for `test_server`.
+//! Calls of sessions on a server, as lines write them, and what is printed of the answers: for `test_server`.
 
 mod calls;
 mod requests;

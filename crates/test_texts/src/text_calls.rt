@@ -1,4 +1,4 @@
-//! Calls about values, words, schemas, images and scripts, as lines write them: for `test_calls`.
+//! Calls about values, words, schemas, converted rows and scripts, as lines write them: for `test_calls`.
 
 mod converted_rows;
 mod schemas;

@@ -140,7 +140,7 @@ concerned plan earlier before Copy key = row_in (find_table plan.table before.se
 concerned plan earlier before Apply key = applied_row earlier before.tool.course
 concerned plan earlier before actor key = None
 
--- *Unfit*: in this turn a value was refused with this number for this column, and the row of this key has no image there
+-- *Unfit*: in this turn a value was refused with this number for this column, and the row of this key can't be converted there
 pub record IsUnfit (plan : PlanData) (journal : List Entry) (turn : ℕ) (key : List Value) (column : List ℕ) (number : ℕ) : Type 0 where
   pub entry : Entry
   pub before : Moment

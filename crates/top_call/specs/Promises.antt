@@ -33,8 +33,8 @@ use Rattle.top_workload.specs.Workloads.{workload}
 use Rattle.top_call.specs.Comings.{ComesTo}
 use Rattle.top_call.specs.Outcomes.{IsUntaken, Takes}
 
--- *Completes*: where a plan has no client, no command and no loss, each row of its table has an image, no limit is met and the
--- run has ended, the ALTER was done.
+-- *Completes*: where a plan has no client, no command and no loss, each row of its table can be converted, no limit is met and
+-- the run has ended, the ALTER was done.
 abbrev pub Completes : PlanData → List Entry → Type 0
 Completes plan journal = IsQuiet plan → RowsHaveConvertedRows plan → IsWithinLimits plan journal → has_ended plan journal ≡ true → verdict_of plan journal ≡ verdicts.Done
 

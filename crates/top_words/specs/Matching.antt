@@ -25,12 +25,12 @@ program =
     with_subcommand (with_subcommand (with_subcommand (with_subcommand bare_app (new_app (codes "check")).top) (new_app (codes "replay")).top) run_app.top)
     generate_app.top
 
--- a run has 4 workers where no number was told
+-- a run has 4 workers where no number was given
 abbrev pub run_told : Option Text → Option Command
 run_told None = Some (Run 4)
 run_told (Some number) = run_by number
 
--- the command of a subcommand's name and of the numbers that were told
+-- the command of a subcommand's name and of the numbers that were given
 abbrev pub command_told : Text → Option Text → Option Text → Option Command
 command_told name workers number =
     if bytes_eq name (codes "check") then Some Check

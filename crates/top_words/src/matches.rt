@@ -11,10 +11,10 @@ use crate::numbers::{number_of, workers_of};
 use clap::{Arg, ArgMatches, Command as Parser};
 use std::alloc::{AllocError, Global};
 
-/// The name under which a run's number is told.
+/// The name under which a run's number is given.
 const WORKERS: &str = "workers";
 
-/// The name under which a plan's number is told.
+/// The name under which a plan's number is given.
 const NUMBER: &str = "number";
 
 /// How many workers a run has where nothing is said.

@@ -1,5 +1,4 @@
--- What an ALTER makes of rows: *image of a row* (MySQL's manual, "ALTER TABLE Statement", as one mapping of the whole
--- table).
+-- What an ALTER makes of rows: *converted row* (MySQL's manual, "ALTER TABLE Statement", as one mapping of the whole table).
 use Rattle.std.specs.Prelude.{◌≡◌, ℕ, ◌+◌, List, [], ◌∷◌, unwrap_or, Option, Some, Result, Ok, Err}
 use Rattle.std.specs.List.{slice_get}
 use Rattle.std.specs.Result.{result_ok}
@@ -31,7 +30,7 @@ abbrev pub value_first : ℕ → Result Value Unfit → Result (List Value) Unfi
 value_first column (Ok value) others = before value others
 value_first column (Err reason) others = Err (record { column = column; unfit = reason })
 
--- the image of a row in the new columns from this place on
+-- the converted row in the new columns from this place on
 unfoldable pub converted_row_from : ℕ → List MapColumn → List Value → Result (List Value) UnfitAt
 converted_row_from column [] row = Ok []
 converted_row_from column (new ∷ others) row = value_first column (stores (source new.origin row) new.kind new.nullable) (converted_row_from (column + 1) others row)
@@ -46,7 +45,7 @@ Fits column (Ok value) said = said ≡ Ok value
 Fits column (Err faults.Memory) said = Unit {0}
 Fits column (Err (faults.Refused unfit)) said = (said ≡ Err unfit.unfit) × (unfit.column ≡ column)
 
--- the image of every row, where each has one
+-- every row converted, where each can be
 unfoldable pub converted_rows : List MapColumn → List (List Value) → Option (List (List Value))
 converted_rows map [] = Some []
 converted_rows map (row ∷ rows) = do

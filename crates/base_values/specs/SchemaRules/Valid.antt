@@ -1,4 +1,4 @@
--- *Lawful schema*: what every schema is that a text or an ALTER gives.
+-- *Valid schema*: what every schema is that a text or an ALTER gives.
 use Rattle.std.specs.Prelude.{◌≡◌, ℕ, ◌≤◌, ◌<◌, ◌==◌, Bool, true, ◌&&◌, ◌||◌, nat_le, List, length, map, Option, Some, None, Ok}
 use Rattle.std.specs.List.{list_all, slice_get, AllByRecursion}
 use Rattle.base_values.specs.declared.kind.Kind.{Kind}

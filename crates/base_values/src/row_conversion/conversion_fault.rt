@@ -1,4 +1,4 @@
-//! Why a row has no image.
+//! Why a row can't be converted.
 
 use crate::{Fault, Unfit};
 
@@ -11,5 +11,5 @@ pub struct UnfitAt {
     pub unfit: Unfit,
 }
 
-/// Why a row has no image: a column refuses its value, or there is no memory.
+/// Why a row can't be converted: a column refuses its value, or there is no memory.
 pub type ConversionFault = Fault<UnfitAt>;

@@ -17,7 +17,7 @@ pub fn smooth_runs_are_done()
     verdicts_tell_the_alter();
 }
 
-/// So is a run of a plan without clients, commands and losses, each of whose rows has an image, that meets no limit.
+/// So is a run of a plan without clients, commands and losses, each of whose rows can be converted, that meets no limit.
 pub fn quiet_runs_are_done()
     ensures { QuietRunsAreDone }
 {

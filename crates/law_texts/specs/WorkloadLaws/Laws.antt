@@ -16,7 +16,7 @@ use Rattle.law_texts.specs.WorkloadLaws.Alters.{clauses, altered_schema, altered
 use Rattle.law_texts.specs.WorkloadLaws.Rows.{table_schema, opening_rows, opening_table}
 use Rattle.law_texts.specs.WorkloadLaws.Scripts.{script}
 
--- Its CREATE TABLE is read as this lawful schema, and its ALTER as these clauses, which make this lawful schema of it.
+-- Its CREATE TABLE is read as this valid schema, and its ALTER as these clauses, which make this valid schema of it.
 pub record AltersAreTaken : Type 0 where
   pub created : schema_at table_name create_text ≡ Ok table_schema
   pub valid : IsValid table_schema

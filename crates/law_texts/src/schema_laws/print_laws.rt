@@ -12,7 +12,7 @@ pub fn printed_columns_are_read()
     ensures { PrintedColumnsAreRead }
 {}
 
-/// The printed text of a lawful schema is a CREATE TABLE of its columns and keys.
+/// The printed text of a valid schema is a CREATE TABLE of its columns and keys.
 pub fn printed_schemas_are_written()
     ensures { PrintedSchemasAreWritten }
 {}

@@ -9,7 +9,7 @@ pub fn printed_schemas_are_read_again()
     ensures { PrintedSchemasAreReadAgain }
 {}
 
-/// Every schema that is read has lawful names, few keys of different names, and defaults that fit.
+/// Every schema that is read has valid names, few keys of different names, and defaults that fit.
 pub fn read_schemas_are_declared()
     ensures { ReadSchemasAreDeclared }
 {}

@@ -5,7 +5,7 @@ ghost use Rattle.law_texts.specs.WorkloadLaws.Laws.{AltersAreTaken, TablesAreRea
 use base_values::laws::stored_values_store_again;
 use table_store::laws::put_keeps_tables;
 
-/// A workload's CREATE TABLE and its ALTER are read, and both schemas are lawful.
+/// A workload's CREATE TABLE and its ALTER are read, and both schemas are valid.
 pub fn workload_alters_are_taken()
     ensures { AltersAreTaken }
 {}

@@ -42,8 +42,8 @@ tables_from migrated number tables (texts ∷ others) = do
   table ← table_at migrated number tables texts
   tables_from migrated (next_number number) (tables ++ (table ∷ [])) others
 
--- *Sound*: what each table is that is read. Its rows are rows of a lawful schema, in order of the clustered key, no two of
--- which clash.
+-- *Sound*: what each table is that is read. Its rows are rows of a valid schema, in order of the clustered key, no two of which
+-- clash.
 pub record IsSound (table : TableRows) : Type 0 where
   pub valid : IsValid table.schema
   pub is_table : IsTable table.schema table.rows

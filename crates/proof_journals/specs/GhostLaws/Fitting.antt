@@ -15,6 +15,6 @@ EventsFit tables [] = Unit {0}
 EventsFit tables (event ∷ events) =
     WhereFound (λ table. Fits table.schema table.rows event.change) (find_table event.table tables) × EventsFit (with_change event.table (change_table event.change) tables) events
 
--- *Fitting under locks*: what was written fits every orderly database that agrees with this one under the names and locks.
+-- *Fitting under locks*: what was written fits every well-formed database that agrees with this one under the names and locks.
 pub record IsFitting (names : List (List ℕ)) (locks : List Lock) (writes : List RowEvent) (tables : Database) : Type 0 where
   pub each : (other : Database) → IsWellFormedDatabase other → Agree names locks tables other → EventsFit other writes

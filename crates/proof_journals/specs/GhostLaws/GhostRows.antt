@@ -1,4 +1,5 @@
--- The ghost relation on rows, events and images: what every step of the copier, the applier and the clients keeps, whatever their order.
+-- The ghost relation on rows, events and converted rows: what every step of the copier, the applier and the clients keeps,
+-- whatever their order.
 pub mod Moments
 pub mod Changes
 pub mod Timelines

@@ -16,7 +16,7 @@ use Rattle.server_model.specs.Jobs.{events_of}
 use Rattle.server_model.specs.StatementLaws.Covering.{Apart}
 use Rattle.server_model.specs.StatementLaws.Databases.{EventsCovered, IsWellFormedDatabase}
 
--- *What the server keeps*: orderly tables, which each session's own writes fit, event by event; writes that are covered by
+-- *What the server keeps*: well-formed tables, which each session's own writes fit, event by event; writes that are covered by
 -- locks; and locks of two sessions that don't conflict
 pub record IsServed (now : Stored) (hold : ℕ → SessionHold) : Type 0 where
   pub well_formed : IsWellFormedDatabase now.tables

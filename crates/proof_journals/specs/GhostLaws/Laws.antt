@@ -79,7 +79,7 @@ abbrev pub WritesFit : Type 0
 WritesFit = (limits : Limits) (scene : Scene) (journal : List Entry) → IsSceneRun limits scene journal → IsServed (stored (scene_state limits scene journal)) (λ n. (face_of (scene_state limits scene journal).sessions n).hold)
 
 -- *Deeds are done*: where an entry's request was done, heard or missed, what is left of the tables, the log and of what
--- sessions hold is what its deed leaves.
+-- sessions hold is what its effect leaves.
 abbrev pub EffectsAreDone : Type 0
 EffectsAreDone =
     (limits : Limits) (scene : Scene) (journal : List Entry) (entry : Entry) (request : Request) (given : Answer) → IsSceneRun limits scene journal → IsEntryTold limits scene journal entry → about (opens entry (scene_state limits scene journal)) entry.session entry.asked ≡ Some request
@@ -87,7 +87,7 @@ EffectsAreDone =
     → EffectLeaves (effect (where_done entry.asked entry.session (opens entry (scene_state limits scene journal))) entry.session request) (is_lost entry.side) entry.session (stored (scene_state limits scene journal)) (stored (scene_state limits scene (journal ++ entry ∷ [])))
     (λ n. (face_of (scene_state limits scene journal).sessions n).hold) (λ n. (face_of (scene_state limits scene (journal ++ entry ∷ [])).sessions n).hold)
 
--- *What is told is what the deed answers*
+-- *What is answered is what the effect answers*
 abbrev pub EffectsAnswer : Type 0
 EffectsAnswer =
     (limits : Limits) (scene : Scene) (journal : List Entry) (entry : Entry) (request : Request) (given : Answer) → IsSceneRun limits scene journal → IsEntryTold limits scene journal entry → about (opens entry (scene_state limits scene journal)) entry.session entry.asked ≡ Some request
@@ -195,13 +195,13 @@ ChunkBegins =
     → ToolInvariant m at rows (Waiting (Some (record { low = low; high = Closed top }))) apply progress ghost copier applier now hold → Besides copier hold holds own → Within (hold copier).locks own.locks → Apart own.locks (hold applier).locks → own.writes ≡ (hold copier).writes → InChunk m at rows now own low high keys
     → ToolInvariant m at rows (Taking low high top keys 0) apply progress ghost copier applier now holds
 
--- *A row stands at each key that was told*, as long as the chunk is open.
+-- *A row stands at each key that was read*, as long as the chunk is open.
 abbrev pub ToldKeysStand : Type 0
 ToldKeysStand =
     (m : Migration) (at : Clustered m.schema) (rows : List Row) (low : Bound) (high top : Row) (keys : List Row) (n : ℕ) (apply : ApplyState) (progress : Progress Row) (ghost : GhostRows) (copier applier : ℕ) (now : Stored) (hold : ℕ → SessionHold) (k : ℕ) (key : Row) → IsPlanned m rows
     → ToolInvariant m at rows (Taking low high top keys n) apply progress ghost copier applier now hold → slice_get keys k ≡ Some key → SomeRow (key_places m.schema) key (rows_at m.name (key_places m.schema) rows now.log (length now.log))
 
--- *CopyRow*, that writes the image, or meets a row that clashes with it.
+-- *CopyRow*, that writes the converted row, or meets a row that clashes with it.
 abbrev pub RowCopies : Type 0
 RowCopies =
     (m : Migration) (at : Clustered m.schema) (rows : List Row) (low : Bound) (high top : Row) (keys : List Row) (n : ℕ) (apply : ApplyState) (progress : Progress Row) (ghost : GhostRows) (copier applier : ℕ) (now : Stored) (hold holds : ℕ → SessionHold) (own : SessionHold) (job : Job) (key row made : Row) → IsPlanned m rows
@@ -250,7 +250,7 @@ BatchIsPassed =
     (m : Migration) (at : Clustered m.schema) (rows : List Row) (copy : CopyState) (progress : Progress Row) (ghost : GhostRows) (copier applier : ℕ) (now : Stored) (hold : ℕ → SessionHold) (told : EventsTold) → IsPlanned m rows → ToolInvariant m at rows copy Idle progress ghost copier applier now hold
     → IsTold m.name now.log progress.position told → planned m (own_changes m.name told.events) ≡ [] → ToolInvariant m at rows copy Idle (record progress { position = told.next; reached = told.next; applier_holds = λ _. false }) (record ghost { batch = [] }) copier applier now hold
 
--- *REPLACE* of the image of a row that was written
+-- *REPLACE* of the converted row that was written
 abbrev pub RowIsPut : Type 0
 RowIsPut =
     (m : Migration) (at : Clustered m.schema) (rows : List Row) (copy : CopyState) (progress : Progress Row) (ghost : GhostRows) (copier applier : ℕ) (now : Stored) (hold holds : ℕ → SessionHold) (own : SessionHold) (job : Job) (next : ℕ) (row made : Row) (rest : List Doing) → IsPlanned m rows → IsServed now hold

@@ -1,4 +1,4 @@
--- What a deed leaves of the tables, the log and of what sessions hold.
+-- What an effect leaves of the tables, the log and of what sessions hold.
 use Rattle.std.specs.Prelude.{◌≡◌, ℕ, ◌==◌, Bool, true, false, ◌++◌, List, Option, Some, None}
 use Rattle.base_values.specs.declared.event.RowEvent.{RowEvent}
 use Rattle.base_script.specs.declared.actor.Side.{Side}
@@ -19,12 +19,12 @@ use Rattle.proof_journals.specs.Scenes.{Besides, SessionHold, Stored, no_hold}
 abbrev pub with_grant : SessionHold → Need → List RowEvent → SessionHold
 with_grant own need events = record { names = own.names ++ need.names; locks = own.locks ++ need.locks; writes = own.writes ++ events }
 
--- nothing, where the session is lost behind its deed
+-- nothing, where the session is lost behind its effect
 abbrev pub unless_lost : Bool → SessionHold → SessionHold
 unless_lost true own = no_hold
 unless_lost false own = own
 
--- *What a deed leaves*: the tables and the log, and what its session holds; other sessions hold what they held.
+-- *What an effect leaves*: the tables and the log, and what its session holds; other sessions hold what they held.
 abbrev pub EffectLeaves : Effect → Bool → ℕ → Stored → Stored → (ℕ → SessionHold) → (ℕ → SessionHold) → Type 0
 EffectLeaves (Rests answer) lost number now after hold holds = (after ≡ now) × Besides number hold holds (unless_lost lost (hold number))
 EffectLeaves (Grows answer need events) lost number now after hold holds =
@@ -52,7 +52,7 @@ abbrev pub is_lost : Option Side → Bool
 is_lost None = false
 is_lost (Some side) = true
 
--- what is told, heard or missed, says that the request was done
+-- what is answered, heard or missed, says that the request was done
 abbrev pub told_done : Option Answer → Bool
 told_done None = false
 told_done (Some given) = was_done given
@@ -62,7 +62,7 @@ abbrev pub undone_hold : Option Side → Answer → SessionHold → SessionHold
 undone_hold None (answers.Waits by) own = own
 undone_hold side answer own = no_hold
 
--- what a deed answers
+-- what an effect answers
 abbrev pub effect_answer : Effect → Answer
 effect_answer (Rests answer) = answer
 effect_answer (Grows answer need events) = answer

@@ -26,7 +26,7 @@ use Rattle.server_model.specs.Needing.{lock_on}
 use Rattle.server_model.specs.StatementLaws.Agreeing.{Among}
 
 -- *The copier*: between chunks, with what is left; or in a chunk: its low end and its end, the greatest key of the range, the
--- keys told, and how many of them are copied
+-- keys read, and how many of them are copied
 pub data CopyState : Type 0 where
   Waiting : Option Span → CopyState
   Taking : Bound → Row → Row → List Row → ℕ → CopyState
@@ -56,7 +56,7 @@ pub record HoldsSpan (m : Migration) (at : Clustered m.schema) (span : Span) (ow
   pub among : Among (lock_on m.schema false (record { key = at.place; span = span })) own.locks
   pub named : list_any (bytes_eq m.name) own.names ≡ true
 
--- in a chunk: the keys told are those of the rows up to its end, in a span that is held
+-- in a chunk: the keys read are those of the rows up to its end, in a span that is held
 pub record InChunk (m : Migration) (at : Clustered m.schema) (rows : List Row) (now : Stored) (own : SessionHold) (low : Bound) (high : Row) (keys : List Row) : Type 0 where
   pub far : Row
   pub within : is_le (compare_keys high far) ≡ true

@@ -15,9 +15,9 @@ abbrev pub SizeFits : OperatorWord → Type 0
 SizeFits (ChunkSize size) = 1 ≤ size
 SizeFits word = Unit {0}
 
--- *Fitting plan*: its scripts' transactions are whole; the migrated table's name leaves room for those of the tool's
--- tables; chunks and batches aren't empty; and the altered schema is lawful. (What a plan's reader asks of it, and what
--- an ALTER that is taken leaves.)
+-- *Fitting plan*: its scripts' transactions are whole; the migrated table's name leaves room for those of the tool's tables;
+-- chunks and batches aren't empty; and the altered schema is valid. (What a plan's reader asks of it, and what an ALTER that is
+-- taken leaves.)
 pub record IsFitting (plan : PlanData) : Type 0 where
   pub scripts : ScriptsFit plan
   pub names : AllByRecursion IsTableName (plan.table ∷ ghost_name plan.table ∷ log_name plan.table ∷ old_name plan.table ∷ [])

@@ -66,7 +66,7 @@ AnswersKeys plan request answer = Unit {0}
 
 -- WHAT THE COPIER KEEPS
 
--- the chunk's end was told in an earlier turn
+-- the chunk's end was read in an earlier turn
 pub record IsEndTold (plan : PlanData) (journal : List Entry) (told : ℕ) : Type 0 where
   pub answer : Answer
   pub is : answer_at journal told ≡ Some answer

@@ -1,6 +1,6 @@
--- *The sentry relation*: why the RENAME, whenever it runs, exchanges the table for its whole image. Stage by stage of an
--- attempt it says what stands on the server. Read it as a table; each stage's line implies that where the RENAME waits,
--- the sentry stands (so that the RENAME, run now, is refused), or the tables may be exchanged.
+-- *The sentry relation*: why the RENAME, whenever it runs, exchanges the table for the whole converted table. Stage by stage of
+-- an attempt it says what stands on the server. Read it as a table; each stage's line implies that where the RENAME waits, the
+-- sentry stands (so that the RENAME, run now, is refused), or the tables may be exchanged.
 use Rattle.std.specs.Prelude.{◌≡◌, ◌≢◌, ℕ, nat_eq, ◌≤◌, Bool, true, false, ◌&&◌, List, [], ◌∷◌, ◌++◌, take, drop, length, None, ◌⊎◌}
 use Rattle.std.specs.List.{list_any}
 use Rattle.base_values.specs.declared.event.RowEvent.{RowEvent}
@@ -234,7 +234,7 @@ Fits (Ending (Drops left)) hold waits = (hold ≡ Nothing) × (waits ≡ false)
 Fits (Finishing clearing) hold waits = waits ≡ false
 Fits Finished hold waits = waits ≡ false
 
--- where the locker has no call only the loss of its session is told; Unlock is done at once
+-- where the locker has no call only the loss of its session is seen; Unlock is done at once
 abbrev pub LockerMay : Phase → Hold → Answer → Type 0
 LockerMay (Attempting Hinting) hold answer = answer ≡ answers.Lost
 LockerMay (Attempting (Draining turns)) hold answer = answer ≡ answers.Lost

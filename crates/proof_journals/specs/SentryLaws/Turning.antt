@@ -73,7 +73,7 @@ IsRenamerFree (Attempting (Draining turns)) = Unit {0}
 IsRenamerFree (Attempting Drained) = Unit {0}
 IsRenamerFree phase = IsLockerFree phase
 
--- what is told of the answer: a loss between calls is told as Lost where the session had work, and else not at all
+-- what is seen of the answer: a loss between calls is seen as Lost where the session had work, and else not at all
 abbrev pub told_if : Bool → Option Answer
 told_if true = Some answers.Lost
 told_if false = None

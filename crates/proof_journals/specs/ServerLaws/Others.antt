@@ -94,7 +94,7 @@ abbrev pub OthersAgree : Type 0
 OthersAgree = (limits : Limits) (scene : Scene) (journal : List Entry) (entry : Entry) (other : ℕ) → IsSceneRun limits scene journal → (other == entry.session) ≡ false
     → Agree (face_of (scene_state limits scene journal).sessions other).hold.names (face_of (scene_state limits scene journal).sessions other).hold.locks (scene_state limits scene journal).tables (scene_state limits scene (journal ++ entry ∷ [])).tables
 
--- *Rows under a lock stay*: where two orderly databases agree under names and locks, a table of these names has the same
+-- *Rows under a lock stay*: where two well-formed databases agree under names and locks, a table of these names has the same
 -- rows, in the same order, under each of the locks
 abbrev pub RowsStay : Type 0
 RowsStay = (names : List (List ℕ)) (locks : List Lock) (a b : Database) (name : List ℕ) (one two : TableRows) (exclusive : Bool) (reach : Reach) → Agree names locks a b → IsWellFormedDatabase a → IsWellFormedDatabase b → list_any (bytes_eq name) names ≡ true → find_table name a ≡ Some one → find_table name b ≡ Some two

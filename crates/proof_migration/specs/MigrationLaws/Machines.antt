@@ -94,7 +94,7 @@ pub record IsApplierTurn (m : Migration) (limits : Limits) (scene : Scene) (jour
   pub fits : (place number : ℕ) → appliers.progress applier entry.answer ≡ Unfit place number → ⊥
 
 -- *A turn of the migration*: of the copier's program, of the applier's, of another session; or one of the two is lost between
--- calls, which its machine is told, unless its session had nothing.
+-- calls, which its machine sees, unless its session had nothing.
 pub data MigrationTurn (m : Migration) (limits : Limits) (scene : Scene) (journal : List Entry) (entry : Entry) (before after : Machines) : Type 0 where
   copier_turns : IsCopierTurn m limits scene journal entry before.copier before.copier_session → after ≡ record before { copier = copiers.took (length journal + 1) before.copier entry.answer } → MigrationTurn m limits scene journal entry before after
   applier_turns : IsApplierTurn m limits scene journal entry before.applier before.applier_session → after ≡ record before { applier = appliers.took (length journal + 1) before.applier entry.answer } → MigrationTurn m limits scene journal entry before after
@@ -104,8 +104,8 @@ pub data MigrationTurn (m : Migration) (limits : Limits) (scene : Scene) (journa
   applier_is_cut : IsCut entry before.applier_session → after ≡ record before { applier = record (before.applier) { step = Reading } } → MigrationTurn m limits scene journal entry before after
   applier_is_idle : IsCut entry before.applier_session → hold_at (scene_state limits scene journal) before.applier_session ≡ no_hold → IsUnbusy (before.applier).step → after ≡ before → MigrationTurn m limits scene journal entry before after
 
--- *A move between turns*: a machine goes on in another session that holds nothing; or chunks get another size, or the one does whose
--- end was told (where its call waited while the size was set)
+-- *A move between turns*: a machine goes on in another session that holds nothing; or chunks get another size, or the one does
+-- whose end was read (where its call waited while the size was set)
 pub data MigrationMove (limits : Limits) (scene : Scene) (journal : List Entry) (before after : Machines) : Type 0 where
   copier_moves : (session : ℕ) → IsBetween (before.copier).step → hold_at (scene_state limits scene journal) session ≡ no_hold → (session == before.applier_session) ≡ false → after ≡ record before { copier_session = session } → MigrationMove limits scene journal before after
   applier_moves : (session : ℕ) → hold_at (scene_state limits scene journal) before.applier_session ≡ no_hold → IsUnbusy (before.applier).step → hold_at (scene_state limits scene journal) session ≡ no_hold → (before.copier_session == session) ≡ false → after ≡ record before { applier_session = session }

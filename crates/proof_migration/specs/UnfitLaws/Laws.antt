@@ -1,4 +1,4 @@
--- Which rows without an image, as a verdict names them, stand.
+-- Which rows that can't be converted, as a verdict names them, stand.
 use Rattle.std.specs.Prelude.{◌≡◌, ℕ, List}
 use Rattle.base_values.specs.declared.value.Value.{Value}
 use Rattle.server_model.specs.declared.entry.Entry.{Entry}
@@ -11,8 +11,8 @@ use Rattle.proof_journals.specs.Plans.{IsSerialPlan}
 use Rattle.proof_journals.specs.RunLaws.Kept.{IsKept}
 use Rattle.proof_migration.specs.CourseLaws.RunnableLaws.Laws.{IsAlterable, IsWorded}
 
--- *Unfit rows stand*: where a verdict names a row without an image, a value was refused so in that turn. The row stood in the
--- migrated table then, where the turn was the copier's; or an event of the table left it, where it was the applier's.
+-- *Unfit rows stand*: where a verdict names a row that can't be converted, a value was refused so in that turn. The row stood
+-- in the migrated table then, where the turn was the copier's; or an event of the table left it, where it was the applier's.
 abbrev pub UnfitRowsStand : Type 0
 UnfitRowsStand =
     (plan : PlanData) → IsAlterable plan → IsWorded plan → IsSerialPlan plan → (journal : List Entry) → IsKept plan journal → (turn : ℕ) (key : List Value) (column : List ℕ) (number : ℕ) → verdict_of plan journal ≡ Reverted (causes.Unfit turn key column number)

@@ -27,7 +27,7 @@ pub record IsQuiet (plan : PlanData) : Type 0 where
   pub operator : plan.operator ≡ []
   pub faults : plan.faults ≡ []
 
--- the row has an image under the map of the ALTER
+-- the row can be converted under the map of the ALTER
 abbrev pub HasConvertedRow : PlanData → List Value → Type 0
 HasConvertedRow plan row = (made : List Value) × (converted_row (new_map plan) row ≡ Ok made)
 
@@ -35,7 +35,7 @@ abbrev pub AllHaveConvertedRows : PlanData → Option TableRows → Type 0
 AllHaveConvertedRows plan None = Unit {0}
 AllHaveConvertedRows plan (Some table) = AllByRecursion (HasConvertedRow plan) table.rows
 
--- *Rows have images*: so does each of the migrated table's.
+-- *Rows can be converted*: so can each of the migrated table's.
 abbrev pub RowsHaveConvertedRows : PlanData → Type 0
 RowsHaveConvertedRows plan = AllHaveConvertedRows plan (find_table plan.table plan.tables)
 
@@ -52,14 +52,14 @@ pub record IsWithin (plan : PlanData) (before : List Entry) (entry : Entry) : Ty
 abbrev pub IsWithinLimits : PlanData → List Entry → Type 0
 IsWithinLimits plan journal = Along (λ before entry. is_renamed (moment plan before).tool.course ≡ false → IsWithin plan before entry) [] journal
 
--- *Quiet runs are done*: of a quiet plan, each of whose rows has an image, the verdict of a run within limits that has ended
--- is *done*.
+-- *Quiet runs are done*: of a quiet plan, each of whose rows can be converted, the verdict of a run within limits that has
+-- ended is *done*.
 abbrev pub QuietRunsAreDone : Type 0
 QuietRunsAreDone =
     (plan : PlanData) (journal : List Entry) → IsQuiet plan → RowsHaveConvertedRows plan → IsRunnable plan → IsSerialPlan plan → IsKept plan journal → IsWithinLimits plan journal → has_ended plan journal ≡ true → verdict_of plan journal ≡ Done
 
--- *Accepted quiet runs are done*: of a plan that was read and is quiet, each of whose rows has an image, the verdict of a run
--- within limits, in which no actor is ready any more, is *done*.
+-- *Accepted quiet runs are done*: of a plan that was read and is quiet, each of whose rows can be converted, the verdict of a
+-- run within limits, in which no actor is ready any more, is *done*.
 abbrev pub AcceptedQuietRunsAreDone : Type 0
 AcceptedQuietRunsAreDone =
     (plan : PlanData) (journal : List Entry) → WasRead plan → IsQuiet plan → RowsHaveConvertedRows plan → IsKept plan journal → IsWithinLimits plan journal → list_any (is_ready plan journal) (actors plan) ≡ false → verdict_of plan journal ≡ Done

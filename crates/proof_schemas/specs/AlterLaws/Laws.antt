@@ -19,11 +19,11 @@ use Rattle.sql_alter.specs.Reading.{alter_at}
 abbrev pub Altered : Type 0
 Altered = Schema × List MapColumn
 
--- the key of each row's image is the row's
+-- the key of each converted row is the row's
 abbrev pub KeepsKeys : Schema → Altered → Index → Index → Type 0
 KeepsKeys schema new old index = (row made : List Value) → IsRow schema.columns row → converted_row new.1 row ≡ Ok made → key_of index.places made ≡ key_of old.places row
 
--- the key is one of the old table's, whose key each row's image has
+-- the key is one of the old table's, whose key each converted row has
 pub record Stays (schema : Schema) (new : Altered) (index : Index) : Type 0 where
   pub place : ℕ
   pub old : Index
@@ -31,24 +31,24 @@ pub record Stays (schema : Schema) (new : Altered) (index : Index) : Type 0 wher
   pub name : old.name ≡ index.name
   pub keeps : KeepsKeys schema new old index
 
--- Each unique key of an altered table is one of the old table, and a row's image has the row's own key.
+-- Each unique key of an altered table is one of the old table, and a converted row has its row's own key.
 abbrev pub ConvertedRowsKeepKeys : Type 0
 ConvertedRowsKeepKeys =
     (approve : Bool) (schema : Schema) (clauses : List Clause) (new : Altered) (place : ℕ) (index : Index) → IsValid schema → altered approve schema clauses ≡ Ok new → slice_get new.0.uniques place ≡ Some index → Stays schema new index
 
--- Rows that don't clash have images that don't clash.
+-- Rows that don't clash have converted rows that don't clash.
 abbrev pub ConvertedRowsStayApart : Type 0
 ConvertedRowsStayApart =
     (approve : Bool) (schema : Schema) (clauses : List Clause) (new : Altered) (a b made other : List Value) → IsValid schema → altered approve schema clauses ≡ Ok new → IsRow schema.columns a → IsRow schema.columns b → converted_row new.1 a ≡ Ok made → converted_row new.1 b ≡ Ok other
     → clash new.0.uniques made other ≡ true → clash schema.uniques a b ≡ true
 
--- Rows with different clustered keys have images with different clustered keys.
+-- Rows with different clustered keys have converted rows with different clustered keys.
 abbrev pub ClusteredKeysStay : Type 0
 ClusteredKeysStay =
     (approve : Bool) (schema : Schema) (clauses : List Clause) (new : Altered) (old index : Index) → IsValid schema → altered approve schema clauses ≡ Ok new → clustered_key schema ≡ Some old → clustered_key new.0 ≡ Some index
     → KeepsKeys schema new old index
 
--- The clustered key of a row's image is the row's.
+-- The clustered key of a converted row is the row's.
 abbrev pub ConvertedRowsKeepClusteredKeys : Type 0
 ConvertedRowsKeepClusteredKeys =
     (approve : Bool) (schema : Schema) (clauses : List Clause) (new : Altered) (row made : List Value) → IsValid schema → altered approve schema clauses ≡ Ok new → IsRow schema.columns row → converted_row new.1 row ≡ Ok made
@@ -67,7 +67,7 @@ IsClause (Change old column column_position) = is_kind column.kind ≡ true
 IsClause (AddIndex name columns) = Unit {0}
 IsClause (DropIndex name) = Unit {0}
 
--- Every altered schema is lawful.
+-- Every altered schema is valid.
 abbrev pub AlteredSchemasAreValid : Type 0
 AlteredSchemasAreValid = (approve : Bool) (schema : Schema) (clauses : List Clause) (new : Altered) → IsValid schema → AllByRecursion IsClause clauses → altered approve schema clauses ≡ Ok new → IsValid new.0
 
@@ -75,7 +75,7 @@ AlteredSchemasAreValid = (approve : Bool) (schema : Schema) (clauses : List Clau
 abbrev pub ReadClausesWriteKinds : Type 0
 ReadClausesWriteKinds = (table text : List ℕ) (clauses : List Clause) → alter_at table text ≡ Ok clauses → AllByRecursion IsClause clauses
 
--- The image of a row is a row of the altered table.
+-- A converted row is a row of the altered table.
 abbrev pub ConvertedRowsAreRows : Type 0
 ConvertedRowsAreRows = (approve : Bool) (schema : Schema) (clauses : List Clause) (new : Altered) (row made : List Value) → IsValid schema → altered approve schema clauses ≡ Ok new → converted_row new.1 row ≡ Ok made → IsRow new.0.columns made
 

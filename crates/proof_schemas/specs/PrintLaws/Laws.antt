@@ -107,6 +107,6 @@ table_read schema = record {
   comment = schema.comment;
 }
 
--- The printed text of a lawful schema is a CREATE TABLE of its columns and keys.
+-- The printed text of a valid schema is a CREATE TABLE of its columns and keys.
 abbrev pub PrintedSchemasAreWritten : Type 0
 PrintedSchemasAreWritten = (schema : Schema) → CanPrint schema → IsValid schema → written (text_words (printed_schema schema)) ≡ Ok (table_read schema)

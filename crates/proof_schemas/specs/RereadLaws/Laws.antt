@@ -30,7 +30,9 @@ key_names indexes = filter_map (λ index. index.name) indexes
 abbrev pub has_default : Column → Bool
 has_default column = not column.nullable || is_some column.default
 
--- What CREATE TABLE gives besides a lawful schema, where the table of this name is migrated: names of lawful lengths, none of them kept for the migration's own tables; at most 8 unique keys and 8 others, of different names, the PRIMARY KEY in front; a default of each column that may be null, and defaults that fit together.
+-- What CREATE TABLE gives besides a valid schema, where the table of this name is migrated: names of valid lengths, none of
+-- them kept for the migration's own tables; at most 8 unique keys and 8 others, of different names, the PRIMARY KEY in front; a
+-- default of each column that may be null, and defaults that fit together.
 pub record IsDeclared (migrated : List ℕ) (schema : Schema) : Type 0 where
   pub name : is_table_name (is_tool_name migrated schema.name) schema.name ≡ true
   pub unreserved : is_reserved (is_tool_name migrated schema.name) schema.name ≡ false

@@ -14,7 +14,7 @@ line_outcome_as clients.Waits = Waits
 line_outcome_as (clients.Marked mark reply) = Marked mark
 line_outcome_as clients.Broken = Broken
 
--- *Reached*: the seat has how far the client is in this script
+-- *Reached*: the actor state has how far the client is in this script
 pub record IsReached (script : List ScriptLine) (actor_state : ClientState) (client : clients.Reached) : Type 0 where
   pub left : client.left ≡ drop actor_state.place script
   pub inside : clients.is_inside client.lines ≡ actor_state.is_inside

@@ -1,4 +1,4 @@
-//! Workers at a desk, each in a thread of its own.
+//! The workers of a turn queue, each in a thread of its own.
 
 ghost use Rattle.std.specs.Prelude.{◌≡◌, ◌≤◌, ◌<◌, ◌^◌, [], length, map, vec_len, vec_capacity, All, Any, IfOk};
 ghost use Rattle.run_desk.specs.declared.shared_state.Turned.TheVariants as turned;
@@ -18,14 +18,14 @@ use std::thread::{self, Threads};
 /// The most workers that there are.
 const WORKERS: usize = 16;
 
-/// What workers leave of a book.
+/// What workers leave of a shared state.
 #[derive(Drop)]
 pub struct Done<B: SharedState> {
-    /// The book, with the turns of all workers.
+    /// The shared state, with the turns of all workers.
     pub shared_state: B,
     /// How their turns ended.
     pub ending: Ending,
-    /// The passes with which the desk was closed, for contracts alone: each has its worker's turns in their order.
+    /// The passes with which the turn queue was closed, for contracts alone: each has its worker's turns in their order.
     pub passes: Snapshot<Passes<B>>,
 }
 
@@ -56,7 +56,7 @@ fn work<B: SharedState, R: Wait, G: Gate>(
     unreachable!()
 }
 
-/// A desk for a book whose list is empty, with its workers before their first turns, and room for their passes.
+/// A turn queue for a shared state whose list is empty, with its workers before their first turns, and room for their passes.
 fn open_turn_queue<B: SharedState + Drop>(
     alloc: Global,
     shared_state: B,
@@ -77,7 +77,7 @@ fn open_turn_queue<B: SharedState + Drop>(
     }
 }
 
-/// The book of a desk whose workers have stopped, with the turns of all of them.
+/// The shared state of a turn queue whose workers have stopped, with the turns of all of them.
 fn close_turn_queue<B: SharedState + Drop>(
     turn_queue: TurnQueue<B>,
     workers: Workers<B>,
@@ -126,7 +126,8 @@ fn work_all<B: SharedState + Send, R: Threads + Wait + Sync, G: Gate + Sync>(
     );
 }
 
-/// Lets so many workers take turns at a book, each in a thread of its own, until none is left or there is no memory for one.
+/// Lets so many workers take turns at a shared state, each in a thread of its own, until none is left or there is no memory for
+/// one.
 pub fn take_turns<B: SharedState + Drop + Send, R: Threads + Wait + Sync, G: Gate + Sync>(
     rt: &R,
     alloc: Global,

@@ -1,11 +1,11 @@
-//! The workers of a desk.
+//! The workers of a turn queue.
 
 ghost use Rattle.std.specs.Prelude.{◌≡◌, ◌≤◌, [], length, map, vec_len, vec_capacity, IfOk};
 
 use crate::{Pass, Passes, SharedState, Turned};
 use std::alloc::{AllocError, Global};
 
-/// A worker of a desk.
+/// A worker of a turn queue.
 #[derive(Drop)]
 pub(crate) struct Worker<B: SharedState> {
     /// Its pass.
@@ -14,7 +14,7 @@ pub(crate) struct Worker<B: SharedState> {
     pub(crate) answer: Turned,
 }
 
-/// The workers of a desk.
+/// The workers of a turn queue.
 pub(crate) type Workers<B> = Vec<Worker<B>>;
 
 /// The workers of these passes, before their first turns.

@@ -1,4 +1,4 @@
-//! What one turn makes of the book. Nothing here takes memory but room for a turn, which is made before it.
+//! What one turn makes of the run state. Nothing here takes memory but room for a turn, which is made before it.
 
 ghost use Rattle.std.specs.Prelude.{◌≡◌, ◌+◌, ◌<◌, ◌^◌, [], ◌∷◌, ◌++◌, length, true, OnOk};
 ghost use Rattle.base_script.specs.declared.actor.Actor.TheVariants.{Client};
@@ -16,7 +16,7 @@ use run_actors::{is_alter_turn, take_turn};
 use server_model::{Entry, KeyRange};
 use std::alloc::AllocError;
 
-/// What a turn told besides its entry.
+/// What a turn found out besides its entry.
 #[derive(Drop)]
 pub struct TurnFacts {
     /// A copy of the range of keys that its answer tells.
@@ -29,7 +29,7 @@ pub struct TurnFacts {
     pub busy: u64,
 }
 
-/// Makes room for one turn more. Where there is no memory, the book says what it said.
+/// Makes room for one turn more. Where there is no memory, the run state says what it said.
 #[tactic(auto, using(crate::proofs::Keeping::roomed))]
 pub fn reserve(run_state: &mut RunState<'_>) -> Result<(), AllocError>
     requires { IsRunState run_state.old.plan.now run_state.old.journal.items run_state.old }

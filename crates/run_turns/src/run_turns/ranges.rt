@@ -1,4 +1,4 @@
-//! The range of keys that a turn may be told, copied before the turn.
+//! The range of keys that a turn may get, copied before the turn.
 
 ghost use Rattle.std.specs.Prelude.{◌≡◌, IfOk};
 ghost use Rattle.table_store.specs.Databases.{database};
@@ -21,7 +21,7 @@ fn range_in(alloc: Global, name: &Name, tables: &Tables) -> Result<Option<KeyRan
     Ok(range_of(ends(alloc, tables, name)?))
 }
 
-/// The range that a turn of the actor may be told, from the tables before it: the inspector alone asks for one.
+/// The range that a turn of the actor may get, from the tables before it: the inspector alone asks for one.
 pub fn ahead_of(
     alloc: Global,
     plan: &Plan,

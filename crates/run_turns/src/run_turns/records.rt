@@ -1,4 +1,4 @@
-//! What the book keeps of a turn that was taken. Nothing here takes memory.
+//! What the run state keeps of a turn that was taken. Nothing here takes memory.
 
 ghost use Rattle.std.specs.Prelude.{◌≡◌, ◌+◌, ◌<◌, ◌^◌, [], ◌∷◌, ◌++◌, length, true};
 ghost use Rattle.server_model.specs.States.{has_work, load};
@@ -14,7 +14,7 @@ use run_state::RunState;
 use run_state::run_state_turns::{TurnFacts, take};
 use server_model::KeyRange;
 
-/// Writes a turn into the book. The range that it may be told comes with a copy of it.
+/// Writes a turn into the run state. The range that it may get comes with a copy of it.
 pub fn keep(run_state: &mut RunState<'_>, ahead: Option<KeyRange>, taken: Taken)
     requires run_state { IsRunState run_state.old.plan.now run_state.old.journal.items run_state.old }
     requires planned { is_planned run_state.old.plan.now taken.entry.actor ≡ true }

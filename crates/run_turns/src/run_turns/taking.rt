@@ -1,4 +1,4 @@
-//! A turn that is due, taken: all memory first, then the server's answer, then the book.
+//! A turn that is due, taken: all memory first, then the server's answer, then the run state.
 
 ghost use Rattle.std.specs.Prelude.{◌≡◌, ◌+◌, ◌<◌, ◌^◌, [], ◌∷◌, ◌++◌, length, OnOk, OnErr};
 ghost use Rattle.tool_program.specs.JournalWords.Journals.{after_entry};

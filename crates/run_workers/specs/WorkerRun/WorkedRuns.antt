@@ -66,7 +66,7 @@ pub record WasOver (plan : PlanData) (journal : List Entry) : Type 0 where
   pub is : journal ≡ front ++ rest
   pub over : is_over plan front ≡ true
 
--- What was over stays so. (Its proof stands here, since a book's law is proved beside its definition.)
+-- What was over stays so. (Its proof stands here, since a shared state's law is proved beside its definition.)
 pub stays_over : (plan : PlanData) (before after : List (Taken Entry)) → WasOver plan (journal_of before) → WasOver plan (journal_of (before ++ after))
 stays_over plan before after was = record {
   front = was.front;

@@ -22,7 +22,7 @@ pub(crate) enum Wanted {
     Waiting,
 }
 
-/// Whether the actor in this seat is one that the worker looks for.
+/// Whether this actor is one that the worker looks for.
 #[tactic(auto, using(crate::proofs::WorkerRun::Waiting::unready_wanted, crate::proofs::WorkerRun::Waiting::own_wanted, crate::proofs::WorkerRun::Waiting::own_unidle, crate::proofs::WorkerRun::Waiting::own_unwaiting, crate::proofs::WorkerRun::Waiting::idle_wanted, crate::proofs::WorkerRun::Waiting::waiting_wanted))]
 fn is_wanted<V: Serve>(run: &Run<'_, V>, member: Member, seat: Seat, sought: Wanted) -> bool
     requires some { 0 < member.workers }
@@ -42,7 +42,7 @@ fn is_wanted<V: Serve>(run: &Run<'_, V>, member: Member, seat: Seat, sought: Wan
     }
 }
 
-/// The first seat from a place on whose actor the worker looks for.
+/// The first actor, from a place on, that the worker looks for.
 #[tactic(auto, using(crate::proofs::WorkerRun::Seeking::found_here, crate::proofs::WorkerRun::Seeking::found_later, crate::proofs::WorkerRun::Seeking::found_none, crate::proofs::WorkerRun::Waiting::wanted_ready))]
 fn next_seat<V: Serve>(
     run: &Run<'_, V>,

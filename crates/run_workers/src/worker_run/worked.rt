@@ -18,7 +18,7 @@ use server_model::Entry;
 use std::alloc::{AllocError, Global};
 use std::marker::Model;
 
-/// What a worked run begins with, for the desk's contracts alone. No value of it is made.
+/// What a worked run begins with, for the turn queue's contracts alone. No value of it is made.
 #[derive(Drop)]
 pub struct Opening {
     /// The plan.

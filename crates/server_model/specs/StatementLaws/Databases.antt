@@ -1,4 +1,4 @@
--- Databases whose tables are orderly; events that are covered by names and locks; and jobs that make rows of their table.
+-- Databases whose tables are well formed; events that are covered by names and locks; and jobs that make rows of their table.
 use Rattle.std.specs.Prelude.{◌≡◌, ℕ, true, List, Option, Some, None}
 use Rattle.std.specs.List.{AllByRecursion, list_any}
 use Rattle.std.specs.Str.{bytes_eq}
@@ -13,7 +13,7 @@ abbrev pub WhereFound : (TableRows → Type 0) → Option TableRows → Type 0
 WhereFound P None = Unit {0}
 WhereFound P (Some table) = P table
 
--- each table that is found is orderly
+-- each table that is found is well formed
 pub record IsWellFormedDatabase (tables : Database) : Type 0 where
   pub each : (name : List ℕ) → WhereFound IsWellFormedTable (find_table name tables)
 

@@ -43,7 +43,7 @@ WorkIsSound = (schema : Schema) (statement : Statement) → AllByRecursion (λ c
 abbrev pub SoundWorkKeepsTables : Type 0
 SoundWorkKeepsTables = (schema : Schema) → HasClusteredKey schema → (rows : List (List Value)) (work : Work) → IsSound schema.columns work → IsTable schema rows → IsTable schema (change_all (key_places schema) (tells schema rows work).changes rows)
 
--- *Statements keep databases*: an orderly database stays one.
+-- *Statements keep databases*: a well-formed database stays one.
 abbrev pub StatementsKeepDatabases : Type 0
 StatementsKeepDatabases = (tables : Database) (statement : Statement) → IsWellFormedDatabase tables → IsWellFormedDatabase (after_events tables (says tables statement).events)
 

@@ -9,11 +9,11 @@ use Rattle.server_model.specs.Alone.{Ran, lines_run, nothing_ran}
 use Rattle.server_model.specs.StatementLaws.Agreeing.{Agree}
 use Rattle.server_model.specs.StatementLaws.Databases.{IsWellFormedDatabase}
 
--- the lines run so on this database, which they leave orderly
+-- the lines run so on this database, which they leave well formed
 pub record RunSo (lines : List TxnLine) (ran : Ran) (tables : Database) : Type 0 where
   pub runs : lines_run tables nothing_ran lines ≡ ran
   pub well_formed : IsWellFormedDatabase (after_events tables ran.writes)
 
--- *Stable*: on every orderly database that agrees with this one under the names and the locks, the lines run so.
+-- *Stable*: on every well-formed database that agrees with this one under the names and the locks, the lines run so.
 pub record Stable (names : List (List ℕ)) (locks : List Lock) (lines : List TxnLine) (ran : Ran) (tables : Database) : Type 0 where
   pub each : (other : Database) → IsWellFormedDatabase other → Agree names locks tables other → RunSo lines ran other

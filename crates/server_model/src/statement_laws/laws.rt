@@ -12,7 +12,8 @@ pub fn writes_are_covered()
     ensures { WritesAreCovered }
 {}
 
-/// Statements leave tables what they are: a statement's work is sound, sound work leaves a table a table, and so every statement leaves an orderly database orderly.
+/// Statements leave tables what they are: a statement's work is sound, sound work leaves a table a table, and so every
+/// statement leaves a well-formed database well formed.
 pub fn statements_keep_tables()
     ensures sound { WorkIsSound }
     ensures tables { SoundWorkKeepsTables }

@@ -75,7 +75,7 @@ fn need_of(alloc: Global, request: &Request, locks: LockSet) -> Result<Need, All
 }
 
 impl Sessions {
-    /// The desk at its start, without a session. Its log watches these tables.
+    /// No session, as at the server's start. Its log watches these tables.
     pub fn new(alloc: Global, limits: Limits, watched: Names) -> Sessions
         requires clients { 1 ≤ limits.client_wait }
         requires tools { 1 ≤ limits.tool_wait }

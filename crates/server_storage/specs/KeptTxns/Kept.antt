@@ -11,7 +11,7 @@ use Rattle.server_storage.specs.declared.open_txns.txns.OpenTxn.{OpenTxn}
 use Rattle.server_storage.specs.OpenTxns.Open.{txn_of, written_of, puts_open, OneEach, Takes}
 use Rattle.server_storage.specs.KeptTxns.TxnLaws.Laws.{HasEvents}
 
--- *Kept*: the committed tables are orderly, each session has at most one open transaction, each is one of the database and
+-- *Kept*: the committed tables are well formed, each session has at most one open transaction, each is one of the database and
 -- has an event of each table to which it wrote, and each table has room for what all open commits put.
 pub record IsKept (tables : List StoredTable) (txns : List OpenTxn) : Type 0 where
   pub well_formed : IsWellFormedDatabase (database tables)

@@ -18,7 +18,7 @@ use Rattle.server_storage.specs.KeptTxns.Kept.{IsKept, IsReadyWrites, MayBeCommi
 
 -- WHAT A STATEMENT DOES
 
--- *Beginning keeps*: orderly tables without an open transaction.
+-- *Beginning keeps*: well-formed tables without an open transaction.
 abbrev pub BeginningKeeps : Type 0
 BeginningKeeps = (tables : List StoredTable) → IsWellFormedDatabase (database tables) → IsKept tables []
 
@@ -42,7 +42,7 @@ RoomMakesReady =
     (tables : List StoredTable) (txns : List OpenTxn) (number count : ℕ) (writes : TableChanges) → IsKept tables txns → IsSome (txn_of number txns) → IfSome (txn_of number txns) (λ one. HasRoom one.txn writes) → HasSchema (database tables) writes.schema
     → (length writes.changes == 0) ≡ false → ((name : List ℕ) → puts_open name txns ≤ count) → count + length writes.changes ≤ spare_in writes.schema.name tables → IsReadyWrites tables txns number writes
 
--- *Writing keeps*: where writes that are ready, fit and leave the tables orderly are written.
+-- *Writing keeps*: where writes that are ready, fit and leave the tables well formed are written.
 abbrev pub WritingKeeps : Type 0
 WritingKeeps =
     (tables : List StoredTable) (number : ℕ) (writes : TableChanges) (before after : List OpenTxn) → IsKept tables before → IsReadyWrites tables before number writes → EventsFit (after_events (database tables) (written_of number before)) (events_in writes)
@@ -54,8 +54,8 @@ WritingKeeps =
 abbrev pub KeptMayBeCommitted : Type 0
 KeptMayBeCommitted = (tables : List StoredTable) (number : ℕ) (txn : StoredTxn) (txns : List OpenTxn) → IsKept tables txns → Some txn ≡ option_map (λ one. one.txn) (txn_of number txns) → MayBeCommitted tables txn
 
--- *Committing keeps*: where the session's transaction is committed, and what each other one wrote fits the tables as they
--- then are and leaves them orderly.
+-- *Committing keeps*: where the session's transaction is committed, and what each other one wrote fits the tables as they then
+-- are and leaves them well formed.
 abbrev pub CommittingKeeps : Type 0
 CommittingKeeps =
     (was now : List StoredTable) (number : ℕ) (txn : StoredTxn) (txns : List OpenTxn) → IsKept was txns → Some txn ≡ option_map (λ one. one.txn) (txn_of number txns) → database now ≡ after_events (database was) txn.events

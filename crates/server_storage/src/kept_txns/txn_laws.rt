@@ -2,7 +2,7 @@
 
 ghost use Rattle.server_storage.specs.KeptTxns.TxnLaws.Laws.{TransactionsBegin, TransactionsGrow, TransactionsOutlastCommits, TransactionsOutlastCreations, TransactionsOutlastDrops, TransactionsOutlastRenames};
 
-/// A transaction that wrote nothing is one of every orderly database.
+/// A transaction that wrote nothing is one of every well-formed database.
 pub fn transactions_begin()
     ensures { TransactionsBegin }
 {}

@@ -20,7 +20,7 @@ use server_transaction::{Txn, Writes};
 use std::alloc::{AllocError, Global};
 use table_store::paged_tables::Tables;
 
-/// What is said where the session copies the image of a row, and what it writes.
+/// What is said where the session copies a converted row, and what it writes.
 pub fn say_copied(
     alloc: Global,
     tables: &Tables,

@@ -1,4 +1,4 @@
-//! What is said, written and needed where a session copies the image of a row.
+//! What is said, written and needed where a session copies a converted row.
 
 ghost use Rattle.std.specs.Prelude.{◌≡◌, IfOk, IfSome};
 ghost use Rattle.base_values.specs.GhoSchema.Rows.{key_places};
@@ -77,8 +77,8 @@ fn needs_of_unwritten(alloc: Global, table: &Table, work: &Work) -> Result<LockS
     needs_of(alloc, table, &written, work)
 }
 
-/// What is said where the session copies the image of the row of this clustered key from the one table into the other, and
-/// what it writes, made ready.
+/// What is said where the session copies the row of this clustered key, converted, from the one table into the other, and what
+/// it writes, made ready.
 pub fn say_copy(
     alloc: Global,
     tables: &Tables,

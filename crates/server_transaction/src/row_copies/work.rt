@@ -1,4 +1,4 @@
-//! What the copy of a row comes to: the insertion of its image, or a refusal.
+//! What the copy of a row comes to: the insertion of its converted row, or a refusal.
 
 ghost use Rattle.std.specs.Prelude.{◌≡◌, Some, IfOk, option_copied, slice_get};
 ghost use Rattle.std.specs.Option.{option_map};
@@ -50,7 +50,7 @@ fn rows_at(alloc: Global, seen: &SeenTable<'_>, key: &Key) -> Result<Rows, Alloc
     }
 }
 
-/// The insertion of an image, or the refusal of a value that doesn't fit its column.
+/// The insertion of a converted row, or the refusal of a value that doesn't fit its column.
 fn work_of_converted_row(
     alloc: Global,
     converted_row: &Row,

@@ -71,8 +71,8 @@ pub trait Data: Drop {
         ensures committed { committed self.new ≡ committed self.old }
         ensures written { (other : ℕ) → written self.new other ≡ written self.old other };
 
-    /// What is said where the session copies the image of the row of this clustered key from the one table into the
-    /// other. Room is made for what is written and for its commit.
+    /// What is said where the session copies the row of this clustered key, converted, from the one table into the other. Room
+    /// is made for what is written and for its commit.
     fn copy_row(
         &mut self,
         session: u32,

@@ -10,7 +10,7 @@ use std::alloc::AllocError;
 /// The number of the error that a time-out is (MySQL's manual, "Server Error Message Reference").
 const TIMED_OUT: u16 = 1205;
 
-/// What a client is told of an answer.
+/// What a client sees of an answer.
 fn reply_of(answer: &Answer) -> Result<Option<Reply>, AllocError>
     ensures { IfOk result (λ reply. reply ≡ reply_of answer.now) }
 {
@@ -23,7 +23,7 @@ fn reply_of(answer: &Answer) -> Result<Option<Reply>, AllocError>
     })
 }
 
-/// What it is told where it heard an answer or none.
+/// What it sees where it heard an answer or none.
 pub(crate) fn heard_reply(heard: Option<&Answer>) -> Result<Option<Reply>, AllocError>
     ensures { IfOk result (λ reply. reply ≡ option_and_then (λ answer. reply_of answer.now) heard.entry) }
 {

@@ -141,7 +141,7 @@ fn is_table_name(name: &Name) -> bool
     1 <= text.len() && text.len() <= 255 && is_column_name(text)
 }
 
-/// The lawful schema of a text of CREATE TABLE.
+/// The valid schema of a text of CREATE TABLE.
 #[tactic(auto, using(proof_schemas::proofs::Stored::schemas_valid))]
 fn schema_of(alloc: Global, text: &str) -> Result<Schema, CallFault>
     ensures { IfOk result IsValid }

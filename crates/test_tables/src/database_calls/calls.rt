@@ -1,7 +1,7 @@
-//! Calls on the tables of a database, with semicolons between them: `add`, `put`, `remove`, `rename`, `take`, `stands`, `names`,
-//! `copy`, and `anew`, by which the database in pages is made of the plain lists. Each table has the key `id` and a column `a`.
-//! Each call is made of a database in pages and of the same database as plain lists. What both answer is told once; where they
-//! differ, ` or not` stands behind it.
+//! Calls on the tables of a database, with semicolons between them: `add`, `put`, `remove`, `rename`, `take`, `stands`,
+//! `names`, `copy`, and `anew`, by which the database in pages is made of the plain lists. Each table has the key `id` and a
+//! column `a`. Each call is made of a database in pages and of the same database as plain lists. What both answer is printed
+//! once; where they differ, ` or not` stands behind it.
 
 use base_values::gho_schema::key_of;
 use base_values::{Duplicate, Name, Row, Sequence, Text};

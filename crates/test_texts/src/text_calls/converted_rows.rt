@@ -49,7 +49,7 @@ fn told_converted_row(alloc: Global, map: &ColumnMap, row: &Row) -> Result<Text,
     }
 }
 
-/// The image of a row, as of `TINYINT from 1; INT = 7: 300, 5`; or the first column that refuses, and the number.
+/// A row converted, as of `TINYINT from 1; INT = 7: 300, 5`; or the first column that refuses, and the number.
 pub fn converted_row_of(alloc: Global, input: &str) -> Result<Text, CallFault> {
     let (map, row) = input.split_once(": ").ok_or(CallFault::Unread)?;
     let map = map_of(alloc, map)?;

@@ -24,7 +24,7 @@ fn told_refusal(alloc: Global, number: u16) -> Result<Text, CallFault> {
     Ok(told)
 }
 
-/// The literal of what is stored or sought, or the refusal's number.
+/// The literal of what is stored or wanted, or the refusal's number.
 fn told_stored(alloc: Global, answer: Result<Value, StoreFault>) -> Result<Text, CallFault> {
     match answer {
         Ok(value) => told_value(alloc, &value),
@@ -41,7 +41,7 @@ fn stored(alloc: Global, input: &str, nullable: bool) -> Result<Text, CallFault>
     told_stored(alloc, store(alloc, &value, kind, nullable))
 }
 
-/// What is sought in a column of a kind.
+/// What is wanted in a column of a kind.
 fn sought(alloc: Global, input: &str) -> Result<Text, CallFault> {
     let (kind, value) = input.split_once(": ").ok_or(CallFault::Unread)?;
     let kind = kind_of(kind)?;

@@ -1,6 +1,6 @@
--- *The copier*: it copies the rows of the range chunk by chunk, in order of the clustered key. It asks where the chunk
--- ends; it begins a transaction, takes the share lock on the whole chunk and is told its keys; it copies one row for each
--- key; and it commits. (gh-ost, "Iterating the table"; the exact steps are this project's rule.)
+-- *The copier*: it copies the rows of the range chunk by chunk, in order of the clustered key. It asks where the chunk ends; it
+-- begins a transaction, takes the share lock on the whole chunk and gets its keys; it copies one row for each key; and it
+-- commits. (gh-ost, "Iterating the table"; the exact steps are this project's rule.)
 use Rattle.std.specs.Prelude.{ℕ, ◌+◌, ◌==◌, Bool, true, false, if◌then◌else◌, List, [], length, unwrap_or, Option, Some, None}
 use Rattle.std.specs.List.{slice_get}
 use Rattle.std.specs.Ordering.{is_eq}

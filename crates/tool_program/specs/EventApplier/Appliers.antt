@@ -42,7 +42,7 @@ use Rattle.server_model.specs.Reading.{events_in}
 
 -- what one statement does to the new table with rows of the old one
 pub data Doing : Type 0 where
-  -- REPLACE of the row's image
+  -- REPLACE of the converted row
   Putting : List Value → Doing
   -- DELETE by the row's key
   Removing : List Value → Doing
@@ -141,7 +141,7 @@ call_at journal applier (Committing batch) = requests.Commit
 unfoldable pub next : List Entry → Applier → Request
 next journal applier = call_at journal applier applier.step
 
--- the batch whose events were told in this turn
+-- the batch whose events were read in this turn
 abbrev pub batch_of : ℕ → Applier → List RowEvent → ℕ → Batch
 batch_of turn applier events behind =
     record { read = turn; next = behind; hint = last_hint applier.table applier.hint events; statements = length (planned applier events) }

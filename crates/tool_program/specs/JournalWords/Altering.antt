@@ -19,13 +19,13 @@ Altered = Schema × List MapColumn
 abbrev pub altered_by : Bool → List Clause → Schema → Option Altered
 altered_by approve clauses schema = result_ok (altered approve schema clauses)
 
--- the table of a new schema, with the image of every row; none where a row has no image
+-- the table of a new schema, with every row converted; none where a row can't be converted
 abbrev pub imaged : Option Altered → List (List Value) → Option TableRows
 imaged None rows = None
 imaged (Some new) rows = option_map (λ made. record { schema = new.0; rows = made }) (converted_rows new.1 rows)
 
--- *Altered table*: the new schema and the image of every row. There is none where the clauses are refused or a row has no
--- image.
+-- *Altered table*: the new schema and every row converted. There is none where the clauses are refused or a row can't be
+-- converted.
 unfoldable pub altered_table : Bool → List Clause → TableRows → Option TableRows
 altered_table approve clauses table = imaged (altered_by approve clauses table.schema) table.rows
 

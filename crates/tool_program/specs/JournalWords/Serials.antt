@@ -14,8 +14,8 @@ use Rattle.tool_program.specs.JournalWords.Clients.{client_at}
 use Rattle.server_model.specs.Alone.{alone, lines_run, nothing_ran}
 use Rattle.tool_program.specs.JournalWords.Histories.{HistoryItem, Txn, Alter, history, is_alter}
 
--- *Altered table* in a database: the migrated table with the new schema and the image of every row, the others as they
--- are; none where the ALTER is refused or a row has no image
+-- *Altered table* in a database: the migrated table with the new schema and every row converted, the others as they are; none
+-- where the ALTER is refused or a row can't be converted
 abbrev pub altered_in : PlanData → Database → Option TableRows → Option Database
 altered_in plan tables None = None
 altered_in plan tables (Some table) = option_map (λ new. with_change plan.table (λ old. new) tables) (plan_altered_table plan table)

@@ -34,7 +34,7 @@ setup_of MakingGhost = steps.MakingGhost
 setup_of Marking = steps.Marking
 setup_of (Reaching position) = steps.Reaching position
 
--- with the range that was told, where it is over
+-- with the range that was read, where it is over
 abbrev pub took_of : SetupTook → Option KeyRange → steps.Setup
 took_of (Goes setup) range = setup_of setup
 took_of (Over position) range = steps.Ready position range

@@ -18,7 +18,7 @@ fn is_top(range: &Option<CopyRange>, key: &Key) -> bool
     }
 }
 
-/// A chunk whose keys were told.
+/// A chunk whose keys were read.
 fn begun(chunk: Chunk) -> CopyStep
     ensures { result ≡ begun chunk }
 {

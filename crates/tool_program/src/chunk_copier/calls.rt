@@ -86,8 +86,8 @@ impl Copier {
         }
     }
 
-    /// The next call; none where the range is copied. The journal is that of the turns in which the copier was told its
-    /// keys and the chunks' ends.
+    /// The next call; none where the range is copied. The journal is that of the turns in which the copier got its keys and the
+    /// chunks' ends.
     #[tactic(auto, unfolding(crate::specs::ChunkCopier::Copiers::next))]
     pub fn next(&self, alloc: Global, journal: &[Entry]) -> Result<Option<Request>, AllocError>
         ensures { IfOk result (λ request. request ≡ next journal.now self.now) }

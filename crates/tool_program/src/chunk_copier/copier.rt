@@ -6,7 +6,7 @@ use base_values::{Bound, Key, Name};
 /// A chunk that was begun.
 #[derive(Clone, Copy)]
 pub struct Chunk {
-    /// The turn in which the copier was told its keys and its end.
+    /// The turn in which the copier got its keys and its end.
     pub told: u64,
     /// How many keys it has.
     pub keys: usize,
@@ -21,7 +21,7 @@ pub enum CopyStep {
     Choosing,
     /// It begins the chunk and asks for its keys.
     Spanning {
-        /// The turn in which it was told the chunk's end.
+        /// The turn in which it got the chunk's end.
         told: u64,
         /// How many rows the chunk has at most.
         size: u32,
@@ -46,7 +46,7 @@ pub struct CopyRange {
     pub top: Key,
 }
 
-/// How far the copier is. It keeps turns of the journal and counts, and no list that it was told.
+/// How far the copier is. It keeps turns of the journal and counts, and no list that it got.
 #[derive(Drop)]
 pub struct Copier {
     /// The migrated table.
@@ -59,7 +59,7 @@ pub struct Copier {
     pub size: u32,
     /// The number of the chunk, from 1.
     pub number: u64,
-    /// The turn in which the end of the last committed chunk was told.
+    /// The turn in which the end of the last committed chunk was read.
     pub behind: Option<u64>,
     /// Whether the range is copied.
     pub is_copied: bool,

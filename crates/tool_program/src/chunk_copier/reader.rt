@@ -1,4 +1,4 @@
-//! What the copier was told in earlier turns, read back in the journal.
+//! What the copier was answered in earlier turns, read back in the journal.
 
 ghost use Rattle.std.specs.Prelude.{◌≡◌, [], IfOk};
 ghost use Rattle.server_model.specs.Entries.{answer_at};

@@ -18,7 +18,7 @@ pub enum Part {
 /// A batch with events of the table.
 #[derive(Clone, Copy)]
 pub struct Batch {
-    /// The turn in which the applier was told its events.
+    /// The turn in which the applier got its events.
     pub read: u64,
     /// The position behind them.
     pub next: u64,
@@ -48,7 +48,7 @@ pub enum ApplyStep {
     Committing(Batch),
 }
 
-/// How far the applier is. It keeps turns of the journal and counts, and no list that it was told.
+/// How far the applier is. It keeps turns of the journal and counts, and no list that it got.
 #[derive(Drop)]
 pub struct Applier {
     /// The migrated table.

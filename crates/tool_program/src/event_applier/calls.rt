@@ -33,7 +33,7 @@ impl Applier {
         })
     }
 
-    /// The next call. The journal is that of the turn in which the applier was told its events.
+    /// The next call. The journal is that of the turn in which the applier got its events.
     #[tactic(auto, unfolding(crate::specs::EventApplier::Appliers::next))]
     pub fn next(&self, alloc: Global, journal: &[Entry]) -> Result<Request, AllocError>
         ensures { IfOk result (λ request. request ≡ next journal.now self.now) }

@@ -17,7 +17,7 @@ use server_model::{Answer, Entry};
 /// What one statement does to the new table with rows of the old one.
 #[derive(Clone, Copy)]
 pub(crate) enum Planned<'a> {
-    /// REPLACE of the row's image.
+    /// REPLACE of the converted row.
     Put(&'a Row),
     /// DELETE by the row's key.
     Remove(&'a Row),
@@ -25,7 +25,7 @@ pub(crate) enum Planned<'a> {
     Change(&'a Row, &'a Row),
 }
 
-/// The events that were told in a turn.
+/// The events that were read in a turn.
 fn events_told(journal: &[Entry], turn: u64) -> &[RowEvent]
     ensures { result.now ≡ events_in (answer_at journal.now turn) }
 {

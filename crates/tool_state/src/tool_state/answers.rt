@@ -17,7 +17,7 @@ use tool_program::cutover_core::{Role, is_bad};
 use tool_program::tool_setup::{Setup, SetupTook};
 
 impl Tool {
-    /// The inspector's answer in the setup, with a copy of the range that it told.
+    /// The inspector's answer in the setup, with a copy of the range that it has.
     fn setup_took(&mut self, plan: &Plan, setup: Setup, answer: &Answer, range: Option<KeyRange>)
         requires stands { self.old.setup ≡ Some setup }
         requires told { range ≡ range_told answer.now }
@@ -78,8 +78,8 @@ impl Tool {
         }
     }
 
-    /// One turn more of an actor of the tool, or of a client. A copy of the range that was told comes with it; and whether
-    /// the session, where it was lost between calls, had a transaction, a table lock or a wait.
+    /// One turn more of an actor of the tool, or of a client. A copy of the range that was read comes with it; and whether the
+    /// session, where it was lost between calls, had a transaction, a table lock or a wait.
     #[tactic(auto, unfolding(tool_program::specs::Tools::took))]
     pub fn took(&mut self, plan: &Plan, entry: &Entry, range: Option<KeyRange>, had_work: bool)
         requires told { range ≡ range_told entry.now.answer }

@@ -30,7 +30,7 @@ fn push_rows(into: &mut Text, rows: &[Row]) -> Result<(), AllocError>
     push_row_lines(into, rows)
 }
 
-/// Adds what a client is told of an answer that it heard, or that its session was lost.
+/// Adds what a client sees of an answer that it heard, or that its session was lost.
 #[tactic(auto, unfolding(crate::specs::ClientLines::Replies::reply_text))]
 fn push_reply(into: &mut Text, heard: Option<&Answer>) -> Result<(), AllocError>
     ensures { OnOk result (into.new ≡ into.old ++ reply_text (option_and_then (λ answer. reply_of answer.now) heard.entry)) }

@@ -1,4 +1,5 @@
-//! The ghost relation: while rows are copied and events applied in any order, each row of the new table is the image of its row at a moment that the applier hasn't passed.
+//! The ghost relation: while rows are copied and events applied in any order, each row of the new table is its row, converted,
+//! as it was at a moment that the applier hasn't passed.
 
 ghost use Rattle.proof_journals.specs.GhostLaws.GhostRelation.Laws.{MigrationsStart, LogsGrow, ChunksBegin, RowsAreCopied, RowsAreMet, ChunksCommit, ChunksRollBack, EventsApply, HalvesApply, EventsPass, BatchesCommit, BatchesRollBack, BatchesRepeat, ReplaceApplies, DeleteApplies, UpdateApplies, GhostsEnd};
 
@@ -12,7 +13,7 @@ pub fn logs_grow<K, R, M>()
     ensures { LogsGrow K R M }
 {}
 
-/// A chunk of keys is begun; each of its rows is copied, or a row that clashes with its image stands already.
+/// A chunk of keys is begun; each of its rows is copied, or a row that clashes with its converted row stands already.
 pub fn rows_are_copied<K, R, M>()
     ensures begun { ChunksBegin K R M }
     ensures copied { RowsAreCopied K R M }

@@ -1,8 +1,9 @@
-//! The ghost relation on rows, events and images: what every step of the copier, the applier and the clients keeps, whatever their order.
+//! The ghost relation on rows, events and converted rows: what every step of the copier, the applier and the clients keeps,
+//! whatever their order.
 
 ghost use Rattle.proof_journals.specs.GhostLaws.GhostRows.Laws.{TimelinesAreValid, MigrationsStart, LogsGrow, ChunksBegin, RowsAreCopied, RowsAreMet, ChunksCommit, ChunksRollBack, ChunksRepeat, RangesEnd, ReplaceApplies, DeleteApplies, UpdateApplies, UpdateMisses, HalvesApply, EventsPass, BatchesCommit, BatchesRollBack, BatchesRepeat, GhostsAreAltered};
 
-/// The rows at each moment of a log that fits them are a table, and images clash only where they do.
+/// The rows at each moment of a log that fits them are a table, and converted rows clash only where they do.
 pub fn timelines_are_valid()
     ensures { TimelinesAreValid }
 {}
@@ -17,7 +18,7 @@ pub fn logs_grow()
     ensures { LogsGrow }
 {}
 
-/// A chunk is begun, and each of its rows is copied, or met by one that clashes with its image.
+/// A chunk is begun, and each of its rows is copied, or met by one that clashes with its converted row.
 pub fn rows_are_copied()
     ensures begun { ChunksBegin }
     ensures copied { RowsAreCopied }

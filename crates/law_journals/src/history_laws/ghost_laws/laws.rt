@@ -7,8 +7,8 @@ pub fn writes_fit()
     ensures { WritesFit }
 {}
 
-/// Where a request was done, its deed tells what is left of the tables, the log and of what sessions hold, and what is answered; where
-/// it wasn't, all stays but what its session holds.
+/// Where a request was done, its effect tells what is left of the tables, the log and of what sessions hold, and what is
+/// answered; where it wasn't, all stays but what its session holds.
 pub fn effects_are_done()
     ensures done { EffectsAreDone }
     ensures answered { EffectsAnswer }

@@ -41,7 +41,7 @@ pub fn tables_stand_uncopied()
     ensures { TablesStandUncopied }
 {}
 
-/// Tables stay tables with clustered keys, since no definition comes inside a transaction and what is made is lawful.
+/// Tables stay tables with clustered keys, since no definition comes inside a transaction and what is made is valid.
 pub fn tables_stay_tables()
     ensures { TablesStayTables }
 {}

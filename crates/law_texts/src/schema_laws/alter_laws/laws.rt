@@ -4,7 +4,7 @@ ghost use Rattle.proof_schemas.specs.AlterLaws.Laws.{ConvertedRowsKeepKeys, Conv
 
 use base_values::laws::stored_values_store_again;
 
-/// Each unique key of an altered table is one of the old table, and a row's image has the row's own key.
+/// Each unique key of an altered table is one of the old table, and a converted row has its row's own key.
 pub fn converted_rows_keep_keys()
     ensures keys { ConvertedRowsKeepKeys }
     ensures apart { ConvertedRowsStayApart }
@@ -17,7 +17,7 @@ pub fn altered_tables_keep_names()
     ensures { AlteredTablesKeepNames }
 {}
 
-/// Every altered schema is lawful.
+/// Every altered schema is valid.
 pub fn altered_schemas_are_valid()
     ensures { AlteredSchemasAreValid }
 {
@@ -29,7 +29,7 @@ pub fn read_clauses_write_kinds()
     ensures { ReadClausesWriteKinds }
 {}
 
-/// The image of a row is a row of the altered table, and the map has as many columns as the table.
+/// A converted row is a row of the altered table, and the map has as many columns as the table.
 pub fn converted_rows_are_rows()
     ensures rows { ConvertedRowsAreRows }
     ensures maps { MapsFit }

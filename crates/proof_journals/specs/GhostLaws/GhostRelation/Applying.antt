@@ -37,7 +37,7 @@ pub data AppliedAt {K R M : Type 0} (timeline : Timeline K R M) (half : K → Bo
   -- its row was displaced by the event's, whose key is another
   displaced : (made new : M) (row : R) (other : K) → (other ≡ key → ⊥) → timeline.row_at (position + 1) key ≡ timeline.row_at position key → before key ≡ Some made → timeline.row_at (position + 1) other ≡ Some row → timeline.converted_row row ≡ Some new
       → timeline.converted_rows_clash made new ≡ true → after key ≡ None → AppliedAt timeline half position before after key
-  -- the image of the event's row is written
+  -- the converted row of the event is written
   written : (row : R) (made : M) → timeline.row_at (position + 1) key ≡ Some row → timeline.converted_row row ≡ Some made → after key ≡ Some made → AppliedAt timeline half position before after key
   -- the event leaves no row
   removed : timeline.row_at (position + 1) key ≡ None → after key ≡ None → AppliedAt timeline half position before after key

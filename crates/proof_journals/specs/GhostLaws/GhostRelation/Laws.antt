@@ -25,7 +25,7 @@ ChunksBegin K R M =
     (timeline : Timeline K R M) (done next half : K → Bool) (progress : Progress K) (views : Views K M) → ((key : K) (row : R) → next key ≡ true → timeline.row_at progress.end key ≡ Some row → done key ≡ true)
     → GhostFollows timeline done half progress views → GhostFollows timeline next half progress views
 
--- *A row is copied*: its image is written, and the copier holds its key.
+-- *A row is copied*: its converted row is written, and the copier holds its key.
 abbrev pub RowsAreCopied : (K R M : Type 0) → Type 0
 RowsAreCopied K R M =
     (timeline : Timeline K R M) (done half : K → Bool) (progress : Progress K) (views : Views K M) (key : K) (row : R) (made : M) (held : K → Bool) (copied : K → Option M) → timeline.row_at progress.end key ≡ Some row → timeline.converted_row row ≡ Some made
@@ -33,7 +33,7 @@ RowsAreCopied K R M =
     → ((other : K) → held other ≡ false → (progress.copier_holds other ≡ false) × (copied other ≡ views.copied other))
     → GhostFollows timeline done half progress views → GhostFollows timeline done half (record progress { copier_holds = held }) (record views { copied = copied })
 
--- *A row is not copied*, since a row that the copier sees clashes with its image. The applier sees that row as it is
+-- *A row is not copied*, since a row that the copier sees clashes with its converted row. The applier sees that row as it is
 -- committed, unless the copier holds its key.
 abbrev pub RowsAreMet : (K R M : Type 0) → Type 0
 RowsAreMet K R M =
@@ -120,7 +120,7 @@ UpdateApplies K R M =
     Decides K → (timeline : Timeline K R M) (position : ℕ) (key : K) (row : R) (made : M) (before after : K → Option M) → EventOfKeys timeline position key key → timeline.touches position key ≡ false
     → timeline.row_at (position + 1) key ≡ Some row → timeline.converted_row row ≡ Some made → Updated key made before after → (other : K) → AppliedAt timeline (λ _. false) position before after other
 
--- *The end*: where all events are applied and all keys are done, each row of the table has an image, and the ghost has just
+-- *The end*: where all events are applied and all keys are done, each row of the table can be converted, and the ghost has just
 -- these.
 abbrev pub GhostsEnd : (K R M : Type 0) → Type 0
 GhostsEnd K R M =

@@ -2,9 +2,9 @@
 -- (After gh-ost's documentation, "How gh-ost works"; the form is this project's.)
 use Rattle.std.specs.Prelude.{◌≡◌, ℕ, ◌+◌, ◌<◌, ◌≤◌, Bool, true, false, Option, Some}
 
--- *Timeline* of a table whose rows have keys of K and images in M: the row of a key after so many logged events; whether the
--- event at a place of the log writes the row of a key, deletes it or changes one of its unique keys; the image of a row;
--- whether two rows have equal values in a unique key that the ALTER keeps; and whether two images clash.
+-- *Timeline* of a table whose rows have keys of K and converted rows in M: the row of a key after so many logged events;
+-- whether the event at a place of the log writes the row of a key, deletes it or changes one of its unique keys; the converted
+-- row; whether two rows have equal values in a unique key that the ALTER keeps; and whether two converted rows clash.
 pub record Timeline (K R M : Type 0) : Type 0 where
   pub row_at : ℕ → K → Option R
   pub touches : ℕ → K → Bool
@@ -25,7 +25,7 @@ pub record IsTimeline {K R M : Type 0} (timeline : Timeline K R M) (end : ℕ) :
   pub apart : (i : ℕ) (key other : K) (a b : R) → i ≤ end → timeline.row_at i key ≡ Some a → timeline.row_at i other ≡ Some b → timeline.rows_clash a b ≡ true → key ≡ other
   -- an event that doesn't touch a key leaves its row's unique keys
   pub still : (i : ℕ) (key : K) (row : R) → i < end → timeline.touches i key ≡ false → timeline.row_at (i + 1) key ≡ Some row → RowBefore timeline i key row
-  -- images clash only where their rows do
+  -- converted rows clash only where their rows do
   pub clashes : (i j : ℕ) (key other : K) (a b : R) (made more : M) → i ≤ end → j ≤ end → timeline.row_at i key ≡ Some a → timeline.row_at j other ≡ Some b
       → timeline.converted_row a ≡ Some made → timeline.converted_row b ≡ Some more → timeline.converted_rows_clash made more ≡ true → timeline.rows_clash a b ≡ true
   -- rows clash both ways
@@ -35,7 +35,7 @@ pub record IsTimeline {K R M : Type 0} (timeline : Timeline K R M) (end : ℕ) :
 abbrev pub Untouched : {K R M : Type 0} → Timeline K R M → ℕ → ℕ → K → Type 0
 Untouched timeline position end key = (i : ℕ) → position ≤ i → i < end → timeline.touches i key ≡ false
 
--- the image of the row that has this key at one moment from the position to the end
+-- the converted row that has this key at one moment from the position to the end
 pub record ConvertedRowFrom {K R M : Type 0} (timeline : Timeline K R M) (position end : ℕ) (key : K) (made : M) : Type 0 where
   pub moment : ℕ
   pub row : R

@@ -3,8 +3,8 @@
 use Rattle.std.specs.Prelude.{◌≡◌, ℕ, ◌≤◌, Bool, true, false, not, ◌&&◌, Option, Some}
 use Rattle.proof_journals.specs.GhostLaws.GhostRelation.Timelines.{Timeline, Untouched, ConvertedRowFrom}
 
--- *Ghost relation* of one view: each ghost row is the image of its key's row at a moment from the applier's position to the
--- log's end; and where no event from the position on touches a key that is done, its row is in the ghost.
+-- *Ghost relation* of one view: each ghost row is its key's row, converted, as it was at a moment from the applier's position
+-- to the log's end; and where no event from the position on touches a key that is done, its row is in the ghost.
 pub record ViewFollows {K R M : Type 0} (timeline : Timeline K R M) (done : K → Bool) (position end : ℕ) (ghost_at : K → Option M) : Type 0 where
   pub comes : (key : K) (made : M) → ghost_at key ≡ Some made → ConvertedRowFrom timeline position end key made
   pub stands : (key : K) (row : R) → done key ≡ true → Untouched timeline position end key → timeline.row_at end key ≡ Some row → (made : M) × (ghost_at key ≡ Some made)

@@ -47,7 +47,7 @@ ChunksBegin =
     → IsUnderWay m rows log (is_done (Some (record { low = low; high = Closed top }))) half progress ghost
     → IsUnderWay m rows log (is_done_in (Some (record { low = low; high = Closed top })) (Some (record { low = Open high; high = Closed top })) keys) half progress ghost
 
--- *A row is copied*: its image clashes with no row that the copier sees, and is disjoint from the open batch.
+-- *A row is copied*: its converted row clashes with no row that the copier sees, and is disjoint from the open batch.
 abbrev pub RowsAreCopied : Type 0
 RowsAreCopied =
     (m : Migration) (rows : List Row) (log : List RowEvent) (done half : Row → Bool) (progress : Progress Row) (ghost : GhostRows) (keys : List Row) (row made : Row) → IsPlanned m rows
@@ -56,7 +56,8 @@ RowsAreCopied =
     → AllByRecursion (λ change. Disjoint m.new change (Write made)) ghost.batch → IsUnderWay m rows log done half progress ghost
     → IsUnderWay m rows log done half (record progress { copier_holds = is_among (key_of (key_places m.new) made ∷ keys) }) (record ghost { chunk = ghost.chunk ++ (Write made ∷ []) })
 
--- *A row is not copied*, since its image clashes with a row that the copier sees, and with none that the open batch took out.
+-- *A row is not copied*, since its converted row clashes with a row that the copier sees, and with none that the open batch
+-- took out.
 abbrev pub RowsAreMet : Type 0
 RowsAreMet =
     (m : Migration) (rows : List Row) (log : List RowEvent) (done half : Row → Bool) (progress : Progress Row) (ghost : GhostRows) (keys : List Row) (row made : Row) → IsPlanned m rows
@@ -95,8 +96,8 @@ RangesEnd =
     (m : Migration) (rows : List Row) (log : List RowEvent) (half : Row → Bool) (progress : Progress Row) (ghost : GhostRows) (top : Row) → IsUnderWay m rows log (is_done (Some (record { low = Open top; high = Closed top }))) half progress ghost
     → IsUnderWay m rows log (is_done None) half progress ghost
 
--- *An event that leaves a row is applied by a REPLACE* of its image. Where it changed the row's key, the ghost has no row of
--- the old key any more.
+-- *An event that leaves a row is applied by a REPLACE* of its converted row. Where it changed the row's key, the ghost has no
+-- row of the old key any more.
 abbrev pub ReplaceApplies : Type 0
 ReplaceApplies =
     (m : Migration) (rows : List Row) (log : List RowEvent) (done half : Row → Bool) (progress : Progress Row) (ghost : GhostRows) (held : Row → Bool) (change : Change) (row made : Row) → IsPlanned m rows → progress.reached < progress.end
@@ -123,8 +124,8 @@ UpdateApplies =
     → FitsAll m.new (view_of m ghost) changes → BatchMayGrow m progress ghost held changes → IsUnderWay m rows log done (λ _. false) progress ghost
     → IsUnderWay m rows log done (λ _. false) (one_applied held progress) (batch_more changes ghost)
 
--- *An UPDATE's event that changes no kept key is applied by nothing* where the ghost has no row of its key, whether the row
--- has an image or not.
+-- *An UPDATE's event that changes no kept key is applied by nothing* where the ghost has no row of its key, whether the row can
+-- be converted or not.
 abbrev pub UpdateMisses : Type 0
 UpdateMisses =
     (m : Migration) (rows : List Row) (log : List RowEvent) (done : Row → Bool) (progress : Progress Row) (ghost : GhostRows) (held : Row → Bool) (before row : Row) → IsPlanned m rows → progress.reached < progress.end
@@ -162,7 +163,7 @@ BatchesRepeat =
     (m : Migration) (rows : List Row) (log : List RowEvent) (done half : Row → Bool) (progress : Progress Row) (ghost : GhostRows) (position reached : ℕ) → IsPlanned m rows → position ≤ progress.position → reached ≤ progress.reached → position ≤ reached
     → IsUnderWay m rows log done half progress ghost → IsUnderWay m rows log done half (record progress { position = position; reached = reached }) ghost
 
--- *The end*: where all events are applied and committed, and all keys are done, the ghost is the images of the table's rows.
+-- *The end*: where all events are applied and committed, and all keys are done, the ghost is the table's rows, converted.
 abbrev pub GhostsAreAltered : Type 0
 GhostsAreAltered =
     (m : Migration) (rows : List Row) (log : List RowEvent) (half : Row → Bool) (progress : Progress Row) (ghost : GhostRows) → IsPlanned m rows → progress.position ≡ length log → IsUnderWay m rows log (is_done None) half progress ghost

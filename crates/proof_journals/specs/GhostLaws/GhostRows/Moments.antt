@@ -19,7 +19,7 @@ Row = List Value
 abbrev pub put_in : List ℕ → Row → List Row → List Row
 put_in places row rows = unwrap_or (put places row rows) rows
 
--- The rows after a change, which takes out the row of a key. So what is found by a key then is told by what was found by it
+-- The rows after a change, which takes out the row of a key. So what is found by a key then follows from what was found by it
 -- before. Where the change fits, the server's rows after it are the same.
 abbrev pub rows_after : List ℕ → Change → List Row → List Row
 rows_after places (Write row) rows = put_in places row rows

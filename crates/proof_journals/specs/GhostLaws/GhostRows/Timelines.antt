@@ -69,8 +69,8 @@ pub record Migration : Type 0 where
 abbrev pub kept : Migration → List Index
 kept m = kept_keys m.columns m.new.uniques
 
--- *The timeline*: by its clustered key, each row at each moment of the log, which rows an event touches, their images, and
--- which of them clash.
+-- *The timeline*: by its clustered key, each row at each moment of the log, which rows an event touches, their converted rows,
+-- and which of them clash.
 abbrev pub timeline_of : Migration → List Row → List RowEvent → Timeline Row Row Row
 timeline_of m rows log =
     record {
@@ -81,8 +81,8 @@ timeline_of m rows log =
       converted_rows_clash = clash m.new.uniques;
     }
 
--- *What the ALTER keeps*: images clash only where rows clash in the kept keys; these are keys of the table before; and its
--- clustered key is one of them.
+-- *What the ALTER keeps*: converted rows clash only where rows clash in the kept keys; these are keys of the table before; and
+-- its clustered key is one of them.
 pub record KeepsUniques (m : Migration) : Type 0 where
   pub clashes : (row other made more : Row) → IsRow m.schema.columns row → IsRow m.schema.columns other → converted_row m.columns row ≡ Ok made → converted_row m.columns other ≡ Ok more → clash m.new.uniques made more ≡ true → clash (kept m) row other ≡ true
   pub are_old : (row other : Row) → clash (kept m) row other ≡ true → clash m.schema.uniques row other ≡ true
@@ -92,7 +92,7 @@ pub record KeepsUniques (m : Migration) : Type 0 where
   pub its_places : clustered.places ≡ key_places m.schema
 
 -- *What an accepted plan gives* of a migration of these rows: both tables have a clustered key, the ALTER keeps unique keys,
--- the rows are a table, and an image is a row of the altered table with its row's key.
+-- the rows are a table, and a converted row is a row of the altered table with its row's key.
 pub record IsPlanned (m : Migration) (rows : List Row) : Type 0 where
   pub old_key : HasClusteredKey m.schema
   pub new_key : HasClusteredKey m.new

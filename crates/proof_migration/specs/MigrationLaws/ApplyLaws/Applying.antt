@@ -50,7 +50,7 @@ ChangesRows columns (Write row) = IsRow columns row
 ChangesRows columns (Update before after) = IsRow columns before × IsRow columns after
 ChangesRows columns (Delete row) = IsRow columns row
 
--- the batch's events were told, they are of rows of the table, and so many statements are planned for them
+-- the batch's events were read, they are of rows of the table, and so many statements are planned for them
 pub record IsBatchTold (m : Migration) (journal : List Entry) (batch : Batch) : Type 0 where
   pub events : List RowEvent
   pub told : answer_at journal batch.read ≡ Some (answers.Events events batch.next)

@@ -53,7 +53,7 @@ AppliersKeep =
     → IsApplierTurn m limits scene journal entry applier request → ApplierStands m at rows limits scene journal applier copy copier entry.session
     → ApplierStands m at rows limits scene (journal ++ entry ∷ []) (took (length journal + 1) applier entry.answer) copy copier entry.session
 
--- *ALTERs find rows*: what the applier's statements rest on holds of each ALTER that is taken of a table of a lawful schema, and
+-- *ALTERs find rows*: what the applier's statements rest on holds of each ALTER that is taken of a table of a valid schema, and
 -- leaves one.
 abbrev pub AltersFindRows : Type 0
 AltersFindRows = (approve : Bool) (schema : Schema) (clauses : List Clause) (new : Altered) → IsValid schema → IsValid (new.0) → altered approve schema clauses ≡ Ok new → FindsRows (migration_of schema new)

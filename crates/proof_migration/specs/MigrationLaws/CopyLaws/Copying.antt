@@ -56,7 +56,7 @@ abbrev pub AfterTold : List Entry → Option ℕ → Type 0
 AfterTold journal None = Unit {0}
 AfterTold journal (Some told) = IsAnsweredAt journal told
 
--- the chunk's keys and its end were told, and it has so many keys
+-- the chunk's keys and its end were read, and it has so many keys
 pub record IsChunkTold (journal : List Entry) (range : Option CopyRange) (chunk : Chunk) : Type 0 where
   pub keys : List Row
   pub end : Row

@@ -14,6 +14,6 @@ use Rattle.proof_journals.specs.GhostLaws.GhostRows.Timelines.{Migration, IsPlan
 abbrev pub migration_of : Schema → Altered → Migration
 migration_of schema new = record { name = schema.name; schema = schema; new = record (new.0) { name = ghost_name schema.name }; columns = new.1 }
 
--- *ALTERs are planned*: the migration of each table of a lawful schema is what the ghost relation asks.
+-- *ALTERs are planned*: the migration of each table of a valid schema is what the ghost relation asks.
 abbrev pub AltersArePlanned : Type 0
 AltersArePlanned = (approve : Bool) (schema : Schema) (clauses : List Clause) (new : Altered) (rows : List (List Value)) → IsValid schema → altered approve schema clauses ≡ Ok new → IsTable schema rows → IsPlanned (migration_of schema new) rows

@@ -8,8 +8,8 @@ use Rattle.plan_data.specs.KeptRows.{KeepsRows}
 use Rattle.plan_reader.specs.PlanTables.Tables.{IsSound}
 use Rattle.plan_reader.specs.Plans.{read}
 
--- A plan of at most 64 clients, whose tables are tables of lawful schemas with different names, the migrated one among them,
--- and whose ALTER can be done and keeps the rows' keys.
+-- A plan of at most 64 clients, whose tables are tables of valid schemas with different names, the migrated one among them, and
+-- whose ALTER can be done and keeps the rows' keys.
 pub record IsAccepted (plan : PlanData) : Type 0 where
   pub few : length plan.clients ≤ CLIENT_LIMIT
   pub sound : AllByRecursion IsSound plan.tables

@@ -1,4 +1,4 @@
--- What a run may ask in a turn that is due, and what it may be told.
+-- What a run may ask in a turn that is due, and what it may be answered.
 use Rattle.std.specs.Prelude.{◌≡◌, ◌<◌, false, List, Some}
 use Rattle.base_script.specs.declared.actor.Actor.{Actor}
 use Rattle.server_model.specs.declared.entry.Entry.{Entry}
@@ -23,6 +23,6 @@ DueTurnsMayBe =
     (plan : PlanData) (journal : List Entry) (server : State) (actor : Actor) (turn : Turn) → IsRunnable plan → IsKept plan journal → IsAfter (state_at plan journal) server → server.made < 4294967295 → due plan journal actor ≡ Some turn → is_command turn.asked ≡ false
     → MayTurn server (live_session journal turn.actor) turn
 
--- *Ranges are known ahead*: where a turn is told a range of keys, the tables before it have it
+-- *Ranges are known ahead*: where a turn gets a range of keys, the tables before it have it
 abbrev pub RangesAreAhead : Type 0
 RangesAreAhead = (plan : PlanData) (journal : List Entry) (entry : Entry) → IsFitting plan → IsFaithful plan journal → Follows plan journal → IsAnswered (state_at plan journal) entry → IsFollowed plan journal entry → IsTold (ahead_of plan (state_at plan journal).tables entry.actor) entry.answer

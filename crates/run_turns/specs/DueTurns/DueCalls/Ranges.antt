@@ -1,5 +1,5 @@
--- *Range ahead*: the range of keys that a turn may be told, as the tables before it say. (What gh-ost reads as the least and
--- the greatest value of the unique key.)
+-- *Range ahead*: the range of keys that a turn may get, as the tables before it say. (What gh-ost reads as the least and the
+-- greatest value of the unique key.)
 use Rattle.std.specs.Prelude.{◌≡◌, ℕ, List, [], ◌∷◌, Option, Some, None}
 use Rattle.base_values.specs.declared.value.Value.{Value}
 use Rattle.base_values.specs.GhoSchema.Rows.{key_places}
@@ -34,7 +34,7 @@ abbrev pub ahead_of : PlanData → Database → Actor → Option KeyRange
 ahead_of plan tables Insp = range_in plan.table tables
 ahead_of plan tables actor = None
 
--- a range that is told is this one
+-- a range that an answer has is this one
 abbrev pub IsTold : Option KeyRange → Answer → Type 0
 IsTold ahead (answers.Ends range) = range ≡ ahead
 IsTold ahead answer = Unit {0}

@@ -14,19 +14,19 @@ use Rattle.server_transaction.specs.ServerData.Fitting.{EventsFit, NoneOf}
 use Rattle.server_transaction.specs.Premises.{HasSchema, IsOf}
 use Rattle.server_transaction.specs.Stored.{StoredTxn, schemas, schemas_with}
 
--- *Transactions begin*: one that wrote nothing is one of every orderly database.
+-- *Transactions begin*: one that wrote nothing is one of every well-formed database.
 abbrev pub TransactionsBegin : Type 0
 TransactionsBegin = (tables : Database) (txn : StoredTxn) → txn.events ≡ [] → txn.tables ≡ [] → IsWellFormedDatabase tables → IsOf tables txn
 
 -- *Transactions grow*: one of a database stays so, where what it writes to a table that stands fits the tables as it sees them
--- and leaves them orderly.
+-- and leaves them well formed.
 abbrev pub TransactionsGrow : Type 0
 TransactionsGrow =
     (tables : Database) (was now : StoredTxn) (schema : Schema) (more : List RowEvent) → IsOf tables was → HasSchema tables schema → EventsFit (after_events tables was.events) more → IsWellFormedDatabase (after_events (after_events tables was.events) more)
     → now.events ≡ was.events ++ more → schemas now.tables ≡ schemas_with schema (schemas was.tables) → IsOf tables now
 
--- *Transactions outlast commits*: one of a database is one of it behind another one's events, where its own still fit and
--- leave the tables orderly.
+-- *Transactions outlast commits*: one of a database is one of it behind another one's events, where its own still fit and leave
+-- the tables well formed.
 abbrev pub TransactionsOutlastCommits : Type 0
 TransactionsOutlastCommits =
     (tables : Database) (events : List RowEvent) (txn : StoredTxn) → IsOf tables txn → EventsFit (after_events tables events) txn.events → IsWellFormedDatabase (after_events (after_events tables events) txn.events) → IsOf (after_events tables events) txn

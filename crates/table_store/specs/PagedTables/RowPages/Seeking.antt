@@ -1,4 +1,4 @@
--- Rows that are sought by a key.
+-- Rows that are wanted by a key.
 use Rattle.std.specs.Prelude.{◌≡◌, ◌<◌, ℕ, List, [], length, get_or, find, Bool, true, Some}
 use Rattle.std.specs.List.{slice_get, prefix_len}
 use Rattle.slab.specs.Slab.{Slab}
@@ -10,7 +10,7 @@ use Rattle.table_store.specs.PagedTables.RowPages.RowOrders.{row_of, rows_of, Ha
 use Rattle.table_store.specs.declared.paged_tables.row_pages.places.Wanted.{Wanted}
 use Rattle.table_store.specs.declared.paged_tables.row_pages.places.Wanted.TheVariants.{Key, Of}
 
--- the key that is sought
+-- the key that is wanted
 abbrev pub wanted_key : List ℕ → Wanted → List Value
 wanted_key places (Key key) = key.now
 wanted_key places (Of row) = key_of places row.now

@@ -45,14 +45,14 @@ impl<'a> Test for BeforeRow<'a> {
     }
 }
 
-/// A key that is sought: one that is given, or that of a row.
+/// A key that is wanted: one that is given, or that of a row.
 #[derive(Clone, Copy)]
 pub enum Wanted<'a> {
     Key(&'a [Value]),
     Of(&'a [Value]),
 }
 
-/// Which comes first: the key that is sought, or the row's.
+/// Which comes first: the key that is wanted, or the row's.
 fn compare_wanted(sought: Wanted<'_>, places: &[usize], row: &[Value]) -> Ordering
     ensures { result ≡ compare_keys (wanted_key places.now sought.entry) (key_of places.now row.now) }
 {
