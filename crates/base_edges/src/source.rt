@@ -26,7 +26,7 @@ pub trait Source {
     // How many calls failed. It stops at 2^64 - 1.
     ghost faults: { Self → ℕ };
 
-    /// Puts the next bytes in front of `into`, as many as the source likes. What stands behind them in `into` is free.
+    /// Puts the next bytes in front of `into`, as many as the source likes. What follows them in `into` is free.
     fn take(&mut self, into: &mut [u8]) -> Took
         requires { 0 < length into.old }
 

@@ -10,7 +10,7 @@ use crate::page_edits::{insert_in, remove_in};
 use std::alloc::{AllocError, Global};
 use std::marker::Model;
 
-/// A page, and a place among its entries. A put or a removal may move what stands behind it to another place.
+/// A page, and a place among its entries. A put or a removal may move what follows it to another place.
 #[derive(Clone, Copy)]
 pub struct Place {
     /// The page's number, from 0.
@@ -50,7 +50,7 @@ fn pages_before<T: Test>(pages: &[Page], test: &T) -> usize
     requires fails { FailsOn (T.on test.now) (flat pages.now) }
     ensures { result ≡ prefix_len (first_passes (T.on test.now)) pages.now }
 {
-    // Entries are mostly put behind all others: that is tried first.
+    // Entries are mostly put after all others: that is tried first.
     if let Some(last) = pages.last() {
         if starts(test, last) {
             return pages.len();
@@ -73,7 +73,7 @@ fn entries_before<T: Test>(entries: &[usize], test: &T) -> usize
     entries.partition_point(|entry| test.passes(*entry))
 }
 
-/// The place behind the entries that pass the test.
+/// The place after the entries that pass the test.
 fn place_among<T: Test>(pages: &[Page], test: &T) -> Place
     requires are { ArePages pages.now }
     requires fails { FailsOn (T.on test.now) (flat pages.now) }
@@ -91,7 +91,7 @@ fn place_among<T: Test>(pages: &[Page], test: &T) -> Place
     }
 }
 
-/// The entry behind a place, and where it stands.
+/// The entry after a place, and where it stands.
 fn entry_in(pages: &[Page], place: Place) -> Option<(Place, usize)>
     requires are { ArePages pages.now }
     requires gap { IsGap pages.now place.page place.at }
@@ -119,7 +119,7 @@ fn entry_in(pages: &[Page], place: Place) -> Option<(Place, usize)>
     }
 }
 
-/// The entry behind the one at a place, and where it stands.
+/// The entry after the one at a place, and where it stands.
 fn entry_behind(pages: &[Page], place: Place) -> Option<(Place, usize)>
     requires are { ArePages pages.now }
     requires page { place.page < length pages.now }
@@ -198,7 +198,7 @@ impl PagedList {
         Entries::new(self.pages.as_slice())
     }
 
-    /// The entries from one place to another: none, where the other doesn't stand behind the first.
+    /// The entries from one place to another: none, where the other doesn't come after the first.
     pub fn entries_between(&self, from: Place, to: Place) -> Entries<'_>
         requires from { IsGap self.now.pages from.page from.at }
         requires to { IsGap self.now.pages to.page to.at }
@@ -207,8 +207,8 @@ impl PagedList {
         Entries::between(self.pages.as_slice(), from, to)
     }
 
-    /// The place behind the entries that pass the test, in the page where they end. The entries must stand so that those
-    /// that pass come first; few of them are tested, by halves.
+    /// The place after the entries that pass the test, in the page where they end. The entries must stand so that those that
+    /// pass come first; few of them are tested, by halves.
     pub fn place<T: Test>(&self, test: &T) -> Place
         requires { FailsOn (T.on test.now) (flat self.now.pages) }
         ensures gap { IsGap self.now.pages result.page result.at }
@@ -218,7 +218,7 @@ impl PagedList {
         place_among(self.pages.as_slice(), test)
     }
 
-    /// The entry behind a place, and where it stands.
+    /// The entry after a place, and where it stands.
     pub fn entry_at(&self, place: Place) -> Option<(Place, usize)>
         requires { IsGap self.now.pages place.page place.at }
         ensures { MatchOption result (length (flat self.now.pages) ≤ place_in self.now.pages place.page place.at)
@@ -227,7 +227,7 @@ impl PagedList {
         entry_in(self.pages.as_slice(), place)
     }
 
-    /// The entry behind the one at a place, and where it stands.
+    /// The entry after the one at a place, and where it stands.
     pub fn entry_after(&self, place: Place) -> Option<(Place, usize)>
         requires page { place.page < length self.now.pages }
         requires at { place.at < length (get_or self.now.pages place.page []) }

@@ -39,7 +39,8 @@ highest bytes false = pos (half bytes - 1)
 abbrev pub digits_number : List ℕ → Option ℕ
 digits_number digits = if list_all is_ascii_digit digits && (nat_lt 0 (length digits) && nat_le (length digits) 38) then Some (digits_value 10 digits) else None
 
--- The number that a text is: 1 to 38 digits behind at most one sign, `-` (45) or `+` (43), and nothing else. This project's rule.
+-- The number that a text is: 1 to 38 digits after at most one sign, `-` (45) or `+` (43), and nothing else. This project's
+-- rule.
 unfoldable pub text_number : List ℕ → Option ℤ
 text_number [] = None
 text_number (c ∷ text) = if c == 45 then option_map (λ n. neg_ℤ (pos n)) (digits_number text) else option_map pos (digits_number (if c == 43 then text else c ∷ text))

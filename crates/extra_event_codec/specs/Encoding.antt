@@ -21,7 +21,7 @@ half_bytes n = to_be_bytes w64 n
 unfoldable pub number_bytes : ℤ → List ℕ
 number_bytes n = half_bytes (cast_unsigned w128 n / 2 ^ 64) ++ half_bytes (cast_unsigned w128 n % 2 ^ 64)
 
--- Bytes behind their length.
+-- Bytes after their length.
 unfoldable pub sized : List ℕ → List ℕ
 sized bytes = length_bytes (length bytes) ++ bytes
 
@@ -54,7 +54,7 @@ values_of (Write row) = row
 values_of (Update before after) = before ++ after
 values_of (Delete row) = row
 
--- An event's body: the table's name behind its length in one byte, the number of columns in one byte, and the values.
+-- An event's body: the table's name after its length in one byte, the number of columns in one byte, and the values.
 unfoldable pub body_of : RowEvent → List ℕ
 body_of event = length event.table ∷ (event.table ++ columns_of event.change ∷ values_bytes (values_of event.change))
 

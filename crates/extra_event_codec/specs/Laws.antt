@@ -19,7 +19,7 @@ pub record IsWritten (event : RowEvent) : Type 0 where
   pub name : IsUtf8 event.table
   pub values : AllByRecursion IsHeld (values_of event.change)
 
--- What is written is read, whatever stands behind it.
+-- What is written is read, whatever comes after it.
 abbrev pub ReadsWhatIsWritten : Type 0
 ReadsWhatIsWritten = (event : RowEvent) (behind : List ℕ) → IsWritten event → decoded (encoded event ++ behind) ≡ Ok (event, length (encoded event))
 

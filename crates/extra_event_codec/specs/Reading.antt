@@ -1,4 +1,6 @@
--- What bytes begin with: an event and the number of its bytes, or why none. The order of the refusals is this project's rule: bytes that are too few; the tag; parts that don't end just at the body's end, with counts out of range; and last the values. A kind of value that there isn't ends the reading, since what stands behind it has no meaning.
+-- What bytes begin with: an event and the number of its bytes, or why none. The order of the refusals is this project's rule:
+-- bytes that are too few; the tag; parts that don't end just at the body's end, with counts out of range; and last the values.
+-- A kind of value that there isn't ends the reading, since what follows it has no meaning.
 use Rattle.std.specs.Prelude.{◌≡◌, ℕ, zero, suc, ◌+◌, ◌*◌, ◌^◌, ◌&&◌, nat_le, ◌==◌, if◌then◌else◌, List, [], ◌∷◌, ◌++◌, length, take, drop, Option, Some, None, Result, Ok, Err}
 use Rattle.std.specs.Int.{w32, w64, w128, from_be_bytes, cast_signed}
 use Rattle.std.specs.Str.{is_utf8}
@@ -30,11 +32,11 @@ abbrev pub Reads : {A B : Type 0} → (A → B) → Result A DecodeFault → Res
 Reads view (Ok x) read = read ≡ Ok (view x)
 Reads view (Err fault) read = Fails fault read
 
--- The first so many bytes and those behind them, or the fault where there are fewer.
+-- The first so many bytes and those after them, or the fault where there are fewer.
 unfoldable pub taken : DecodeFault → ℕ → List ℕ → Result (List ℕ × List ℕ) DecodeFault
 taken fault n bytes = if nat_le n (length bytes) then Ok (take n bytes, drop n bytes) else Err fault
 
--- The bytes behind their length, and those behind them.
+-- The bytes after their length, and those after them.
 unfoldable pub sized_at : DecodeFault → List ℕ → Result (List ℕ × List ℕ) DecodeFault
 sized_at fault bytes = do
   size ← taken fault 4 bytes
@@ -44,7 +46,7 @@ sized_at fault bytes = do
 unfoldable pub number_of : ℕ → ℕ → Option Value
 number_of high low = let n = cast_signed w128 (high * 2 ^ 64 + low) in if is_number n then Some (Num n) else None
 
--- A number, and what stands behind it.
+-- A number, and what follows it.
 unfoldable pub number_at : List ℕ → Result (Option Value × List ℕ) DecodeFault
 number_at bytes = do
   high ← taken BadLength 8 bytes
@@ -55,7 +57,7 @@ number_at bytes = do
 abbrev pub text_of : List ℕ → Option Value
 text_of bytes = if is_utf8 bytes then Some (Text bytes) else None
 
--- The first value and what stands behind it; there may be none that a column can hold.
+-- The first value and what follows it; there may be none that a column can hold.
 unfoldable pub text_at : List ℕ → Result (Option Value × List ℕ) DecodeFault
 text_at bytes = do
   text ← sized_at BadLength bytes
@@ -75,7 +77,7 @@ abbrev pub with_value : Option (List Value) → Option Value → Option (List Va
 with_value (Some values) (Some value) = Some (values ++ value ∷ [])
 with_value values value = None
 
--- So many values behind those so far, and what stands behind them.
+-- So many values after those so far, and what follows them.
 unfoldable pub values_at : Option (List Value) → ℕ → List ℕ → Result (Option (List Value) × List ℕ) DecodeFault
 values_at values zero bytes = Ok (values, bytes)
 values_at values (suc n) bytes = do
@@ -86,14 +88,14 @@ values_at values (suc n) bytes = do
 abbrev pub name_of : List ℕ → Option (List ℕ)
 name_of bytes = if is_utf8 bytes && nat_le (character_count bytes) 64 then Some bytes else None
 
--- A name behind its length in one byte, and what stands behind it.
+-- A name after its length in one byte, and what follows it.
 unfoldable pub name_at : List ℕ → Result (Option (List ℕ) × List ℕ) DecodeFault
 name_at [] = Err BadLength
 name_at (size ∷ bytes) = if size == 0 then Err BadLength else (do
   name ← taken BadLength size bytes
   Ok (name_of name.0, name.1))
 
--- The number of columns, and what stands behind it.
+-- The number of columns, and what follows it.
 unfoldable pub count_at : List ℕ → Result (ℕ × List ℕ) DecodeFault
 count_at [] = Err BadLength
 count_at (count ∷ bytes) = if nat_le 1 count && nat_le count 64 then Ok (count, bytes) else Err BadLength
@@ -108,7 +110,7 @@ abbrev pub two_rows : Option (List Value) → Option (List Value) → Option Cha
 two_rows (Some before) (Some after) = Some (Update before after)
 two_rows before after = None
 
--- The change of a tag, with so many columns, and what stands behind it.
+-- The change of a tag, with so many columns, and what follows it.
 unfoldable pub change_at : ℕ → ℕ → List ℕ → Result (Option Change × List ℕ) DecodeFault
 change_at tag count bytes = do
   first ← values_at (Some []) count bytes
@@ -116,7 +118,7 @@ change_at tag count bytes = do
     second ← values_at (Some []) count first.1
     Ok (two_rows first.0 second.0, second.1)) else Ok (one_row tag first.0, first.1)
 
--- The event of a name and a change, where nothing stands behind them.
+-- The event of a name and a change, where nothing follows them.
 abbrev pub event_of : Option (List ℕ) → Option Change → List ℕ → Result RowEvent DecodeFault
 event_of name change (byte ∷ bytes) = Err BadLength
 event_of (Some name) (Some change) [] = Ok (record { table = name; change = change })

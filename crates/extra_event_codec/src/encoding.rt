@@ -57,7 +57,7 @@ pub fn cost(event: &RowEvent) -> u64
     cost_of_change(&event.change) + event.table.as_str().len() as u64 + 7
 }
 
-/// Adds bytes behind their length.
+/// Adds bytes after their length.
 #[tactic(auto, unfolding(crate::specs::Encoding::sized, crate::specs::Encoding::length_bytes))]
 fn push_sized(into: &mut Vec<u8>, bytes: &[u8]) -> Result<(), AllocError>
     requires { length bytes.now < 2 ^ 32 }

@@ -2,7 +2,7 @@
 
 ghost use Rattle.extra_event_codec.specs.Laws.{ReadsWhatIsWritten, NoEncodingIsAPrefix, ReadsWhatIsEncodable};
 
-/// What is written is read, whatever stands behind it.
+/// What is written is read, whatever comes after it.
 pub fn what_is_written_is_read()
     ensures { ReadsWhatIsWritten }
 {}

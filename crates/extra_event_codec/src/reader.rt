@@ -8,7 +8,7 @@ use crate::fault::DecodeFault;
 use base_values::{Change, Chars, Name, Row, RowEvent, Sequence, Value, character_count};
 use std::alloc::{AllocError, Global};
 
-/// The first so many bytes and those behind them, or the fault where there are fewer.
+/// The first so many bytes and those after them, or the fault where there are fewer.
 #[tactic(auto, unfolding(crate::specs::Reading::taken))]
 fn taken(fault: DecodeFault, n: usize, bytes: &[u8]) -> Result<(&[u8], &[u8]), DecodeFault>
     ensures { Reads (λ parts. (parts.0.now, parts.1.now)) result (taken fault n bytes.now) }
@@ -19,7 +19,7 @@ fn taken(fault: DecodeFault, n: usize, bytes: &[u8]) -> Result<(&[u8], &[u8]), D
     Ok(bytes.split_at(n))
 }
 
-/// The bytes behind their length, and those behind them.
+/// The bytes after their length, and those after them.
 #[tactic(auto, unfolding(crate::specs::Reading::sized_at, crate::specs::Reading::taken))]
 fn sized_at(fault: DecodeFault, bytes: &[u8]) -> Result<(&[u8], &[u8]), DecodeFault>
     ensures { Reads (λ parts. (parts.0.now, parts.1.now)) result (sized_at fault bytes.now) }
@@ -40,7 +40,7 @@ fn number_of(high: u64, low: u64) -> Option<Value>
     Some(Value::Num(number))
 }
 
-/// A number, and what stands behind it.
+/// A number, and what follows it.
 #[tactic(auto, unfolding(crate::specs::Reading::number_at, crate::specs::Reading::taken))]
 fn number_at(bytes: &[u8]) -> Result<(Option<Value>, &[u8]), DecodeFault>
     ensures { Reads (λ value. (value.0, value.1.now)) result (number_at bytes.now) }
@@ -73,7 +73,7 @@ fn text_of(alloc: Global, bytes: &[u8]) -> Result<Option<Value>, AllocError>
     }
 }
 
-/// A text, and what stands behind it.
+/// A text, and what follows it.
 #[tactic(auto, unfolding(crate::specs::Reading::text_at))]
 fn text_at(alloc: Global, bytes: &[u8]) -> Result<(Option<Value>, &[u8]), DecodeFault>
     ensures { Reads (λ value. (value.0, value.1.now)) result (text_at bytes.now) }
@@ -82,7 +82,7 @@ fn text_at(alloc: Global, bytes: &[u8]) -> Result<(Option<Value>, &[u8]), Decode
     Ok((text_of(alloc, text)?, rest))
 }
 
-/// Bytes that are a value, and what stands behind them.
+/// Bytes that are a value, and what follows them.
 #[tactic(auto, unfolding(crate::specs::Reading::blob_at))]
 fn blob_at(alloc: Global, bytes: &[u8]) -> Result<(Option<Value>, &[u8]), DecodeFault>
     ensures { Reads (λ value. (value.0, value.1.now)) result (blob_at bytes.now) }
@@ -92,7 +92,7 @@ fn blob_at(alloc: Global, bytes: &[u8]) -> Result<(Option<Value>, &[u8]), Decode
     Ok((Some(Value::Blob(blob)), rest))
 }
 
-/// A value, and what stands behind it.
+/// A value, and what follows it.
 #[tactic(auto, unfolding(crate::specs::Reading::value_at))]
 fn value_at(alloc: Global, bytes: &[u8]) -> Result<(Option<Value>, &[u8]), DecodeFault>
     ensures { Reads (λ value. (value.0, value.1.now)) result (value_at bytes.now) }
@@ -120,7 +120,7 @@ fn with_value(values: Option<Row>, value: Option<Value>) -> Result<Option<Row>, 
     }
 }
 
-/// So many values, and what stands behind them.
+/// So many values, and what follows them.
 #[tactic(auto, using(crate::proofs::ReadValues::steps))]
 fn values_at(alloc: Global, count: u8, bytes: &[u8]) -> Result<(Option<Row>, &[u8]), DecodeFault>
     ensures { Reads (λ values. (values.0, values.1.now)) result (values_at (Some []) count bytes.now) }
@@ -154,7 +154,7 @@ fn name_of(alloc: Global, bytes: &[u8]) -> Result<Option<Name>, AllocError>
     Ok(Some(Name::new(alloc, text)?))
 }
 
-/// A name behind its length, and what stands behind it.
+/// A name after its length, and what follows it.
 #[tactic(auto, unfolding(crate::specs::Reading::name_at))]
 fn name_at(alloc: Global, bytes: &[u8]) -> Result<(Option<Name>, &[u8]), DecodeFault>
     ensures { Reads (λ name. (name.0, name.1.now)) result (name_at bytes.now) }
@@ -167,7 +167,7 @@ fn name_at(alloc: Global, bytes: &[u8]) -> Result<(Option<Name>, &[u8]), DecodeF
     Ok((name_of(alloc, name)?, rest))
 }
 
-/// The number of columns, and what stands behind it.
+/// The number of columns, and what follows it.
 #[tactic(auto, unfolding(crate::specs::Reading::count_at))]
 fn count_at(bytes: &[u8]) -> Result<(u8, &[u8]), DecodeFault>
     ensures { Reads (λ count. (count.0, count.1.now)) result (count_at bytes.now) }
@@ -201,7 +201,7 @@ fn two_rows(before: Option<Row>, after: Option<Row>) -> Option<Change>
     }
 }
 
-/// The change of a tag, with so many columns, and what stands behind it.
+/// The change of a tag, with so many columns, and what follows it.
 #[tactic(auto, unfolding(crate::specs::Reading::change_at))]
 fn change_at(
     alloc: Global,
@@ -219,7 +219,7 @@ fn change_at(
     Ok((two_rows(first, second), rest))
 }
 
-/// The event of a name and a change, where nothing stands behind them.
+/// The event of a name and a change, where nothing follows them.
 fn event_of(
     name: Option<Name>,
     change: Option<Change>,

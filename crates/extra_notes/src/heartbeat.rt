@@ -9,7 +9,7 @@ use std::alloc::{AllocError, Global};
 
 const HINT: &str = "heartbeat";
 
-/// The id behind which those of the heartbeats stand.
+/// The id after which those of the heartbeats stand.
 const BASE: i128 = 1_000_000;
 
 /// How many heartbeats there are.

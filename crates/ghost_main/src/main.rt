@@ -8,7 +8,7 @@ use std::rt::Env;
 use std::{env, io};
 use top_call::{Line, ghost_};
 
-/// The words behind the program's name. Words that aren't UTF-8 are no command, as no words are none.
+/// The words after the program's name. Words that aren't UTF-8 are no command, as no words are none.
 fn words<R: Env + AllocGlobal>(rt: &R) -> Result<Line, AllocError> {
     let mut line = Line::new(rt.alloc());
     match env::args(rt) {

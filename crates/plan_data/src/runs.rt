@@ -3,7 +3,7 @@
 use base_script::Actor;
 use base_values::Sequence;
 
-/// Turns of one actor, one behind the other, as a word of a plan's `turns` asks for them: `copy*3`.
+/// Turns of one actor, one after the other, as a word of a plan's `turns` asks for them: `copy*3`.
 #[derive(Clone, Copy)]
 pub struct ActorRun {
     /// Whose turns.

@@ -38,7 +38,7 @@ use Rattle.proof_journals.specs.Asking.{word_in}
 use Rattle.tool_program.specs.JournalWords.Journals.{opens, after_entry, state_after}
 use Rattle.tool_program.specs.JournalWords.Histories.{takes_away, renames_away}
 
--- *State of a scene*: the server behind a journal that begins with the scene's tables
+-- *State of a scene*: the server after a journal that begins with the scene's tables
 abbrev pub scene_state : Limits → Scene → List Entry → State
 scene_state limits scene journal = state_after (opened limits scene.opening) journal
 

@@ -16,7 +16,7 @@ abbrev pub RenamesFindTheAltered : Type 0
 RenamesFindTheAltered =
     (plan : PlanData) (is : IsAlterable plan) (journal : List Entry) (entry : Entry) → IsWorded plan → IsSerialPlan plan → IsRename plan journal entry → IsAltered (migration_of is.table.schema is.new) (state_at plan journal).tables
 
--- *Kept journals are serial*: so is each journal of an alterable plan that is kept, whatever is answered, refused, lost or repeated,
--- whatever is reverted, and whatever comes behind its RENAME.
+-- *Kept journals are serial*: so is each journal of an alterable plan that is kept, whatever is answered, refused, lost or
+-- repeated, whatever is reverted, and whatever comes after its RENAME.
 abbrev pub KeptJournalsAreSerial : Type 0
 KeptJournalsAreSerial = (plan : PlanData) → IsAlterable plan → (journal : List Entry) → IsWorded plan → IsSerialPlan plan → IsKept plan journal → IsSerial plan journal

@@ -38,13 +38,13 @@ abbrev pub IsAsItWas : List ℕ → TableRows → Option TableRows → Type 0
 IsAsItWas table was None = Unit {0}
 IsAsItWas table was (Some old) = old ≡ name_table (old_name table) was
 
--- the old table right behind the RENAME, and behind more turns
+-- the old table right after the RENAME, and after more turns
 pub record IsOldKept (plan : PlanData) (was : TableRows) (renamed later : List Entry) : Type 0 where
   pub becomes : find_table (old_name plan.table) (state_at plan renamed).tables ≡ Some (name_table (old_name plan.table) was)
   pub stays : IsAsItWas plan.table was (find_table (old_name plan.table) (state_at plan later).tables)
 
--- *Keeps the old table*: where the RENAME is done in some turn, the table of just before it stands behind it under the old
--- table's name, with its rows and its schema but for the name; and behind any more turns too, while one stands there.
+-- *Keeps the old table*: where the RENAME is done in some turn, the table of just before it stands after it under the old
+-- table's name, with its rows and its schema but for the name; and after any more turns too, while one stands there.
 abbrev pub KeepsOldTable : PlanData → List Entry → Type 0
 KeepsOldTable plan journal =
     (before : List Entry) (entry : Entry) (more rest : List Entry) (was : TableRows) → journal ≡ (before ++ entry ∷ more) ++ rest → list_any is_alter (entry_adds plan before entry) ≡ true → find_table plan.table (state_at plan before).tables ≡ Some was

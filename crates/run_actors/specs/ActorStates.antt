@@ -12,12 +12,12 @@ use Rattle.tool_program.specs.JournalWords.Sessions.{live_session, session_left}
 use Rattle.tool_program.specs.JournalWords.Histories.{request_waiting, renames_away}
 use Rattle.run_actors.specs.declared.actor_state.ActorState.{ActorState}
 
--- *Actor state*: what is kept of an actor behind the turns of a journal
+-- *Actor state*: what is kept of an actor after the turns of a journal
 abbrev pub actor_state_at : List ℕ → List Entry → Actor → ActorState
 actor_state_at table journal actor =
     record { actor = actor; session = live_session journal actor; turns = turns_of actor journal; renames = renames_away table (request_waiting journal actor) }
 
--- whether the actor's request, which waits behind a turn, takes the table's name away
+-- whether the actor's request, which waits after a turn, takes the table's name away
 abbrev pub renames_after : List ℕ → Asked → Answer → Bool → Bool
 renames_after table (Call request) (answers.Waits by) old = renames_away table (Some request)
 renames_after table Poll (answers.Waits by) old = old
@@ -26,7 +26,7 @@ renames_after table asked answer old = false
 abbrev pub counted : Bool → ℕ → ℕ
 counted cut turns = if cut then turns else turns + 1
 
--- the state of the turn's actor behind it
+-- the state of the turn's actor after it
 abbrev pub turned : List ℕ → Entry → ActorState → ActorState
 turned table entry actor_state =
     record actor_state {
@@ -35,6 +35,6 @@ turned table entry actor_state =
       renames = renames_after table entry.asked entry.answer actor_state.renames;
     }
 
--- every actor state behind a turn
+-- every actor state after a turn
 abbrev pub actor_state_after : List ℕ → Entry → ActorState → ActorState
 actor_state_after table entry actor_state = if same_actor entry.actor actor_state.actor then turned table entry actor_state else actor_state

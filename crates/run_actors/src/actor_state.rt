@@ -34,7 +34,7 @@ fn session_left(entry: &Entry) -> Option<u32>
     }
 }
 
-/// Whether the request that waits behind a turn takes the table's name away, where the one before it did or didn't.
+/// Whether the request that waits after a turn takes the table's name away, where the one before it did or didn't.
 fn renames_after(table: &Name, entry: &Entry, old: bool) -> bool
     ensures { result ≡ renames_after table.now entry.now.asked entry.now.answer old }
 {
@@ -45,7 +45,7 @@ fn renames_after(table: &Name, entry: &Entry, old: bool) -> bool
     }
 }
 
-/// The state of the turn's actor behind it.
+/// The state of the turn's actor after it.
 fn turn(actor_state: &mut ActorState, table: &Name, entry: &Entry)
     requires { actor_state.old.turns < 2 ^ 32 }
     ensures { actor_state.new ≡ turned table.now entry.now actor_state.old }

@@ -29,7 +29,7 @@ is_over plan journal = has_ended plan journal || nat_le plan.options.turn_limit 
 unfoldable pub Stops : PlanData → List Entry → Type 0
 Stops plan journal = Along (λ before entry. is_over plan before ≡ false) [] journal
 
--- the run behind a turn: the server answered it
+-- the run after a turn: the server answered it
 abbrev pub with_turn : RunView → Turn → RunView
 with_turn run turn = record run { journal = run.journal ++ next_entry run.journal run.server turn ∷ []; server = after_entry run.server (next_entry run.journal run.server turn) }
 

@@ -187,7 +187,7 @@ impl<'a, V: Serve> Run<'a, V> {
         self.run_state.journal.as_slice()
     }
 
-    /// The server, behind the journal's turns.
+    /// The server, after the journal's turns.
     pub fn server(&self) -> &V
         ensures server { V.state result.now ≡ self.now.server }
         ensures behind { IsAfter (state_at self.now.plan self.now.journal) self.now.server }

@@ -51,7 +51,7 @@ is_look requests.ShowTables = true
 is_look requests.ShowWaiting = true
 is_look request = false
 
--- what is done before the session is lost: what it asked, where it is lost behind that
+-- what is done before the session is lost: what it asked, where it is lost after that
 abbrev pub before_loss : Option Side → State → ℕ → Asked → State
 before_loss None state number asked = state
 before_loss (Some Before) state number asked = state

@@ -65,7 +65,7 @@ abbrev pub locks_if : Bool → List (List ℕ) → Effect
 locks_if true names = Locks ok names
 locks_if false names = Rests (refuses 1146)
 
--- a new table without rows, behind the others; a table that is dropped; all pairs renamed, or none
+-- a new table without rows, after the others; a table that is dropped; all pairs renamed, or none
 abbrev pub created : Bool → Schema → Database → Result Database ℕ
 created true schema tables = Err 1050
 created false schema tables = Ok (tables ++ record { schema = schema; rows = [] } ∷ [])

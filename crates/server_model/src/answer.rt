@@ -28,7 +28,7 @@ pub enum Answer {
     Events {
         /// The events, in the order of the log.
         events: Events,
-        /// The position behind them.
+        /// The position after them.
         next: u64,
     },
     /// The tables that stand.

@@ -88,7 +88,7 @@ fn hold_one(
     Ok(())
 }
 
-/// The names are held, each behind the others. Where there is no memory, some of them are.
+/// The names are held, each after the others. Where there is no memory, some of them are.
 fn hold_all(
     granted: &mut Vec<HeldName>,
     different: &mut Vec<HeldName>,

@@ -8,7 +8,7 @@ use server_model::{Need, Session};
 use std::alloc::{AllocError, Global};
 use std::mem;
 
-/// Adds items behind others; all is as before where there is no memory.
+/// Adds items after others; all is as before where there is no memory.
 pub fn append<T: Drop>(
     alloc: Global,
     into: &mut Sequence<T>,

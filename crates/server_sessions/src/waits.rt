@@ -22,7 +22,7 @@ pub fn is_waiting(waiting: &[Waiting], number: u32) -> bool
     waiting.iter().any(|one| one.session == number)
 }
 
-/// The session's request waits behind all others; all is as before where there is no memory.
+/// The session's request waits after all others; all is as before where there is no memory.
 pub fn begin_wait(
     waiting: &mut Vec<Waiting>,
     number: u32,

@@ -17,7 +17,7 @@ use table_store::paged_tables::Tables;
 use table_store::paged_tables::row_pages::Table;
 use table_store::{AddFault, Pairs, RenameFault};
 
-/// Makes a table without rows, behind the others (CREATE TABLE).
+/// Makes a table without rows, after the others (CREATE TABLE).
 pub fn create_table(alloc: Global, tables: &mut Tables, schema: &Schema) -> Result<(), AllocError>
     requires absent { has_table schema.now.name (database tables.old) ≡ false }
     requires well_formed { IsWellFormedTable (record { schema = schema.now; rows = [] }) }

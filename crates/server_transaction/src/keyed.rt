@@ -74,7 +74,7 @@ pub fn reserve_events(events: &mut Vec<KeyedEvent>, n: usize) -> Result<(), Allo
     events.reserve(n)
 }
 
-/// Adds events behind others.
+/// Adds events after others.
 pub fn append_events(events: &mut Vec<KeyedEvent>, mut more: Vec<KeyedEvent>)
     requires { length more.items ≤ vec_capacity events.old - vec_len events.old }
     ensures { events.new.items ≡ events.old.items ++ more.items }

@@ -22,7 +22,7 @@ add_index_at words = do
   key ← in_alter (key_at words)
   Ok (AddIndex key.0.name key.0.columns, key.1)
 
--- Behind ADD: what isn't taken, a unique key, the PRIMARY KEY, an index, or a column with or without COLUMN in front.
+-- After ADD: what isn't taken, a unique key, the PRIMARY KEY, an index, or a column with or without COLUMN in front.
 unfoldable pub add_at : List Token → Read Clause
 add_at [] = Err refusals.Syntax
 add_at (word ∷ rest) =
@@ -32,7 +32,7 @@ add_at (word ∷ rest) =
     else (if is_index_word word then add_index_at rest
     else add_column_at (after_column (word ∷ rest)))))
 
--- Behind CHANGE: a column, what it is afterwards, and where it stands.
+-- After CHANGE: a column, what it is afterwards, and where it stands.
 unfoldable pub change_at : List Token → Read Clause
 change_at words = do
   old ← in_alter (name_at (after_column words))
@@ -40,7 +40,7 @@ change_at words = do
   column_position ← column_position_at column.1
   Ok (Change old.0 column.0 column_position.0, column_position.1)
 
--- Behind MODIFY: the same with one name.
+-- After MODIFY: the same with one name.
 unfoldable pub modify_at : List Token → Read Clause
 modify_at words = do
   column ← new_column_at (after_column words)

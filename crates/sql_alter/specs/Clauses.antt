@@ -26,7 +26,7 @@ clause_at (word ∷ rest) =
     else (if same_sign word (codes ",") then Err refusals.Syntax
     else Err refusals.Scope)))))
 
--- nothing stands behind the clauses
+-- nothing follows the clauses
 abbrev pub alone : List Clause → List Token → Result (List Clause) AlterCode
 alone clauses [] = Ok clauses
 alone clauses (word ∷ rest) = Err refusals.Syntax
@@ -39,7 +39,7 @@ clauses_at words = do
   clauses ← list_at words
   alone clauses.0 clauses.1
 
--- the name behind ALTER TABLE has to be the migrated table's
+-- the name after ALTER TABLE has to be the migrated table's
 abbrev pub of_table : List ℕ → List ℕ × List Token → Result (List Token) AlterCode
 of_table table name = if bytes_eq name.0 table then Ok name.1 else Err refusals.Syntax
 
@@ -51,7 +51,7 @@ abbrev pub after_alter : List ℕ → List Token → Option (List Token) → Res
 after_alter table words (Some rest) = after_table table words (after_keyword (codes "TABLE") rest)
 after_alter table words None = Ok words
 
--- The words behind ALTER TABLE and the table's name, where those stand in front.
+-- The words after ALTER TABLE and the table's name, where those stand in front.
 unfoldable pub front_at : List ℕ → List Token → Result (List Token) AlterCode
 front_at table words = after_alter table words (after_keyword (codes "ALTER") words)
 

@@ -16,11 +16,11 @@ use Rattle.sql_change.specs.declared.code.AlterCode.{AlterCode}
 use Rattle.sql_change.specs.declared.code.AlterCode.TheVariants as codes
 use Rattle.sql_alter.specs.Pieces.{Read, in_alter}
 
--- an attribute that was read and the words behind it, or none
+-- an attribute that was read and the words after it, or none
 abbrev pub Perhaps : Type 0
 Perhaps = Result (Option (Attribute × List Token)) AlterCode
 
--- KEY has to stand behind PRIMARY, and then the clustered key is changed
+-- KEY has to stand after PRIMARY, and then the clustered key is changed
 abbrev pub primary_at : {A : Type 0} → List Token → Result A AlterCode
 primary_at words = in_alter (keyword_at (codes "KEY") words) >>= λ rest. Err codes.ClusteredKeyChange
 

@@ -7,7 +7,7 @@ use Rattle.sql_grammar.specs.Tokens.{is_keyword}
 use Rattle.sql_change.specs.declared.code.AlterCode.{AlterCode}
 use Rattle.sql_change.specs.declared.code.AlterCode.TheVariants.{Syntax}
 
--- what is read at the front, and the words behind it
+-- what is read at the front, and the words after it
 abbrev pub Read : Type 0 → Type 0
 Read A = Result (A × List Token) AlterCode
 
@@ -16,7 +16,7 @@ abbrev pub in_alter : {A : Type 0} → Result A SchemaCode → Result A AlterCod
 in_alter (Ok x) = Ok x
 in_alter (Err code) = Err Syntax
 
--- what stands behind a keyword that may be left out
+-- what follows a keyword that may be left out
 abbrev pub without : List Token → Option (List Token) → List Token
 without words (Some rest) = rest
 without words None = words
@@ -29,6 +29,6 @@ after_column words = without words (after_keyword (codes "COLUMN") words)
 abbrev pub is_index_word : Token → Bool
 is_index_word word = is_keyword word (codes "INDEX") || is_keyword word (codes "KEY")
 
--- what may stand behind ADD and DROP in MySQL and not here ("ALTER TABLE Statement")
+-- what may stand after ADD and DROP in MySQL and not here ("ALTER TABLE Statement")
 unfoldable pub is_out_of_scope : Token → Bool
 is_out_of_scope word = is_keyword word (codes "CONSTRAINT") || is_keyword word (codes "FOREIGN") || is_keyword word (codes "FULLTEXT") || is_keyword word (codes "SPATIAL") || is_keyword word (codes "CHECK") || is_keyword word (codes "PARTITION")

@@ -20,7 +20,7 @@ drop_index_at words = do
   name ← in_alter (name_at words)
   Ok (DropIndex name.0, name.1)
 
--- Behind DROP: what isn't taken, the PRIMARY KEY, a key or an index, or a column with or without COLUMN in front.
+-- After DROP: what isn't taken, the PRIMARY KEY, a key or an index, or a column with or without COLUMN in front.
 unfoldable pub drop_at : List Token → Read Clause
 drop_at [] = Err refusals.Syntax
 drop_at (word ∷ rest) =
@@ -37,7 +37,7 @@ rename_column_at words = do
   new ← in_alter (name_at rest)
   Ok (Rename old.0 new.0, new.1)
 
--- Behind RENAME: a column behind COLUMN, the table behind TO or AS, or an index, which isn't taken.
+-- After RENAME: a column after COLUMN, the table after TO or AS, or an index, which isn't taken.
 unfoldable pub rename_at : List Token → Read Clause
 rename_at [] = Err refusals.Syntax
 rename_at (word ∷ rest) =

@@ -90,7 +90,7 @@ fn after_table<'a>(
     }
 }
 
-/// What stands behind ALTER TABLE and the table's name, where those stand in front.
+/// What follows ALTER TABLE and the table's name, where those stand in front.
 #[tactic(auto, unfolding(crate::specs::Clauses::front_at))]
 pub fn front_at<'a>(
     alloc: Global,

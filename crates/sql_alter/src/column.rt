@@ -50,7 +50,7 @@ fn new_attributes_at(alloc: Global, words: &[Token]) -> Result<(Attributes, &[To
     Ok((attributes, rest))
 }
 
-/// The column at the front, and what stands behind it.
+/// The column at the front, and what follows it.
 #[tactic(auto, unfolding(crate::specs::Column::new_column_at))]
 pub fn new_column_at(alloc: Global, words: &[Token]) -> Result<(NewColumn, &[Token]), AlterFault>
     ensures { Answers (λ column. (column.0, column.1.now)) result (new_column_at words.now) }
@@ -77,7 +77,7 @@ fn after_at(alloc: Global, words: &[Token]) -> Result<(ColumnPosition, &[Token])
     Ok((ColumnPosition::After(name), rest))
 }
 
-/// Where a clause puts its column, and what stands behind that.
+/// Where a clause puts its column, and what follows that.
 #[tactic(auto, unfolding(crate::specs::Column::column_position_at))]
 pub fn column_position_at(
     alloc: Global,

@@ -13,7 +13,7 @@ use sql_change::{AlterCode, AlterFault};
 use sql_grammar::{Attribute, KeyText, Token, after_keyword};
 use std::alloc::Global;
 
-/// What stands behind this keyword, which has to be the first word.
+/// What follows this keyword, which has to be the first word.
 pub fn keyword_at<'a>(keyword: &str, words: &'a [Token]) -> Result<&'a [Token], AlterFault>
     ensures { Answers (λ rest. rest.now) result (in_alter (keyword_at keyword.now words.now)) }
 {
@@ -23,21 +23,21 @@ pub fn keyword_at<'a>(keyword: &str, words: &'a [Token]) -> Result<&'a [Token], 
     )
 }
 
-/// The name at the front, and what stands behind it.
+/// The name at the front, and what follows it.
 pub fn name_at(alloc: Global, words: &[Token]) -> Result<(Name, &[Token]), AlterFault>
     ensures { Answers (λ name. (name.0, name.1.now)) result (in_alter (name_at words.now)) }
 {
     because(sql_grammar::name_at(alloc, words), |_| AlterCode::Syntax)
 }
 
-/// The kind at the front, and what stands behind it.
+/// The kind at the front, and what follows it.
 pub fn kind_at(words: &[Token]) -> Result<(Kind, &[Token]), AlterFault>
     ensures { Answers (λ kind. (kind.0, kind.1.now)) result (in_alter (kind_at words.now)) }
 {
     because(sql_grammar::kind_at(words), |_| AlterCode::Syntax)
 }
 
-/// The attribute at the front and what stands behind it; none where the first word begins none.
+/// The attribute at the front and what follows it; none where the first word begins none.
 pub fn attribute_at(
     alloc: Global,
     words: &[Token],
@@ -50,14 +50,14 @@ pub fn attribute_at(
     )
 }
 
-/// The name and the columns of an index, and what stands behind them.
+/// The name and the columns of an index, and what follows them.
 pub fn key_at(alloc: Global, words: &[Token]) -> Result<(KeyText, &[Token]), AlterFault>
     ensures { Answers (λ key. (key.0, key.1.now)) result (in_alter (key_at words.now)) }
 {
     because(sql_grammar::key_at(alloc, words), |_| AlterCode::Syntax)
 }
 
-/// What stands behind COLUMN, which may be left out.
+/// What follows COLUMN, which may be left out.
 #[tactic(auto, unfolding(crate::specs::Pieces::after_column))]
 pub fn after_column(words: &[Token]) -> &[Token]
     ensures { result.now ≡ after_column words.now }

@@ -53,13 +53,13 @@ is_in_primary uniques place = list_any (λ index. is_none index.name && has_plac
 
 -- ---- where clauses put columns
 
--- the column behind which another is to stand is there
+-- the column after which another is to stand is there
 abbrev pub is_column_position : List Column → ColumnPosition → Bool
 is_column_position columns Unsaid = true
 is_column_position columns First = true
 is_column_position columns (After name) = has_column columns name
 
--- the place behind one; in front where there is none
+-- the place after one; in front where there is none
 abbrev pub behind : Option ℕ → ℕ
 behind (Some place) = place + 1
 behind None = 0

@@ -25,17 +25,17 @@ with_column_attribute attributes Primary = record attributes { is_primary = true
 with_column_attribute attributes Unique = record attributes { is_unique = true }
 with_column_attribute attributes (Plain attribute) = record attributes { plain = with_attribute attributes.plain attribute }
 
--- an attribute that was read and the words behind it, or none
+-- an attribute that was read and the words after it, or none
 abbrev pub Perhaps : Type 0
 Perhaps = Result (Option (ColumnAttribute × List Token)) SchemaCode
 
--- behind PRIMARY, KEY has to stand
+-- after PRIMARY, KEY has to stand
 abbrev pub primary_at : List Token → Perhaps
 primary_at words = do
   rest ← keyword_at (codes "KEY") words
   Ok (Some (Primary, rest))
 
--- behind UNIQUE, KEY may stand
+-- after UNIQUE, KEY may stand
 abbrev pub unique_after : List Token → Option (List Token) → Option (ColumnAttribute × List Token)
 unique_after words (Some rest) = Some (Unique, rest)
 unique_after words None = Some (Unique, words)

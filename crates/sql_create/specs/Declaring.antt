@@ -48,7 +48,7 @@ name_reasons names primaries named =
 
 -- ---- columns
 
--- Columns of the PRIMARY KEY are NOT NULL, whatever is written behind them ("CREATE TABLE Statement").
+-- Columns of the PRIMARY KEY are NOT NULL, whatever is written after them ("CREATE TABLE Statement").
 abbrev pub nullable_of : List (List (List ℕ)) → WrittenColumn → Bool
 nullable_of primaries column = not (list_any (λ names. is_among names column.name) primaries) && unwrap_or column.attributes.plain.nullable true
 

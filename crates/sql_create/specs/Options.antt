@@ -1,4 +1,4 @@
--- What stands behind a table's closing parenthesis ("CREATE TABLE Statement", "Table Options").
+-- What follows a table's closing parenthesis ("CREATE TABLE Statement", "Table Options").
 use Rattle.std.specs.Prelude.{codes, ℕ, if◌then◌else◌, List, [], ◌∷◌, length, Option, Some, None, Result, Ok, Err}
 use Rattle.sql_grammar.specs.declared.code.SchemaCode.{SchemaCode}
 use Rattle.sql_grammar.specs.declared.token.Token.{Token}
@@ -16,7 +16,7 @@ abbrev pub with_option : List ℕ → TableOption → List ℕ
 with_option comment (Comment text) = text
 with_option comment Passed = comment
 
--- an option that was read and the words behind it, or none
+-- an option that was read and the words after it, or none
 abbrev pub Perhaps : Type 0
 Perhaps = Result (Option (TableOption × List Token)) SchemaCode
 
@@ -54,7 +54,7 @@ charset_at (word ∷ rest) =
     else (if is_keyword word (codes "COLLATE") then passed_at rest
     else Ok None))
 
--- behind DEFAULT, one of them has to stand
+-- after DEFAULT, one of them has to stand
 abbrev pub needed : List Token → Option (TableOption × List Token) → Perhaps
 needed words (Some read) = Ok (Some read)
 needed words None = Err (mismatch words)

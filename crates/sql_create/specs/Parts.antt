@@ -9,11 +9,11 @@ use Rattle.sql_create.specs.declared.written.WrittenKey.{WrittenKey}
 abbrev pub no_parts : Parts
 no_parts = record { columns = []; primaries = []; keys = [] }
 
--- PRIMARY KEY behind a column is a PRIMARY KEY of that column.
+-- PRIMARY KEY after a column is a PRIMARY KEY of that column.
 abbrev pub own_primary : WrittenColumn → List (List (List ℕ))
 own_primary column = if column.attributes.is_primary then (column.name ∷ []) ∷ [] else []
 
--- UNIQUE behind a column is a key of that column, which stands at the column's place.
+-- UNIQUE after a column is a key of that column, which stands at the column's place.
 abbrev pub own_key : WrittenColumn → List WrittenKey
 own_key column = if column.attributes.is_unique then record { is_unique = true; text = record { name = None; columns = column.name ∷ [] } } ∷ [] else []
 

@@ -17,7 +17,7 @@ use Rattle.sql_create.specs.declared.written.WrittenTable.{WrittenTable}
 use Rattle.sql_create.specs.Columns.{column_at}
 use Rattle.sql_create.specs.Options.{options_at}
 
--- PRIMARY KEY and its columns, behind PRIMARY
+-- PRIMARY KEY and its columns, after PRIMARY
 unfoldable pub primary_item_at : List Token → Read Item
 primary_item_at words = do
   rest ← keyword_at (codes "KEY") words
@@ -30,7 +30,7 @@ key_item_at is_unique words = do
   key ← key_at words
   Ok (items.Key (record { is_unique = is_unique; text = key.0 }), key.1)
 
--- KEY or INDEX, which may stand behind UNIQUE
+-- KEY or INDEX, which may stand after UNIQUE
 abbrev pub key_word : List Token → Option (List Token) → Option (List Token) → List Token
 key_word words (Some rest) index = rest
 key_word words None (Some rest) = rest
@@ -57,17 +57,17 @@ item_at (word ∷ rest) =
 unfoldable pub items_at : List Token → Read (List Item)
 items_at words = listed item_at Syntax (length words) words
 
--- the words behind a last ;
+-- the words after a last ;
 abbrev pub last_words : List Token → Option (List Token) → List Token
 last_words words (Some rest) = rest
 last_words words None = words
 
--- nothing stands behind the table
+-- nothing follows the table
 abbrev pub alone : WrittenTable → List Token → Result WrittenTable SchemaCode
 alone table [] = Ok table
 alone table (word ∷ rest) = Err (mismatch (word ∷ rest))
 
--- CREATE TABLE, the table's name, its items in parentheses, its options, and at most one ; behind them.
+-- CREATE TABLE, the table's name, its items in parentheses, its options, and at most one ; after them.
 unfoldable pub table_at : List Token → Result WrittenTable SchemaCode
 table_at words = do
   rest ← keyword_at (codes "CREATE") words
@@ -79,7 +79,7 @@ table_at words = do
   comment ← options_at rest
   alone (record { name = name.0; items = items.0; comment = comment.0 }) (last_words comment.1 (after_sign (codes ";") comment.1))
 
--- a text whose first fault stands behind a whole table is no CREATE TABLE
+-- a text whose first fault stands after a whole table is no CREATE TABLE
 abbrev pub unless_faulty : Bool → WrittenTable → Result WrittenTable SchemaCode
 unless_faulty true table = Err Syntax
 unless_faulty false table = Ok table

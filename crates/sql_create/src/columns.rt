@@ -79,7 +79,7 @@ fn column_attributes_at(
     Ok((attributes, rest))
 }
 
-/// The first column, and what stands behind it.
+/// The first column, and what follows it.
 #[tactic(auto, unfolding(crate::specs::Columns::column_at))]
 pub fn column_at(alloc: Global, words: &[Token]) -> Result<(WrittenColumn, &[Token]), SchemaFault>
     ensures { Answers (λ column. (column.0, column.1.now)) result (column_at words.now) }

@@ -1,4 +1,4 @@
-//! What stands behind a table's closing parenthesis.
+//! What follows a table's closing parenthesis.
 
 ghost use Rattle.std.specs.Prelude.{◌≡◌, option_map};
 ghost use Rattle.base_values.specs.Faults.{Answers};
@@ -113,7 +113,7 @@ fn with_option(comment: Chars, option: TableOption) -> Chars
     }
 }
 
-/// The comment that the options here give, and what stands behind them.
+/// The comment that the options here give, and what follows them.
 #[tactic(auto, unfolding(crate::specs::Options::options_at))]
 pub fn options_at(alloc: Global, words: &[Token]) -> Result<(Chars, &[Token]), SchemaFault>
     ensures { Answers (λ comment. (comment.0, comment.1.now)) result (options_at words.now) }

@@ -10,11 +10,11 @@ pub struct WrittenColumn {
     pub name: Name,
     /// The kind of its values.
     pub kind: Kind,
-    /// What stands behind its kind.
+    /// What follows its kind.
     pub attributes: ColumnAttributes,
 }
 
-/// What stands behind a column's kind.
+/// What follows a column's kind.
 #[derive(Drop)]
 pub struct ColumnAttributes {
     /// NULL, NOT NULL and DEFAULT.

@@ -1,4 +1,4 @@
--- What stands behind a column's kind, but for its keys ("CREATE TABLE Statement").
+-- What follows a column's kind, but for its keys ("CREATE TABLE Statement").
 use Rattle.std.specs.Prelude.{codes, true, false, if◌then◌else◌, List, [], ◌∷◌, Option, Some, None, Result, Ok}
 use Rattle.sql_grammar.specs.declared.attributes.Attribute.{Attribute}
 use Rattle.sql_grammar.specs.declared.attributes.Attribute.TheVariants.{Nullable, Default, Passed}
@@ -19,36 +19,36 @@ with_attribute attributes (Nullable nullable) = record attributes { nullable = S
 with_attribute attributes (Default value) = record attributes { default = Some value }
 with_attribute attributes Passed = attributes
 
--- an attribute that was read and the words behind it, or none
+-- an attribute that was read and the words after it, or none
 abbrev pub Perhaps : Type 0
 Perhaps = Result (Option (Attribute × List Token)) SchemaCode
 
--- behind NOT, NULL has to stand
+-- after NOT, NULL has to stand
 abbrev pub not_null_at : List Token → Perhaps
 not_null_at words = do
   rest ← keyword_at (codes "NULL") words
   Ok (Some (Nullable false, rest))
 
--- behind DEFAULT, a literal
+-- after DEFAULT, a literal
 abbrev pub default_at : List Token → Perhaps
 default_at words = do
   value ← literal_at words
   Ok (Some (Default value.0, value.1))
 
--- behind COMMENT, a text, which is passed over
+-- after COMMENT, a text, which is passed over
 abbrev pub comment_at : List Token → Perhaps
 comment_at words = do
   text ← text_at words
   Ok (Some (Passed, text.1))
 
--- behind CHARACTER, SET and any word, which are passed over
+-- after CHARACTER, SET and any word, which are passed over
 abbrev pub character_set_at : List Token → Perhaps
 character_set_at words = do
   rest ← keyword_at (codes "SET") words
   rest ← any_word_at rest
   Ok (Some (Passed, rest))
 
--- behind COLLATE, any word, which is passed over
+-- after COLLATE, any word, which is passed over
 abbrev pub collation_at : List Token → Perhaps
 collation_at words = do
   rest ← any_word_at words

@@ -35,7 +35,7 @@ abbrev pub descending_or : SchemaCode → Option (List Token) → SchemaCode
 descending_or other None = other
 descending_or other (Some rest) = Scope
 
--- What a key is refused with where these words stand behind one of its columns.
+-- What a key is refused with where these words come after one of its columns.
 unfoldable pub key_mismatch : List Token → SchemaCode
 key_mismatch words = descending_or (prefix_or (mismatch words) (after_sign (codes "(") words)) (after_keyword (codes "DESC") words)
 

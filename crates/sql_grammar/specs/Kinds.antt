@@ -59,7 +59,7 @@ length_at words = do
   rest ← sign_at (codes ")") length.1
   Ok (length.0, rest)
 
--- what stands behind the kind's word
+-- what follows the kind's word
 unfoldable pub kind_after : KindWord → List Token → Read Kind
 kind_after (words.Integer bytes) rest = do
   rest ← width_at rest

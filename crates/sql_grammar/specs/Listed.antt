@@ -4,7 +4,7 @@ use Rattle.sql_grammar.specs.declared.token.Token.{Token}
 use Rattle.sql_grammar.specs.Pieces.{after_sign}
 use Rattle.base_values.specs.SchemaRules.Results.{◌>>=◌}
 
--- an item and those behind the comma that follows it, where one does
+-- an item and those after the comma that follows it, where one does
 abbrev pub with_others : {A C : Type 0} → (List Token → Result (List A × List Token) C) → A × List Token → Option (List Token) → Result (List A × List Token) C
 with_others others first None = Ok (first.0 ∷ [], first.1)
 with_others others first (Some rest) = do
@@ -23,7 +23,7 @@ abbrev pub with_more : {S X C : Type 0} → (S → List Token → Result (S × L
 with_more others add so_far words None = Ok (so_far, words)
 with_more others add so_far words (Some read) = others (add so_far read.0) read.1
 
--- Items one behind the other, as long as one begins at the front, and at most so many: what they make of a start one by one.
+-- Items one after the other, as long as one begins at the front, and at most so many: what they make of a start one by one.
 unfoldable pub gathered : {S X C : Type 0} → (List Token → Result (Option (X × List Token)) C) → (S → X → S) → ℕ → S → List Token → Result (S × List Token) C
 gathered item add zero so_far words = Ok (so_far, words)
 gathered item add (suc most) so_far words = do

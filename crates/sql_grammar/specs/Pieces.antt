@@ -12,12 +12,12 @@ use Rattle.sql_grammar.specs.Reads.{Read}
 use Rattle.sql_grammar.specs.Scope.{mismatch}
 use Rattle.sql_grammar.specs.Tokens.{is_sign, is_keyword, same_sign}
 
--- what stands behind this keyword, where it is the first word
+-- what follows this keyword, where it is the first word
 unfoldable pub after_keyword : List ℕ → List Token → Option (List Token)
 after_keyword keyword [] = None
 after_keyword keyword (word ∷ rest) = if is_keyword word keyword then Some rest else None
 
--- what stands behind this sign, where it is the first word
+-- what follows this sign, where it is the first word
 unfoldable pub after_sign : List ℕ → List Token → Option (List Token)
 after_sign sign [] = None
 after_sign sign (word ∷ rest) = if same_sign word sign then Some rest else None
@@ -33,7 +33,7 @@ keyword_at keyword words = found_at words (after_keyword keyword words)
 unfoldable pub sign_at : List ℕ → List Token → Result (List Token) SchemaCode
 sign_at sign words = found_at words (after_sign sign words)
 
--- what a word stands for, and the words behind it
+-- what a word stands for, and the words after it
 abbrev pub with_rest : {A : Type 0} → List Token → Option A → Option (A × List Token)
 with_rest rest (Some value) = Some (value, rest)
 with_rest rest None = None
@@ -80,7 +80,7 @@ unfoldable pub literal_at : List Token → Read Value
 literal_at [] = Err (mismatch [])
 literal_at (word ∷ rest) = found_at (word ∷ rest) (with_rest rest (literal_of word))
 
--- what stands behind any word but a sign, which is passed over
+-- what follows any word but a sign, which is passed over
 unfoldable pub any_word_at : List Token → Result (List Token) SchemaCode
 any_word_at [] = Err (mismatch [])
 any_word_at (word ∷ rest) = if is_sign word.class then Err (mismatch (word ∷ rest)) else Ok rest

@@ -46,7 +46,7 @@ is_integer_synonym = is_one_of (codes "INT1" ∷ codes "INT2" ∷ codes "INT3" �
 unfoldable pub is_other_kind : List ℕ → Bool
 is_other_kind name = is_fraction_kind name || is_time_kind name || is_character_kind name || is_long_kind name || is_text_kind name || is_choice_kind name || is_shape_kind name || is_many_shapes_kind name || is_integer_synonym name
 
--- a word that begins no item of a table, whatever stands behind it
+-- a word that begins no item of a table, whatever comes after it
 unfoldable pub is_no_item : Token → Bool
 is_no_item word = is_unquoted word.class && (is_constraint word.text || is_extension word.text)
 

@@ -1,4 +1,4 @@
-//! What stands behind a column's kind.
+//! What follows a column's kind.
 
 ghost use Rattle.std.specs.Prelude.{◌≡◌, option_map};
 ghost use Rattle.sql_grammar.specs.Attributes.{not_null_at, default_at, comment_at, character_set_at, collation_at, attribute_at};
@@ -98,7 +98,7 @@ fn collation_at(words: &[Token]) -> Result<Option<(Attribute, &[Token])>, Schema
     Ok(Some((Attribute::Passed, rest)))
 }
 
-/// The attribute at the front and what stands behind it; none where the first word begins none.
+/// The attribute at the front and what follows it; none where the first word begins none.
 #[tactic(auto, unfolding(crate::specs::Attributes::attribute_at))]
 pub fn attribute_at(
     alloc: Global,

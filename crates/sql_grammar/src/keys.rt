@@ -30,7 +30,7 @@ fn begins_number(words: &[Token]) -> bool
     }
 }
 
-/// What a key is refused with where these words stand behind one of its columns.
+/// What a key is refused with where these words come after one of its columns.
 #[tactic(auto, unfolding(crate::specs::Keys::key_mismatch))]
 fn key_mismatch(words: &[Token]) -> SchemaCode
     ensures { result ≡ key_mismatch words.now }
@@ -42,7 +42,7 @@ fn key_mismatch(words: &[Token]) -> SchemaCode
     }
 }
 
-/// The names at the front, with commas between them, and what stands behind them.
+/// The names at the front, with commas between them, and what follows them.
 #[tactic(auto, unfolding(crate::specs::Keys::names_at))]
 pub fn names_at(alloc: Global, words: &[Token]) -> Result<(Names, &[Token]), SchemaFault>
     ensures { Answers (λ names. (names.0, names.1.now)) result (names_at words.now) }
@@ -60,7 +60,7 @@ pub fn names_at(alloc: Global, words: &[Token]) -> Result<(Names, &[Token]), Sch
     Err(SchemaFault::Refused(SchemaCode::Syntax))
 }
 
-/// The names of a key's columns in parentheses at the front, and what stands behind them.
+/// The names of a key's columns in parentheses at the front, and what follows them.
 #[tactic(auto, unfolding(crate::specs::Keys::key_columns_at))]
 pub fn key_columns_at(alloc: Global, words: &[Token]) -> Result<(Names, &[Token]), SchemaFault>
     ensures { Answers (λ names. (names.0, names.1.now)) result (key_columns_at words.now) }
@@ -86,7 +86,7 @@ fn key_name_at(alloc: Global, words: &[Token]) -> Result<(Option<Name>, &[Token]
     }
 }
 
-/// The name of a key, where one is written, and its columns, and what stands behind them.
+/// The name of a key, where one is written, and its columns, and what follows them.
 #[tactic(auto, unfolding(crate::specs::Keys::key_at))]
 pub fn key_at(alloc: Global, words: &[Token]) -> Result<(KeyText, &[Token]), SchemaFault>
     ensures { Answers (λ key. (key.0, key.1.now)) result (key_at words.now) }

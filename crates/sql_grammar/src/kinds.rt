@@ -124,7 +124,7 @@ fn kind_after(kind: KindWord, words: &[Token]) -> Result<(Kind, &[Token]), Schem
     }
 }
 
-/// The kind at the front, and what stands behind it.
+/// The kind at the front, and what follows it.
 #[tactic(auto, unfolding(crate::specs::Kinds::kind_at))]
 pub fn kind_at(words: &[Token]) -> Result<(Kind, &[Token]), SchemaFault>
     ensures { Answers (λ kind. (kind.0, kind.1.now)) result (kind_at words.now) }

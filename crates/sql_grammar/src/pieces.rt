@@ -12,7 +12,7 @@ use base_values::{Chars, Name, Value};
 use sql_words::WordClass;
 use std::alloc::{AllocError, Global};
 
-/// What stands behind this keyword, where it is the first word.
+/// What follows this keyword, where it is the first word.
 #[tactic(auto, unfolding(crate::specs::Pieces::after_keyword))]
 pub fn after_keyword<'a>(keyword: &str, words: &'a [Token]) -> Option<&'a [Token]>
     ensures { option_map (λ rest. rest.now) result ≡ after_keyword keyword.now words.now }
@@ -29,7 +29,7 @@ pub fn after_keyword<'a>(keyword: &str, words: &'a [Token]) -> Option<&'a [Token
     }
 }
 
-/// What stands behind this sign, where it is the first word.
+/// What follows this sign, where it is the first word.
 #[tactic(auto, unfolding(crate::specs::Pieces::after_sign))]
 pub fn after_sign<'a>(sign: &str, words: &'a [Token]) -> Option<&'a [Token]>
     ensures { option_map (λ rest. rest.now) result ≡ after_sign sign.now words.now }
@@ -40,7 +40,7 @@ pub fn after_sign<'a>(sign: &str, words: &'a [Token]) -> Option<&'a [Token]>
     }
 }
 
-/// What stands behind this keyword, which has to be the first word.
+/// What follows this keyword, which has to be the first word.
 #[tactic(auto, unfolding(crate::specs::Pieces::keyword_at))]
 pub fn keyword_at<'a>(keyword: &str, words: &'a [Token]) -> Result<&'a [Token], SchemaFault>
     ensures { Answers (λ rest. rest.now) result (keyword_at keyword.now words.now) }
@@ -51,7 +51,7 @@ pub fn keyword_at<'a>(keyword: &str, words: &'a [Token]) -> Result<&'a [Token], 
     }
 }
 
-/// What stands behind this sign, which has to be the first word.
+/// What follows this sign, which has to be the first word.
 #[tactic(auto, unfolding(crate::specs::Pieces::sign_at))]
 pub fn sign_at<'a>(sign: &str, words: &'a [Token]) -> Result<&'a [Token], SchemaFault>
     ensures { Answers (λ rest. rest.now) result (sign_at sign.now words.now) }
@@ -77,7 +77,7 @@ fn after_name(words: &[Token]) -> Option<(&str, &[Token])>
     }
 }
 
-/// The name at the front, and what stands behind it.
+/// The name at the front, and what follows it.
 #[tactic(auto, unfolding(crate::specs::Pieces::name_at))]
 pub fn name_at(alloc: Global, words: &[Token]) -> Result<(Name, &[Token]), SchemaFault>
     ensures { Answers (λ name. (name.0, name.1.now)) result (name_at words.now) }
@@ -97,7 +97,7 @@ fn number_of(word: &Token) -> Option<i128>
     }
 }
 
-/// The number at the front, and what stands behind it.
+/// The number at the front, and what follows it.
 #[tactic(auto, unfolding(crate::specs::Pieces::number_at))]
 pub(crate) fn number_at(words: &[Token]) -> Result<(i128, &[Token]), SchemaFault>
     ensures { Answers (λ number. (number.0, number.1.now)) result (number_at words.now) }
@@ -125,7 +125,7 @@ fn text_of(alloc: Global, word: &Token) -> Result<Option<Chars>, AllocError>
     }
 }
 
-/// The text at the front, and what stands behind it.
+/// The text at the front, and what follows it.
 #[tactic(auto, unfolding(crate::specs::Pieces::text_at))]
 pub fn text_at(alloc: Global, words: &[Token]) -> Result<(Chars, &[Token]), SchemaFault>
     ensures { Answers (λ text. (text.0, text.1.now)) result (text_at words.now) }
@@ -151,7 +151,7 @@ fn literal_of(alloc: Global, word: &Token) -> Result<Option<Value>, AllocError>
     }
 }
 
-/// The literal at the front, and what stands behind it.
+/// The literal at the front, and what follows it.
 #[tactic(auto, unfolding(crate::specs::Pieces::literal_at))]
 pub fn literal_at(alloc: Global, words: &[Token]) -> Result<(Value, &[Token]), SchemaFault>
     ensures { Answers (λ value. (value.0, value.1.now)) result (literal_at words.now) }
@@ -167,7 +167,7 @@ pub fn literal_at(alloc: Global, words: &[Token]) -> Result<(Value, &[Token]), S
     }
 }
 
-/// What stands behind any word but a sign, which has to be the first word.
+/// What follows any word but a sign, which has to be the first word.
 #[tactic(auto, unfolding(crate::specs::Pieces::any_word_at))]
 pub fn any_word_at(words: &[Token]) -> Result<&[Token], SchemaFault>
     ensures { Answers (λ rest. rest.now) result (any_word_at words.now) }

@@ -137,7 +137,7 @@ fn is_other_kind(word: &[u8]) -> bool
         || is_integer_synonym(word)
 }
 
-/// Whether the word begins no item of a table, whatever stands behind it.
+/// Whether the word begins no item of a table, whatever comes after it.
 #[tactic(auto, unfolding(crate::specs::Scope::is_no_item))]
 pub fn is_no_item(word: &Token) -> bool
     ensures { result ≡ is_no_item word.now }

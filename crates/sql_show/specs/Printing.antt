@@ -81,7 +81,7 @@ index_line columns index = index_front index.name ++ key_columns columns index.p
 abbrev pub lines_of : Schema → List (List ℕ)
 lines_of schema = map column_line schema.columns ++ map (unique_line schema.columns) schema.uniques ++ map (index_line schema.columns) schema.indexes
 
--- each line behind two blanks, with a comma behind all but the last
+-- each line after two blanks, with a comma after all but the last
 unfoldable pub joined : List (List ℕ) → List ℕ
 joined [] = []
 joined (line ∷ lines) = codes "  " ++ line ++ flat_map (λ next. codes ",\n  " ++ next) lines

@@ -26,7 +26,7 @@ equality_at words = do
   value ← operand_at rest
   Ok (record { column = column.0; value = value.0 }, value.1)
 
--- one more equality behind AND, where AND stands
+-- one more equality after AND, where AND stands
 abbrev pub after_and : Option (List Token) → Result (Option (Set × List Token)) StatementCode
 after_and None = Ok None
 after_and (Some rest) = do
@@ -39,7 +39,7 @@ and_equality_at words = after_and (after_keyword (codes "AND") words)
 abbrev pub with_set : List Set → Set → List Set
 with_set sets set = sets ++ set ∷ []
 
--- the equalities behind the first
+-- the equalities after the first
 unfoldable pub more_equalities_at : List Set → List Token → Read (List Set)
 more_equalities_at sets words = gathered and_equality_at with_set (length words) sets words
 
@@ -101,7 +101,7 @@ between_at words = do
   high ← operand_at rest
   Ok (Range (record { column = column.0; sign = AtLeast; value = low.0 } ∷ record { column = column.0; sign = AtMost; value = high.0 } ∷ []), high.1)
 
--- the word behind the first column tells the form
+-- the word after the first column tells the form
 unfoldable pub form_at : List Token → ConditionForm
 form_at [] = Comparing
 form_at (column ∷ []) = Comparing

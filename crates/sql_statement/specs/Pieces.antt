@@ -11,7 +11,7 @@ use Rattle.sql_grammar.specs.Reads.{◌>>=◌}
 use Rattle.sql_statement.specs.declared.code.StatementCode.{StatementCode}
 use Rattle.sql_statement.specs.declared.code.StatementCode.TheVariants.{Syntax}
 
--- what is read at the front, and the words behind it
+-- what is read at the front, and the words after it
 abbrev pub Read : Type 0 → Type 0
 Read A = Result (A × List Token) StatementCode
 

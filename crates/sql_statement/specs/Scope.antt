@@ -28,7 +28,7 @@ unfoldable pub has_next_row : List Token → Bool
 has_next_row [] = false
 has_next_row (word ∷ rest) = begins_row (word ∷ rest) || has_next_row rest
 
--- what stands behind the first VALUES; nothing where there is none
+-- what follows the first VALUES; nothing where there is none
 unfoldable pub after_values : List Token → List Token
 after_values [] = []
 after_values (word ∷ rest) = if is_keyword word (codes "VALUES") then rest else after_values rest

@@ -34,7 +34,7 @@ abbrev pub closed : Bool → Result Bool ScriptCode
 closed true = Ok false
 closed false = Err EndOutside
 
--- whether a transaction is open behind a line, given whether one is before it: BEGIN stands outside, COMMIT and ROLLBACK inside
+-- whether a transaction is open after a line, given whether one is before it: BEGIN stands outside, COMMIT and ROLLBACK inside
 abbrev pub open_after : Bool → ScriptWord → Result Bool ScriptCode
 open_after is_open Begin = if is_open then Err BeginInside else Ok true
 open_after is_open Commit = closed is_open
@@ -48,8 +48,8 @@ ended_before texts is_open = if is_open && not (has_lines texts) then Err LeftOp
 abbrev pub unless_tool : List (List ℕ) → Bool → ScriptWord → Result Bool ScriptCode
 unless_tool tools is_open asked = if names_one_of tools asked then Err ToolTable else Ok is_open
 
--- Whether a transaction is open behind a line, where it fits: with its transaction, with the texts of the lines to come,
--- and without a table of the tool's.
+-- Whether a transaction is open after a line, where it fits: with its transaction, with the texts of the lines to come, and
+-- without a table of the tool's.
 unfoldable pub fitting : List (List ℕ) → List (List ℕ) → Bool → Option ScriptWord → Result Bool ScriptCode
 fitting tools texts is_open None = Ok is_open
 fitting tools texts is_open (Some asked) = do
@@ -57,7 +57,7 @@ fitting tools texts is_open (Some asked) = do
   is_open ← ended_before texts is_open
   unless_tool tools is_open asked
 
--- what a line asks for, where it fits, and whether a transaction is open behind it
+-- what a line asks for, where it fits, and whether a transaction is open after it
 unfoldable pub fitting_line : List (List ℕ) → List (List ℕ) → Bool → List ℕ → Result (Option ScriptWord × Bool) ScriptCode
 fitting_line tools texts is_open text = do
   asked ← line_of (text_words text)

@@ -44,7 +44,7 @@ update_at words = do
   condition ← condition_at sets.1
   Ok (Do (Update table.0 sets.0 condition.0), condition.1)
 
--- COUNT(*) behind its opening parenthesis
+-- COUNT(*) after its opening parenthesis
 abbrev pub count_at : List Token → Read Shown
 count_at words = do
   rest ← sign_at (codes "*") words
@@ -56,7 +56,7 @@ listed_columns_at words = do
   names ← names_at words
   Ok (shown.Columns names.0, names.1)
 
--- COUNT is a function where an opening parenthesis stands behind it, and a column's name elsewhere
+-- COUNT is a function where an opening parenthesis stands after it, and a column's name elsewhere
 abbrev pub count_or_columns : List Token → Option (List Token) → Read Shown
 count_or_columns words (Some rest) = count_at rest
 count_or_columns words None = listed_columns_at words
@@ -85,7 +85,7 @@ select_at words = do
   condition ← condition_at table.1
   Ok (Do (Select table.0 shown.0 condition.0), condition.1)
 
--- TRANSACTION behind START
+-- TRANSACTION after START
 abbrev pub start_at : List Token → Read ScriptWord
 start_at words = do
   rest ← keyword_at (codes "TRANSACTION") words

@@ -33,7 +33,7 @@ fn equality_at(alloc: Global, words: &[Token]) -> Result<(Set, &[Token]), Statem
     Ok((Set { column, value }, rest))
 }
 
-/// The equality behind AND, where AND stands.
+/// The equality after AND, where AND stands.
 #[tactic(auto, unfolding(crate::specs::Conditions::and_equality_at))]
 fn and_equality_at(
     alloc: Global,
@@ -50,7 +50,7 @@ fn and_equality_at(
     }
 }
 
-/// The equalities with those behind them.
+/// The equalities with those after them.
 #[tactic(auto, unfolding(crate::specs::Conditions::more_equalities_at))]
 fn more_equalities_at(
     alloc: Global,
@@ -222,7 +222,7 @@ fn form_at(words: &[Token]) -> ConditionForm
     }
 }
 
-/// The condition at the front, and what stands behind it.
+/// The condition at the front, and what follows it.
 #[tactic(auto, unfolding(crate::specs::Conditions::condition_at))]
 pub fn condition_at(alloc: Global, words: &[Token]) -> Result<(Condition, &[Token]), StatementFault>
     ensures { Answers (λ condition. (condition.0, condition.1.now)) result (condition_at words.now) }

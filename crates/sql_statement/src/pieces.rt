@@ -11,7 +11,7 @@ use std::alloc::Global;
 /// What a word that doesn't fit is refused with.
 pub const MISTAKE: StatementFault = StatementFault::Refused(StatementCode::Syntax);
 
-/// What stands behind this keyword, which has to be the first word.
+/// What follows this keyword, which has to be the first word.
 pub fn keyword_at<'a>(keyword: &str, words: &'a [Token]) -> Result<&'a [Token], StatementFault>
     ensures { Answers (λ rest. rest.now) result (keyword_at keyword.now words.now) }
 {
@@ -21,14 +21,14 @@ pub fn keyword_at<'a>(keyword: &str, words: &'a [Token]) -> Result<&'a [Token], 
     )
 }
 
-/// What stands behind this sign, which has to be the first word.
+/// What follows this sign, which has to be the first word.
 pub fn sign_at<'a>(sign: &str, words: &'a [Token]) -> Result<&'a [Token], StatementFault>
     ensures { Answers (λ rest. rest.now) result (sign_at sign.now words.now) }
 {
     because(sql_grammar::sign_at(sign, words), |_| StatementCode::Syntax)
 }
 
-/// The name at the front, and what stands behind it.
+/// The name at the front, and what follows it.
 pub fn name_at(alloc: Global, words: &[Token]) -> Result<(Name, &[Token]), StatementFault>
     ensures { Answers (λ name. (name.0, name.1.now)) result (name_at words.now) }
 {
@@ -38,7 +38,7 @@ pub fn name_at(alloc: Global, words: &[Token]) -> Result<(Name, &[Token]), State
     )
 }
 
-/// The names at the front, with commas between them, and what stands behind them.
+/// The names at the front, with commas between them, and what follows them.
 pub fn names_at(alloc: Global, words: &[Token]) -> Result<(Names, &[Token]), StatementFault>
     ensures { Answers (λ names. (names.0, names.1.now)) result (names_at words.now) }
 {
@@ -48,7 +48,7 @@ pub fn names_at(alloc: Global, words: &[Token]) -> Result<(Names, &[Token]), Sta
     )
 }
 
-/// The literal at the front, and what stands behind it.
+/// The literal at the front, and what follows it.
 pub fn literal_at(alloc: Global, words: &[Token]) -> Result<(Value, &[Token]), StatementFault>
     ensures { Answers (λ value. (value.0, value.1.now)) result (literal_at words.now) }
 {
@@ -67,7 +67,7 @@ fn unless_null(value: Value, rest: &[Token]) -> Result<(Value, &[Token]), Statem
     }
 }
 
-/// The literal at the front, which isn't NULL, and what stands behind it.
+/// The literal at the front, which isn't NULL, and what follows it.
 #[tactic(auto, unfolding(crate::specs::Pieces::operand_at))]
 pub fn operand_at(alloc: Global, words: &[Token]) -> Result<(Value, &[Token]), StatementFault>
     ensures { Answers (λ value. (value.0, value.1.now)) result (operand_at words.now) }

@@ -48,7 +48,7 @@ fn set_at(alloc: Global, words: &[Token]) -> Result<(Set, &[Token]), StatementFa
     Ok((Set { column, value }, rest))
 }
 
-/// The sets at the front, with commas between them, and what stands behind them.
+/// The sets at the front, with commas between them, and what follows them.
 #[tactic(auto, unfolding(crate::specs::Rows::sets_at))]
 pub fn sets_at(alloc: Global, words: &[Token]) -> Result<(Sets, &[Token]), StatementFault>
     ensures { Answers (λ sets. (sets.0, sets.1.now)) result (sets_at words.now) }
@@ -91,7 +91,7 @@ fn values_at(alloc: Global, words: &[Token]) -> Result<(Row, &[Token]), Statemen
     Ok((values, rest))
 }
 
-/// What an INSERT or a REPLACE says behind its first word, and what stands behind that.
+/// What an INSERT or a REPLACE says after its first word, and what follows that.
 #[tactic(auto, unfolding(crate::specs::Rows::row_at))]
 pub fn row_at(alloc: Global, words: &[Token]) -> Result<(RowText, &[Token]), StatementFault>
     ensures { Answers (λ row. (row.0, row.1.now)) result (row_at words.now) }

@@ -70,7 +70,7 @@ fn has_next_row(words: &[Token]) -> bool
     false
 }
 
-/// What stands behind the first VALUES.
+/// What follows the first VALUES.
 fn after_values(words: &[Token]) -> &[Token]
     ensures { result.now ≡ after_values words.now }
 {

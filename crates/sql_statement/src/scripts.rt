@@ -58,7 +58,7 @@ fn closed(is_open: bool) -> Result<bool, LineFault>
     }
 }
 
-/// Whether a transaction is open behind a line, given whether one is before it.
+/// Whether a transaction is open after a line, given whether one is before it.
 fn open_after(is_open: bool, asked: &ScriptWord) -> Result<bool, LineFault>
     ensures { Answers (λ is_open. is_open) result (open_after is_open asked.now) }
 {
@@ -96,7 +96,7 @@ fn unless_tool(tools: &[Name], is_open: bool, asked: &ScriptWord) -> Result<bool
     }
 }
 
-/// Whether a transaction is open behind a line, where it fits into its script.
+/// Whether a transaction is open after a line, where it fits into its script.
 #[tactic(auto, unfolding(crate::specs::Scripts::fitting))]
 fn fitting(
     alloc: Global,
@@ -117,7 +117,7 @@ fn fitting(
     }
 }
 
-/// What a line asks for, where it fits, and whether a transaction is open behind it.
+/// What a line asks for, where it fits, and whether a transaction is open after it.
 #[tactic(auto, unfolding(crate::specs::Scripts::fitting_line))]
 fn fitting_line(
     alloc: Global,

@@ -89,7 +89,7 @@ fn count_at(words: &[Token]) -> Result<(Shown, &[Token]), StatementFault>
     Ok((Shown::Count, rest))
 }
 
-/// What stands behind COUNT and its opening parenthesis.
+/// What follows COUNT and its opening parenthesis.
 #[tactic(auto, unfolding(crate::specs::Statements::after_count))]
 fn after_count(words: &[Token]) -> Option<&[Token]>
     ensures { option_map (λ rest. rest.now) result ≡ after_count words.now }

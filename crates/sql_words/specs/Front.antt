@@ -42,7 +42,7 @@ bytes_or_name None name = Found class.Name name
 abbrev pub name_length : List ℕ → ℕ
 name_length bytes = prefix_len is_name_byte bytes
 
--- a quoted word, by its length behind the opening quote
+-- a quoted word, by its length after the opening quote
 abbrev pub quoted : ℕ → WordClass → Option ℕ → Result Front WordFault
 quoted place kind None = Err (Unclosed place)
 quoted place kind (Some n) = Ok (Found kind (1 + n))
@@ -59,7 +59,7 @@ sign_width bytes = if is_plus_or_minus (slice_index bytes 0) then 1 else 0
 abbrev pub begins_number : List ℕ → Bool
 begins_number bytes = is_ascii_digit (slice_index bytes (sign_width bytes))
 
--- how many digits stand behind the sign
+-- how many digits stand after the sign
 abbrev pub digit_count : List ℕ → ℕ
 digit_count bytes = prefix_len is_ascii_digit (drop (sign_width bytes) bytes)
 

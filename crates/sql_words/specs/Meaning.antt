@@ -41,7 +41,7 @@ written_bytes bytes = if is_bytes bytes then Some (take (length bytes - 3) (drop
 abbrev pub is_number : List ℕ → Bool
 is_number bytes = begins_number bytes && nat_le (digit_count bytes) most_digits && sign_width bytes + digit_count bytes == length bytes
 
--- the number that the digits spell, below 0 behind a dash
+-- the number that the digits spell, below 0 after a dash
 abbrev pub signed : List ℕ → ℤ
 signed bytes =
     let digits = digits_value 10 (drop (sign_width bytes) bytes) in

@@ -13,7 +13,7 @@ pub record Piece : Type 0 where
 abbrev pub closing : Piece
 closing = record { value = []; length = 1 }
 
--- a piece, and behind it the others up to the closing quote, where there is one
+-- a piece, and after it the others up to the closing quote, where there is one
 abbrev pub and_then : Piece → Option Piece → Option Piece
 and_then first others = option_map (λ o. record { value = first.value ++ o.value; length = first.length + o.length }) others
 
@@ -37,7 +37,8 @@ escaped c =
     else (if c == 37 || c == 95 then 92 ∷ c ∷ []
     else c ∷ []))))))
 
--- a text behind its opening quote, with the closing one: its quote doubled stands for itself, and a backslash (92) takes the next character with it; None where none closes it
+-- a text after its opening quote, with the closing one: its quote doubled stands for itself, and a backslash (92) takes the
+-- next character with it; None where none closes it
 unfoldable pub text_inside : ℕ → List ℕ → Option Piece
 text_inside quote [] = None
 text_inside quote (b ∷ []) = if b == quote then Some closing else None
@@ -47,7 +48,7 @@ text_inside quote (b ∷ c ∷ rest) =
     else (if b == 92 then and_then (record { value = escaped c; length = 2 }) (text_inside quote rest)
     else and_then (record { value = b ∷ []; length = 1 }) (text_inside quote (c ∷ rest))))
 
--- pairs of hexadecimal digits behind x', with the closing quote (39); None where anything else stands there
+-- pairs of hexadecimal digits after x', with the closing quote (39); None where anything else stands there
 unfoldable pub bytes_inside : List ℕ → Option Piece
 bytes_inside [] = None
 bytes_inside (b ∷ []) = if b == 39 then Some closing else None
@@ -55,7 +56,7 @@ bytes_inside (b ∷ c ∷ rest) =
     if is_ascii_hexdigit b && is_ascii_hexdigit c then and_then (record { value = (16 * digit_value b + digit_value c) ∷ []; length = 2 }) (bytes_inside rest)
     else (if b == 39 then Some closing else None)
 
--- a name behind its opening backquote (96), with the closing one; None where none closes it
+-- a name after its opening backquote (96), with the closing one; None where none closes it
 unfoldable pub name_inside : List ℕ → Option Piece
 name_inside bytes =
     let end = position_or_len (λ b. b == 96) bytes in

@@ -32,7 +32,7 @@ read_on place bytes (Err fault) others = Err fault
 read_on place bytes (Ok (Gap n)) others = others n
 read_on place bytes (Ok (Found class n)) others = with_word (record { class = class; text = take n bytes; place = place }) (others n)
 
--- The words of a rest of the text that begins at a place, behind the bytes of it that are read already
+-- The words of a rest of the text that begins at a place, after the bytes of it that are read already
 unfoldable pub words_after : (read place : ℕ) → List ℕ → Result (List Reading) WordFault
 words_after read place [] = Ok []
 words_after (suc read) place (b ∷ rest) = words_after read (suc place) rest

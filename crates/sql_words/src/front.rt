@@ -130,7 +130,7 @@ fn sign_length(bytes: &[u8]) -> usize
     }
 }
 
-/// A quoted word whose opening quote stands at this place, by its length behind that quote.
+/// A quoted word whose opening quote stands at this place, by its length after that quote.
 fn quoted(place: usize, class: WordClass, inside: Option<usize>) -> Result<Front, WordFault>
     requires { ForSome inside (λ n. n + 1 < 2 ^ 64) }
     ensures { result ≡ quoted place class inside }

@@ -179,7 +179,7 @@ fn plain_length(quote: u8, bytes: &[u8]) -> usize
         .count()
 }
 
-/// What stands between the quotes, from behind the opening one, or None where none closes it.
+/// What stands between the quotes, from after the opening one, or None where none closes it.
 fn unquoted(alloc: Global, quote: u8, text: &str) -> Result<Option<String>, AllocError>
     requires { IsTrue (is_quote quote) }
     ensures { IfOk result (λ found. option_map string_bytes found ≡ value_of (text_inside quote text.now)) }
@@ -209,7 +209,7 @@ fn unquoted(alloc: Global, quote: u8, text: &str) -> Result<Option<String>, Allo
     Ok(None)
 }
 
-/// What the digits behind `x'` stand for, or None where no quote closes them.
+/// What the digits after `x'` stand for, or None where no quote closes them.
 fn unhexed(alloc: Global, bytes: &[u8]) -> Result<Option<Vec<u8>>, AllocError>
     ensures { IfOk result (λ found. option_map (λ v. v.items) found ≡ value_of (bytes_inside bytes.now)) }
 {

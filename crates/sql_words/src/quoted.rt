@@ -13,7 +13,7 @@ pub fn stands_at(byte: u8, bytes: &[u8], at: usize) -> bool
     at < bytes.len() && bytes[at] == byte
 }
 
-/// The length of a text behind its opening quote, with the closing one.
+/// The length of a text after its opening quote, with the closing one.
 pub fn text_length(quote: u8, bytes: &[u8]) -> Option<usize>
     ensures length { result ≡ length_of (text_inside quote bytes.now) }
     ensures within { IfSome result (λ n. n ≤ length bytes.now) }
@@ -41,7 +41,7 @@ pub fn is_pair(bytes: &[u8], at: usize) -> bool
         && bytes[at + 1].is_ascii_hexdigit()
 }
 
-/// The length of bytes behind `x'`, with the closing quote.
+/// The length of bytes after `x'`, with the closing quote.
 pub fn bytes_length(bytes: &[u8]) -> Option<usize>
     ensures length { result ≡ length_of (bytes_inside bytes.now) }
     ensures within { IfSome result (λ n. n ≤ length bytes.now) }
@@ -63,7 +63,7 @@ fn name_end(bytes: &[u8]) -> usize
     bytes.iter().take_while(|byte| **byte != b'`').count()
 }
 
-/// The length of a name behind its opening backquote, with the closing one.
+/// The length of a name after its opening backquote, with the closing one.
 #[tactic(auto, unfolding(crate::specs::Quoted::name_inside))]
 pub fn name_length(bytes: &[u8]) -> Option<usize>
     ensures length { result ≡ length_of (name_inside bytes.now) }

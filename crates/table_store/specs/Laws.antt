@@ -21,13 +21,13 @@ PutKeepsTables =
 abbrev pub RemoveKeepsTables : Type 0
 RemoveKeepsTables = (schema : Schema) (rows : List (List Value)) (key : List Value) → IsTable schema rows → IsTable schema (without_key (key_places schema) key rows)
 
--- What is found behind a put: the row by its own key, and by others what was found before.
+-- What is found after a put: the row by its own key, and by others what was found before.
 abbrev pub PutIsFound : Type 0
 PutIsFound =
     ((places : List ℕ) (key row : List Value) (rows : List (List Value)) → is_at places key row ≡ true → find (is_at places key) (with_row places row rows) ≡ Some row)
     × ((places : List ℕ) (key row : List Value) (rows : List (List Value)) → is_at places key row ≡ false → find (is_at places key) (with_row places row rows) ≡ find (is_at places key) rows)
 
--- What is found behind a removal: nothing by the key, and by others what was found before.
+-- What is found after a removal: nothing by the key, and by others what was found before.
 abbrev pub RemovedIsGone : Type 0
 RemovedIsGone =
     ((places : List ℕ) (key : List Value) (rows : List (List Value)) → find (is_at places key) (without_key places key rows) ≡ None)
@@ -39,7 +39,7 @@ PutAmongSome =
     ((test : List Value → Bool) (places : List ℕ) (row : List Value) (rows : List (List Value)) → test row ≡ false → filter test (with_row places row rows) ≡ filter test rows)
     × ((test : List Value → Bool) (places : List ℕ) (row : List Value) (rows : List (List Value)) → Ascends places rows → test row ≡ true → filter test (with_row places row rows) ≡ with_row places row (filter test rows))
 
--- Two tests may be made in either order; so a removal may come before or behind a test.
+-- Two tests may be made in either order; so a removal may come before or after a test.
 abbrev pub TestsCommute : Type 0
 TestsCommute = (first second : List Value → Bool) (rows : List (List Value)) → filter first (filter second rows) ≡ filter second (filter first rows)
 

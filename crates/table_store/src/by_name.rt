@@ -43,7 +43,7 @@ pub(crate) fn has_name(name: &Name, tables: &NameMap<Table>) -> bool
     named(name, tables).is_some()
 }
 
-/// Adds a table of a new name behind the others, under its own name.
+/// Adds a table of a new name after the others, under its own name.
 pub(crate) fn add_new(tables: &mut NameMap<Table>, table: Table) -> Result<(), AllocError>
     requires named { AreNamed tables.old }
     requires new { has_table table.table.schema.name (database tables.old.values) ≡ false }

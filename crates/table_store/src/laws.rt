@@ -16,12 +16,12 @@ pub fn remove_keeps_tables()
     ensures { RemoveKeepsTables }
 {}
 
-/// What is found behind a put.
+/// What is found after a put.
 pub fn put_is_found()
     ensures { PutIsFound }
 {}
 
-/// What is found behind a removal.
+/// What is found after a removal.
 pub fn removed_is_gone()
     ensures { RemovedIsGone }
 {}

@@ -61,7 +61,7 @@ fn rows_under(places: &[usize], low: &Bound, rows: &[Row]) -> usize
     rows.partition_point(|row| !is_above(low, places, row.as_slice()))
 }
 
-/// How many rows come before what is behind an upper end.
+/// How many rows come before what is after an upper end.
 fn rows_up_to(places: &[usize], high: &Bound, rows: &[Row]) -> usize
     requires { Ascends places.now rows.now }
     ensures place { result ≡ prefix_len (λ row. below high.now (key_of places.now row)) rows.now }

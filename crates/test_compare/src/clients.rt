@@ -25,7 +25,7 @@ fn push_place(text: &mut Text, number: u64, line: u64) -> Result<(), AllocError>
     text.push_str(" ")
 }
 
-/// Adds what a line got: that its session was lost, or the next of these replies; gives those behind it.
+/// Adds what a line got: that its session was lost, or the next of these replies; gives those after it.
 fn push_line<'a>(
     text: &mut Text,
     mark: Mark,

@@ -27,7 +27,7 @@ fn is_verdict(line: &str, altered: bool) -> bool {
     }
 }
 
-/// Whether these are the lines behind the one of the tables' names: the history, and then the turns or none.
+/// Whether these are the lines after the one of the tables' names: the history, and then the turns or none.
 fn is_end(lines: &str, said: &Said) -> bool {
     match lines.strip_prefix(said.history.as_str()) {
         Some(turns) if said.shows_turns => turns.starts_with("turns "),

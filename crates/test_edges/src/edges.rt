@@ -45,7 +45,7 @@ impl<K: Sink> Sink for OneByte<K> {
     }
 }
 
-/// Whether a source that fails behind its third byte is refused, and how often it failed.
+/// Whether a source that fails after its third byte is refused, and how often it failed.
 fn failing_source_is_refused(alloc: Global) -> Result<(bool, u64), AllocError> {
     let mut source = OneByte(text_source(alloc, Some(3))?);
     let is_refused = matches!(
@@ -91,7 +91,7 @@ fn a_text_is_given_byte_for_byte(rt: HostRuntime) {
     assert_eq!(rt; sink.0.faults(), 0);
 }
 
-/// Is interrupted once before each byte, and breaks behind its last.
+/// Is interrupted once before each byte, and breaks after its last.
 #[derive(Drop)]
 struct Shaky<'a> {
     bytes: &'a [u8],
@@ -138,7 +138,7 @@ impl Write for Shaky<'_> {
     }
 }
 
-/// What a source over the text takes in pieces of four bytes, with what stands in the buffer behind each.
+/// What a source over the text takes in pieces of four bytes, with what stands in the buffer after each.
 fn taken_of_text() -> ([Took; 3], [[u8; 4]; 2]) {
     let mut source = StdSource::new(TEXT);
     let mut buffer = [b'-'; 4];

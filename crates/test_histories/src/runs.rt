@@ -36,7 +36,7 @@ fn push_reply(replies: &mut Replies, reply: Option<Reply>) -> Result<(), AllocEr
     }
 }
 
-/// The events, and behind them more.
+/// The events, and after them more.
 fn followed(events: Events, more: Events) -> Result<Events, AllocError>
     ensures { IfOk result (λ all. all ≡ events ++ more) }
 {

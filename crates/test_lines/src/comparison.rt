@@ -1,4 +1,4 @@
-//! What two programs answer to the same call: printed once, with ` or not` behind it where they differ.
+//! What two programs answer to the same call: printed once, with ` or not` after it where they differ.
 
 use crate::reader::say;
 use base_values::{Row, Text, print_row};

@@ -7,7 +7,7 @@ use Rattle.server_model.specs.declared.answer.Answer.{Answer}
 use Rattle.server_model.specs.Saying.{updates}
 use Rattle.test_model.specs.declared.updates.Going.{Going}
 
--- the changes so far, and behind them others, unless there was a refusal
+-- the changes so far, and after them others, unless there was a refusal
 abbrev pub changes_after : List Change → Result (List Change) Answer → Result (List Change) Answer
 changes_after front (Ok others) = Ok (front ++ others)
 changes_after front (Err refusal) = Err refusal

@@ -16,7 +16,7 @@
 //!
 //! `altered_reports` and `other_plans` show that the comparison with one at a time can say no: a report that was altered by
 //! hand isn't that of the run, and the run of a plan isn't one of another plan. `edges` has plans that are also run between
-//! sources which fail at each byte of the plan and sinks which fail behind each byte of the report.
+//! sources which fail at each byte of the plan and sinks which fail after each byte of the report.
 #![tactic(auto)]
 
 use base_edges::{BytesSink, BytesSource};

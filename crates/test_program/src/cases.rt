@@ -1,10 +1,10 @@
 //! The format of cases: plain lines, of which some begin with four number signs and a blank.
 //!
-//! `#### case NAME | WORDS | STATUS` begins a case: its name, the words of the command line with one blank between them,
-//! and the status that the call must end with. The lines behind it are the plan, and the lines behind `#### prints` are
-//! what must be printed; each ends in a line feed. Behind `#### no line feed` the part has lost its last line feed; at
-//! `#### bytes 0d ff` these bytes stand; behind `#### times 500` the next line stands 500 times. What stands before a file's
-//! first case is a remark.
+//! `#### case NAME | WORDS | STATUS` begins a case: its name, the words of the command line with one blank between them, and
+//! the status that the call must end with. The lines after it are the plan, and the lines after `#### prints` are what must be
+//! printed; each ends in a line feed. After `#### no line feed` the part has lost its last line feed; at `#### bytes 0d ff`
+//! these bytes stand; after `#### times 500` the next line stands 500 times. What stands before a file's first case is a
+//! remark.
 
 use std::alloc::{AllocError, Global};
 

@@ -1,4 +1,4 @@
-//! Sources that fail at each byte of a plan, and sinks that fail behind each byte of a report.
+//! Sources that fail at each byte of a plan, and sinks that fail after each byte of a report.
 
 use std::alloc::{AllocError, Global};
 use test_program::{Case, Edges, Meeting, Program, run_between};
@@ -26,7 +26,7 @@ fn ends_at_source(
     Ok(ran.ended.status == 4 && ran.source.faults() == 1 && is_told)
 }
 
-/// Whether a sink that fails behind so many bytes ends the call with the write fault, and holds just those bytes.
+/// Whether a sink that fails after so many bytes ends the call with the write fault, and holds just those bytes.
 fn ends_at_sink(
     alloc: Global,
     program: &Program,
@@ -63,7 +63,7 @@ pub(crate) fn end_at_sources(
     Ok(true)
 }
 
-/// Whether each sink that fails behind a byte of the report ends the call as it must.
+/// Whether each sink that fails after a byte of the report ends the call as it must.
 pub(crate) fn end_at_sinks(
     alloc: Global,
     program: &Program,

@@ -1,3 +1,3 @@
--- The cut-over: the attempts to exchange two tables by one RENAME, and what is cleared up behind them.
+-- The cut-over: the attempts to exchange two tables by one RENAME, and what is cleared up after them.
 pub mod Attempts
 pub mod CutOvers

@@ -91,8 +91,8 @@ abbrev pub has_passed : Course → Bool
 has_passed (SettingUp setup tries) = false
 has_passed (Migrating work) = work.applier.hint == work.cutover.attempts
 
--- *Undrained*: it is the applier's `drain_limit`-th turn since the hint row was written, and behind it the applier's
--- position hasn't passed the hint
+-- *Undrained*: it is the applier's `drain_limit`-th turn since the hint row was written, and after it the applier's position
+-- hasn't passed the hint
 pub record IsUndrained (plan : PlanData) (journal : List Entry) (turn : ℕ) (entry : Entry) (before : Moment) : Type 0 where
   pub actor : entry.actor ≡ Apply
   pub called : entry.asked ≢ Cut

@@ -51,12 +51,12 @@ pub record Queue : Type 0 where
 unfoldable pub words_in : PlanData → List Actor
 words_in plan = flat_map (λ run. repeat run.times (run.actor ∷ [])) plan.turns
 
--- an actor, and what is left behind it
+-- an actor, and what is left after it
 pub record Choice : Type 0 where
   pub actor : Actor
   pub queue : Queue
 
--- the first ready one of actors, with those behind it
+-- the first ready one of actors, with those after it
 pub record Found : Type 0 where
   pub actor : Actor
   pub behind : List Actor
@@ -82,7 +82,7 @@ from_words ready all queue (Some found) = Some (record { actor = found.actor; qu
 unfoldable pub chosen : PlanData → List Entry → Queue → Option Choice
 chosen plan before queue = from_words (is_ready plan before) (actors plan) queue (first_ready (is_ready plan before) queue.words)
 
--- the turns so far, and what is left behind them
+-- the turns so far, and what is left after them
 pub record Walk : Type 0 where
   pub before : List Entry
   pub queue : Queue
@@ -144,7 +144,7 @@ owned plan count worker = owned_from count worker 0 (actors plan)
 abbrev pub is_among : Actor → List Actor → Bool
 is_among actor others = list_any (same_actor actor) others
 
--- the actors behind this one
+-- the actors after this one
 unfoldable pub behind : Actor → List Actor → List Actor
 behind actor [] = []
 behind actor (first ∷ others) = if same_actor first actor then others else behind actor others
@@ -176,7 +176,7 @@ picked plan before own last =
     (or_else (find (λ actor. not (is_among actor own) && is_ready_idle plan before actor) (actors plan))
     (find (λ actor. not (is_among actor own) && is_ready_waiting plan before actor) (actors plan)))
 
--- *A worker's actor* behind these turns
+-- *A worker's actor* after these turns
 unfoldable pub worker_actor : PlanData → ℕ → List Paired → ℕ → Option Actor
 worker_actor plan count before worker = picked plan (map (λ turn. turn.1) before) (owned plan count worker) (last_taken worker (owned plan count worker) before)
 

@@ -49,7 +49,7 @@ pub record Work : Type 0 where
   pub cutover : CutOver
   pub attempt_tries : List ℕ
 
--- the setup with the turns at which it failed, or the work behind it
+-- the setup with the turns at which it failed, or the work after it
 pub data Course : Type 0 where
   SettingUp : Setup → List ℕ → Course
   Migrating : Work → Course
@@ -146,7 +146,7 @@ cutover_after plan cutover work tool = attempt_after plan (is_failure work.cutov
 abbrev pub cutover_took : PlanData → Role → Answer → Work → Tool → Tool
 cutover_took plan role answer work tool = cutover_after plan (cutovers.took role work.cutover answer) work tool
 
--- behind each turn of the applier but a loss between calls
+-- after each turn of the applier but a loss between calls
 abbrev pub drains : PlanData → Course → Tool → Tool
 drains plan (SettingUp setup tries) tool = tool
 drains plan (Migrating work) tool = cutover_after plan (cutovers.applier_turn work.applier.hint work.cutover) work tool
@@ -210,7 +210,7 @@ asked_took plan state entry (Command word) tool = command_took word tool
 asked_took plan state entry Cut tool = if has_work state entry.session then actor_took plan entry.actor answers.Lost tool.course tool else tool
 asked_took plan state entry asked tool = turn_counts plan entry.actor (actor_took plan entry.actor entry.answer tool.course tool)
 
--- *Took*: how far the tool is behind one turn more; the server was in this state before it
+-- *Took*: how far the tool is after one turn more; the server was in this state before it
 unfoldable pub took : PlanData → State → Tool → Entry → Tool
 took plan state tool entry = asked_took plan state entry entry.asked (record tool { turns = tool.turns + 1 })
 
@@ -222,6 +222,6 @@ pub record Moment : Type 0 where
 abbrev pub after_turn : PlanData → Moment → Entry → Moment
 after_turn plan now entry = record { server = after_entry now.server entry; tool = took plan now.server now.tool entry }
 
--- *Moment*: the server and the tool behind the turns of a journal
+-- *Moment*: the server and the tool after the turns of a journal
 unfoldable pub moment : PlanData → List Entry → Moment
 moment plan journal = fold (after_turn plan) (record { server = opening plan; tool = new_tool plan }) journal

@@ -27,7 +27,7 @@ abbrev pub is_finished : Course → Bool
 is_finished (SettingUp setup tries) = false
 is_finished (Migrating work) = cutovers.is_finished work.cutover.phase
 
--- the tool is over: all is cleared up behind the RENAME; or all is reverted, with no attempt, no wait and no transaction
+-- the tool is over: all is cleared up after the RENAME; or all is reverted, with no attempt, no wait and no transaction
 abbrev pub is_over : Moment → Bool
 is_over now =
     if is_renamed now.tool.course then is_finished now.tool.course

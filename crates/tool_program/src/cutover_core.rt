@@ -1,4 +1,4 @@
-//! The cut-over: the attempts to exchange two tables by one RENAME, and what is cleared up behind them.
+//! The cut-over: the attempts to exchange two tables by one RENAME, and what is cleared up after them.
 
 mod answers;
 mod calls;

@@ -155,10 +155,10 @@ fn ending<R: Threads + Wait + Sync, S: Source, K: Sink, G: Gate + Sync>(
 
 /// All that the program does: it gives to the sink what the words ask for, of the plan that the source has.
 ///
-/// The commands are `check`, which prints the schema that the plan's ALTER leaves; `replay`, which runs the plan on one
-/// thread and prints the report; `run`, by which worker threads do so, 4 where their number isn't said; and `generate`, which
-/// prints the plan of a number and reads nothing. The gate is told before and behind each turn of a worker's, and never while
-/// one is held. Workers wait for each other's turns.
+/// The commands are `check`, which prints the schema that the plan's ALTER leaves; `replay`, which runs the plan on one thread
+/// and prints the report; `run`, by which worker threads do so, 4 where their number isn't said; and `generate`, which prints
+/// the plan of a number and reads nothing. The gate is told before and after each turn of a worker's, and never while one is
+/// held. Workers wait for each other's turns.
 pub fn ghost_<R: Threads + Wait + Sync, S: Source, K: Sink, G: Gate + Sync>(
     rt: &R,
     alloc: Global,

@@ -1,5 +1,5 @@
-//! What a report says of clients: what each got, and the history of their transactions; and what it takes to go along a
-//! journal for it: what became of a client's line in a turn, the script behind the line, and who waits with the RENAME.
+//! What a report says of clients: what each got, and the history of their transactions; and what it takes to go along a journal
+//! for it: what became of a client's line in a turn, the script after the line, and who waits with the RENAME.
 
 mod became;
 mod numbers;

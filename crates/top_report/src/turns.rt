@@ -11,7 +11,7 @@ use base_values::Text;
 use server_model::{Asked, Entry};
 use std::alloc::AllocError;
 
-/// Turns of one actor, one behind the other, to which one more may come.
+/// Turns of one actor, one after the other, to which one more may come.
 #[derive(Clone, Copy)]
 pub(crate) struct OpenRun {
     actor: Actor,
@@ -94,8 +94,8 @@ fn run_with(before: Option<OpenRun>, actor: Actor) -> OpenRun
     }
 }
 
-/// Adds the run before a turn, where the turn isn't of it, and gives the run that is open behind the turn. A loss between
-/// calls is no turn of a run.
+/// Adds the run before a turn, where the turn isn't of it, and gives the run that is open after the turn. A loss between calls
+/// is no turn of a run.
 fn push_turn(
     into: &mut Text,
     before: Option<OpenRun>,

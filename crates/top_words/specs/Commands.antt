@@ -20,7 +20,7 @@ run_by number = option_map Run (workers_of number)
 abbrev pub generate_of : List ℕ → Option Command
 generate_of number = option_map Generate (number_of number)
 
--- what stands behind `--workers=` in a word
+-- what follows `--workers=` in a word
 abbrev pub attached_number : List ℕ → Option (List ℕ)
 attached_number word = if bytes_eq (take 10 word) (codes "--workers=") then Some (drop 10 word) else None
 
@@ -35,7 +35,7 @@ numbered_command name word =
 abbrev pub option_command : List ℕ → List ℕ → List ℕ → Option Command
 option_command name option word = if bytes_eq name (codes "run") && bytes_eq option (codes "--workers") then run_by word else None
 
--- the command that the words behind the program's name are, if they are one
+-- the command that the words after the program's name are, if they are one
 abbrev pub command : List (List ℕ) → Option Command
 command [] = None
 command (name ∷ []) = plain_command name

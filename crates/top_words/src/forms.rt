@@ -5,7 +5,7 @@ ghost use Rattle.top_words.specs.Commands.{attached_number, command, numbered_co
 
 use crate::numbers::{number_of, workers_of};
 
-/// What stands behind `--workers=` in a word.
+/// What follows `--workers=` in a word.
 fn attached_number(word: &str) -> Option<&str>
     ensures { option_map (λ number. number.now) result ≡ attached_number word.now }
 {

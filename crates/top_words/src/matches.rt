@@ -20,7 +20,7 @@ const NUMBER: &str = "number";
 /// How many workers a run has where nothing is said.
 const USUAL_WORKERS: u32 = 4;
 
-/// `run`, whose number stands behind `--workers`.
+/// `run`, whose number stands after `--workers`.
 fn run_parser<'a>(alloc: Global) -> Result<Parser<'a>, AllocError>
     ensures app { IfOk result (λ parser. app_of parser ≡ run_app) }
     ensures local { IfOk result (λ parser. (out-Command parser).has_globals ≡ false) }

@@ -48,7 +48,7 @@ pub(crate) fn push_rows(into: &mut Text, number: u64) -> Result<(), AllocError>
     Ok(())
 }
 
-/// The draws behind those of the rows.
+/// The draws after those of the rows.
 pub(crate) fn draws_after_rows(number: u64) -> Draws
     ensures { result.state ≡ state_after number (row_count number) }
 {

@@ -1,4 +1,4 @@
--- What a column stores of the DEFAULT that is written behind it ("Data Type Default Values").
+-- What a column stores of the DEFAULT that is written after it ("Data Type Default Values").
 use Rattle.std.specs.Prelude.{ℕ, Bool, nat_le, if◌then◌else◌, List, length, sum_by, Option, Some, None, Result, Ok, Err}
 use Rattle.std.specs.Fmt.{signed_decimal}
 use Rattle.base_values.specs.declared.unfit.Unfit.{Unfit}

@@ -29,7 +29,7 @@ places_of names columns = filter_map (place_of names) columns
 unfoldable pub spelled : List (List ℕ) → List ℕ → List ℕ
 spelled names name = unwrap_or (find (λ known. same_name known name) names) name
 
--- the name itself, and then with _2, _3 and so on behind it
+-- the name itself, and then with _2, _3 and so on after it
 unfoldable pub numbered : List ℕ → ℕ → List ℕ
 numbered base number = if number == 1 then base else base ++ codes "_" ++ decimal number
 

@@ -38,7 +38,7 @@ impl Model for LoggedTxn {
     ghost invariant = { λ t. t.events.items ≡ t.txn.events };
 }
 
-/// Adds events behind others.
+/// Adds events after others.
 fn append_events(events: &mut Vec<RowEvent>, more: Events)
     requires { length more ≤ vec_capacity events.old - vec_len events.old }
     ensures { events.new.items ≡ events.old.items ++ more }

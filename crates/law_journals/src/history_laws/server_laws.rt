@@ -47,7 +47,7 @@ pub fn definitions_are_done()
     ensures { DefinitionsAreDone }
 {}
 
-/// The state behind a run: its tables are tables, writes are covered by locks, and locks of two sessions stay apart.
+/// The state after a run: its tables are tables, writes are covered by locks, and locks of two sessions stay apart.
 pub fn states_hold()
     ensures { StatesHold }
 {}

@@ -4,7 +4,7 @@ ghost use Rattle.proof_migration.specs.OnceLaws.Laws.{RenamesComeOnce};
 
 use crate::history_laws::server_laws::definitions_are_done;
 
-/// Behind the RENAME the new table's name is free for good, so no RENAME is done again.
+/// After the RENAME the new table's name is free for good, so no RENAME is done again.
 pub fn renames_come_once()
     ensures { RenamesComeOnce }
 {

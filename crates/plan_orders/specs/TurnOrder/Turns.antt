@@ -15,7 +15,7 @@ run_with None times = None
 run_with (Some actor) None = None
 run_with (Some actor) (Some times) = Some (record { actor = actor; times = times })
 
--- an actor's word alone is one turn; `*` and a number from 1 on behind it ask for so many
+-- an actor's word alone is one turn; `*` and a number from 1 on after it ask for so many
 abbrev pub run_in : List ℕ → Option (List ℕ × List ℕ) → Option ActorRun
 run_in word None = run_with (actor_of word) (Some 1)
 run_in word (Some parts) = run_with (actor_of parts.0) (number_of parts.1)

@@ -10,7 +10,7 @@ use Rattle.sql_grammar.specs.declared.tokens.TextWords.{TextWords}
 use Rattle.sql_grammar.specs.Pieces.{after_sign, literal_at}
 use Rattle.sql_grammar.specs.Tokens.{text_words}
 
--- a literal, as the column stores it, and what stands behind it
+-- a literal, as the column stores it, and what follows it
 unfoldable pub value_at : Column → List Token → Option (Value × List Token)
 value_at column words = do
   literal ← result_ok (literal_at words)
@@ -22,7 +22,7 @@ abbrev pub mark : Bool → List ℕ
 mark true = codes "("
 mark false = codes ","
 
--- a value for each column, each behind its mark
+-- a value for each column, each after its mark
 unfoldable pub values_at : List Column → Bool → List Token → Option (List Value × List Token)
 values_at [] is_first words = Some ([], words)
 values_at (column ∷ columns) is_first words = do

@@ -27,8 +27,8 @@ abbrev pub newly_named : ℕ → Database → Schema → Result TableRows TableR
 newly_named number tables schema =
     if has_table schema.name tables then Err (refusals.Schema RepeatedName number) else Ok (record { schema = schema; rows = [] })
 
--- The table of this number behind these tables: its CREATE TABLE is refused first, then its name where it came before,
--- then its first bad row.
+-- The table of this number after these tables: its CREATE TABLE is refused first, then its name where it came before, then its
+-- first bad row.
 unfoldable pub table_at : List ℕ → ℕ → Database → TableData → Result TableRows TableRefusal
 table_at migrated number tables texts = do
   schema ← of_schema number (schema_at migrated texts.create)

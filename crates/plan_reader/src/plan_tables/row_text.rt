@@ -14,7 +14,7 @@ use base_values::{Row, Sequence, StoreFault, Value, store};
 use sql_grammar::{SchemaFault, TextWords, Token, after_sign, literal_at, text_words};
 use std::alloc::Global;
 
-/// The literal at the front, as the column stores it, and what stands behind it.
+/// The literal at the front, as the column stores it, and what follows it.
 #[tactic(auto, unfolding(crate::specs::PlanTables::RowTexts::value_at))]
 fn value_at<'a>(
     alloc: Global,
@@ -35,7 +35,7 @@ fn value_at<'a>(
     }
 }
 
-/// What stands behind the parenthesis of the first value, or behind the comma of another.
+/// What follows the parenthesis of the first value, or after the comma of another.
 fn after_mark(is_first: bool, words: &[Token]) -> Option<&[Token]>
     ensures { option_map (λ rest. rest.now) result ≡ after_sign (mark is_first) words.now }
 {
@@ -46,7 +46,7 @@ fn after_mark(is_first: bool, words: &[Token]) -> Option<&[Token]>
     }
 }
 
-/// A value for each column, the first behind a parenthesis, the others behind a comma; and what stands behind them.
+/// A value for each column, the first after a parenthesis, the others after a comma; and what follows them.
 fn values_at<'a>(
     alloc: Global,
     columns: &[Column],

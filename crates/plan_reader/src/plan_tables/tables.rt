@@ -58,7 +58,7 @@ fn newly_named(
     }
 }
 
-/// The table of this number behind these tables.
+/// The table of this number after these tables.
 #[tactic(auto, unfolding(crate::specs::PlanTables::Tables::table_at))]
 fn table_at(
     alloc: Global,

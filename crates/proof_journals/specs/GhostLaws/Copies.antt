@@ -55,7 +55,7 @@ pub record IsAltered (m : Migration) (tables : Database) : Type 0 where
   pub new : find_table m.new.name tables ≡ Some (record { schema = m.new; rows = made })
   pub altered : converted_rows m.columns rows ≡ Some made
 
--- *In a scene*: what is stored and held at the moment is what the server has behind some of the journal's first entries.
+-- *In a scene*: what is stored and held at the moment is what the server has after some of the journal's first entries.
 pub record IsInScene (limits : Limits) (scene : Scene) (journal : List Entry) (now : ToolMoment) : Type 0 where
   pub made : List Entry
   pub left : List Entry

@@ -24,7 +24,7 @@ changes_in name log from (suc steps) = own_change name (slice_get log from) ++ c
 abbrev pub OthersOnly : List ℕ → List RowEvent → ℕ → ℕ → Type 0
 OthersOnly name log from steps = (i : ℕ) (event : RowEvent) → from ≤ i → i < from + steps → slice_get log i ≡ Some event → bytes_eq event.table name ≡ false
 
--- *The next event of the table*: so many others come before it, and so many places are left behind it.
+-- *The next event of the table*: so many others come before it, and so many places are left after it.
 pub record NextDue (name : List ℕ) (log : List RowEvent) (from steps : ℕ) (change : Change) (rest : List Change) : Type 0 where
   pub others : ℕ
   pub left : ℕ
@@ -55,7 +55,7 @@ pub record IsWhole (m : Migration) (log : List RowEvent) (reached end next : ℕ
   pub within : next ≤ end
   pub are : todo ≡ planned m (changes_in m.name log reached steps)
 
--- *half*: of the UPDATE at the place that is reached, the row of the old key is out; behind it the rest is to be done.
+-- *half*: of the UPDATE at the place that is reached, the row of the old key is out; after it the rest is to be done.
 pub record IsHalf (m : Migration) (log : List RowEvent) (reached end next : ℕ) (before after : Row) (rest : List Doing) : Type 0 where
   pub steps : ℕ
   pub sum : reached + 1 + steps ≡ next

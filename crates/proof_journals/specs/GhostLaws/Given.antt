@@ -1,4 +1,4 @@
--- What a session holds and wrote behind a job that was granted.
+-- What a session holds and wrote after a job that was granted.
 use Rattle.std.specs.Prelude.{◌≡◌, ℕ, ◌==◌, false, ◌++◌}
 use Rattle.proof_journals.specs.Scenes.{SessionHold, Stored}
 use Rattle.server_model.specs.Jobs.{Job, after_events, job_needs, job_says}

@@ -73,8 +73,8 @@ CommitsFit =
     (name : List ℕ) (events : List RowEvent) (tables : Database) (table : TableRows) → IsWellFormedDatabase tables → EventsFit tables events → find_table name tables ≡ Some table
     → LogFits name table.schema table.rows events × (find_table name (after_events tables events) ≡ Some (record { schema = table.schema; rows = rows_at name (key_places table.schema) table.rows events (length events) }))
 
--- *Behind every run* the tables are tables, what each session wrote fits them, event by event, and is covered by its locks,
--- and locks of two sessions don't conflict.
+-- *After every run* the tables are tables, what each session wrote fits them, event by event, and is covered by its locks, and
+-- locks of two sessions don't conflict.
 abbrev pub WritesFit : Type 0
 WritesFit = (limits : Limits) (scene : Scene) (journal : List Entry) → IsSceneRun limits scene journal → IsServed (stored (scene_state limits scene journal)) (λ n. (face_of (scene_state limits scene journal).sessions n).hold)
 
@@ -165,7 +165,7 @@ TablesMove =
     (m : Migration) (at : Clustered m.schema) (rows : List Row) (copy : CopyState) (apply : ApplyState) (progress : Progress Row) (ghost : GhostRows) (copier applier : ℕ) (now after : Stored) (hold : ℕ → SessionHold) → ToolInvariant m at rows copy apply progress ghost copier applier now hold → after.log ≡ now.log
     → find_table m.name after.tables ≡ find_table m.name now.tables → find_table m.new.name after.tables ≡ find_table m.new.name now.tables → ToolInvariant m at rows copy apply progress ghost copier applier after hold
 
--- *The copier goes on in another session* that holds nothing, behind a loss.
+-- *The copier goes on in another session* that holds nothing, after a loss.
 abbrev pub CopierReturns : Type 0
 CopierReturns =
     (m : Migration) (at : Clustered m.schema) (rows : List Row) (left : Option Span) (apply : ApplyState) (progress : Progress Row) (ghost : GhostRows) (copier next applier : ℕ) (now : Stored) (hold : ℕ → SessionHold) → ToolInvariant m at rows (Waiting left) apply progress ghost copier applier now hold
@@ -257,7 +257,7 @@ RowIsPut =
     → ToolInvariant m at rows copy (Whole next (Putting row ∷ rest)) progress ghost copier applier now hold → converted_row m.columns row ≡ Ok made → DoesWork m job (works.Replace made) → IsGiven now hold applier job own → Besides applier hold holds own
     → AfterStatement m at rows copy (Whole next rest) progress ghost (tells m.new (view_of m ghost) (works.Replace made)).changes copier applier now holds own
 
--- *REPLACE behind a DELETE*: the second half of an UPDATE
+-- *REPLACE after a DELETE*: the second half of an UPDATE
 abbrev pub RowIsPutAgain : Type 0
 RowIsPutAgain =
     (m : Migration) (at : Clustered m.schema) (rows : List Row) (copy : CopyState) (progress : Progress Row) (ghost : GhostRows) (copier applier : ℕ) (now : Stored) (hold holds : ℕ → SessionHold) (own : SessionHold) (job : Job) (next : ℕ) (before row made : Row) (rest : List Doing) → IsPlanned m rows → IsServed now hold
@@ -294,7 +294,7 @@ StatementIsRefused =
     → ToolInvariant m at rows copy (Whole next todo) progress ghost copier applier now hold → DoesWork m job work → IsGiven now hold applier job own → Besides applier hold holds own → (tells m.new (view_of m ghost) work).changes ≡ []
     → ToolInvariant m at rows copy (Whole next todo) (record progress { applier_holds = is_locked m.new own.locks }) (record ghost { batch = ghost.batch ++ [] }) copier applier now holds
 
--- *DELETE behind a refused UPDATE*: the first half of it
+-- *DELETE after a refused UPDATE*: the first half of it
 abbrev pub RefusedRowIsRemoved : Type 0
 RefusedRowIsRemoved =
     (m : Migration) (at : Clustered m.schema) (rows : List Row) (copy : CopyState) (progress : Progress Row) (ghost : GhostRows) (copier applier : ℕ) (now : Stored) (hold holds : ℕ → SessionHold) (own : SessionHold) (job : Job) (next : ℕ) (before row : Row) (rest : List Doing) (place : ℕ) → IsPlanned m rows

@@ -19,7 +19,7 @@ use Rattle.proof_journals.specs.Scenes.{Besides, SessionHold, Stored, no_hold}
 abbrev pub with_grant : SessionHold → Need → List RowEvent → SessionHold
 with_grant own need events = record { names = own.names ++ need.names; locks = own.locks ++ need.locks; writes = own.writes ++ events }
 
--- nothing, where the session is lost behind its effect
+-- nothing, where the session is lost after its effect
 abbrev pub unless_lost : Bool → SessionHold → SessionHold
 unless_lost true own = no_hold
 unless_lost false own = own

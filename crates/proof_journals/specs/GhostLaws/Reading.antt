@@ -4,7 +4,7 @@ use Rattle.base_values.specs.declared.event.RowEvent.{RowEvent}
 use Rattle.base_values.specs.declared.event.Change.{Change}
 use Rattle.proof_journals.specs.GhostLaws.Doings.{changes_in, own_change}
 
--- the events that ReadLog answered, and the place behind them
+-- the events that ReadLog answered, and the place after them
 pub record EventsTold : Type 0 where
   pub events : List RowEvent
   pub next : ℕ

@@ -33,7 +33,7 @@ use Rattle.proof_journals.specs.GhostLaws.Tool.{CopyState, ApplyState, InChunk, 
 use Rattle.proof_journals.specs.GhostLaws.Tool.CopyState.{Waiting, Taking}
 use Rattle.proof_journals.specs.GhostLaws.Tool.ApplyState.{Idle, Whole, Half}
 
--- *What the applier has to do*, as it knows it: nothing; so much up to the next position; or the REPLACE behind the DELETE of a
+-- *What the applier has to do*, as it knows it: nothing; so much up to the next position; or the REPLACE after the DELETE of a
 -- refused UPDATE, and then so much. (Whether a planned DELETE was a whole event or half of one, the log alone tells.)
 pub data ApplyPlan : Type 0 where
   Resting : ApplyPlan
@@ -125,7 +125,7 @@ pub data ToolTurn (m : Migration) (at : Clustered m.schema) (rows : List Row) (p
   batch_is_passed : (told : EventsTold) → before.plan ≡ Resting → IsTold m.name before.stored.log before.position told → planned m (own_changes m.name told.events) ≡ [] → after.stored ≡ before.stored → after.hold ≡ before.hold → CopierStays before after → after.plan ≡ Resting → after.position ≡ told.next
       → ToolTurn m at rows place copier applier before after
   -- REPLACE; DELETE; UPDATE, not refused; UPDATE of no row with values that don't store; UPDATE refused with 1062, the DELETE
-  -- behind it, and the REPLACE behind that
+  -- after it, and the REPLACE after that
   row_is_put : (own : SessionHold) (job : Job) (next : ℕ) (row made : Row) (rest : List Doing) → before.plan ≡ Planned next (Putting row ∷ rest) → converted_row m.columns row ≡ Ok made → DoesWork m job (works.Replace made) → DoesJob m applier job own before after → CopierStays before after → after.plan ≡ Planned next rest
       → after.position ≡ before.position → ToolTurn m at rows place copier applier before after
   row_is_removed : (own : SessionHold) (job : Job) (next : ℕ) (row : Row) (rest : List Doing) → before.plan ≡ Planned next (Removing row ∷ rest) → DoesWork m job (delete_at place (key_of (key_places m.schema) row)) → DoesJob m applier job own before after → CopierStays before after → after.plan ≡ Planned next rest

@@ -94,12 +94,12 @@ pub record ToolInvariant (m : Migration) (at : Clustered m.schema) (rows : List 
   pub two : (copier == applier) ≡ false
   pub other : (applier == copier) ≡ false
 
--- behind a statement of the applier's: the place that is reached, with these changes more in the batch
+-- after a statement of the applier's: the place that is reached, with these changes more in the batch
 pub record AfterStatement (m : Migration) (at : Clustered m.schema) (rows : List Row) (copy : CopyState) (apply : ApplyState) (progress : Progress Row) (ghost : GhostRows) (changes : List Change) (copier applier : ℕ) (now : Stored) (holds : ℕ → SessionHold) (own : SessionHold) : Type 0 where
   pub reached : ℕ
   pub tool : ToolInvariant m at rows copy apply (record progress { reached = reached; applier_holds = is_locked m.new own.locks }) (record ghost { batch = ghost.batch ++ changes }) copier applier now holds
 
--- behind a DELETE of the applier's: of a row that was deleted; or the first half of an UPDATE that changes a unique key, whose
+-- after a DELETE of the applier's: of a row that was deleted; or the first half of an UPDATE that changes a unique key, whose
 -- second is a REPLACE
 pub data AfterRemoval (m : Migration) (at : Clustered m.schema) (rows : List Row) (copy : CopyState) (progress : Progress Row) (ghost : GhostRows) (changes : List Change) (copier applier : ℕ) (now : Stored) (holds : ℕ → SessionHold) (own : SessionHold) (next : ℕ) (row : Row) (rest : List Doing) : Type 0 where
   gone_whole : AfterStatement m at rows copy (Whole next rest) progress ghost changes copier applier now holds own → AfterRemoval m at rows copy progress ghost changes copier applier now holds own next row rest

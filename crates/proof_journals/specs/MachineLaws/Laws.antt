@@ -1,4 +1,4 @@
--- What holds of the tool's machines and their sessions behind every journal.
+-- What holds of the tool's machines and their sessions after every journal.
 use Rattle.std.specs.Prelude.{◌≡◌, ℕ, Bool, true, false, List, [], ◌∷◌, ◌++◌, Some, None}
 use Rattle.std.specs.List.{AllByRecursion, list_any}
 use Rattle.base_script.specs.declared.actor.Actor.{Actor}
@@ -34,8 +34,7 @@ pub record StandsOn (plan : PlanData) (journal : List Entry) (entry : Entry) : T
   pub own : (request : Request) → IsAbout request (standing_of plan journal entry.actor) entry.asked → standing_of plan (journal ++ entry ∷ []) entry.actor ≡ answered request entry.answer (standing_of plan journal entry.actor)
   pub heard : (request : Request) → IsAbout request (standing_of plan journal entry.actor) entry.asked → entry.side ≡ None → serves_to request entry.answer ≡ true
 
--- *Answers tell standings*: so does each turn behind a faithful journal that keeps to its sessions, whatever program it
--- follows.
+-- *Answers tell standings*: so does each turn after a faithful journal that keeps to its sessions, whatever program it follows.
 abbrev pub AnswersTellStandings : Type 0
 AnswersTellStandings = (plan : PlanData) (journal : List Entry) (entry : Entry) → IsFaithful plan journal → KeepsSessions journal → IsAnswered (state_at plan journal) entry → IsSeated journal entry → StandsOn plan journal entry
 
@@ -44,11 +43,11 @@ pub record IsNumberedBy (plan : PlanData) (journal : List Entry) : Type 0 where
   pub live : (a : Actor) (n : ℕ) → live_session journal a ≡ Some n → is_live (state_at plan journal) n ≡ true
   pub made : (state_at plan journal).made ≡ sessions_named journal
 
--- *Sessions are numbered* so behind each faithful journal that keeps to its sessions.
+-- *Sessions are numbered* so after each faithful journal that keeps to its sessions.
 abbrev pub SessionsAreNumbered : Type 0
 SessionsAreNumbered = (plan : PlanData) (journal : List Entry) → IsFaithful plan journal → KeepsSessions journal → IsNumberedBy plan journal
 
--- *Machines stand with their sessions* behind each faithful journal that follows the program.
+-- *Machines stand with their sessions* after each faithful journal that follows the program.
 abbrev pub MachinesStand : Type 0
 MachinesStand =
     (plan : PlanData) (journal : List Entry) → IsFaithful plan journal → Follows plan journal
@@ -98,7 +97,7 @@ abbrev pub TablesStayTables : Type 0
 TablesStayTables =
     (plan : PlanData) (journal : List Entry) → IsFitting plan → AllByRecursion IsWellFormedTable plan.tables → IsFaithful plan journal → Follows plan journal → StaysWellFormed plan journal
 
--- *Given calls may be called*, all of them: of a runnable plan, behind each faithful journal that follows the program.
+-- *Given calls may be called*, all of them: of a runnable plan, after each faithful journal that follows the program.
 abbrev pub GivenCallsMayBeCalled : Type 0
 GivenCallsMayBeCalled =
     (plan : PlanData) (journal : List Entry) (actor : Actor) (request : Request) (n : ℕ) → IsRunnable plan → IsFaithful plan journal → Follows plan journal → given plan journal actor ≡ Some (Call request) → MayTake journal n (live_session journal actor)
@@ -109,7 +108,7 @@ abbrev pub GivenPollsMayBeCalled : Type 0
 GivenPollsMayBeCalled =
     (plan : PlanData) (journal : List Entry) (actor : Actor) → IsRunnable plan → IsFaithful plan journal → Follows plan journal → given plan journal actor ≡ Some Poll → (n : ℕ) × (live_session journal actor ≡ Some n) × MayPoll (state_at plan journal) n
 
--- an actor's session may be lost between its turns, and in a call or a poll that is given, before the effect or behind it
+-- an actor's session may be lost between its turns, and in a call or a poll that is given, before the effect or after it
 pub record MayLoseAny (plan : PlanData) (journal : List Entry) (actor : Actor) : Type 0 where
   pub between : (n : ℕ) → live_session journal actor ≡ Some n → MayLose (state_at plan journal) n None Cut
   pub called : (request : Request) (n : ℕ) (side : Side) → given plan journal actor ≡ Some (Call request) → MayTake journal n (live_session journal actor) → MayLose (opened_for plan journal actor n) n (Some side) (Call request)

@@ -145,7 +145,7 @@ renaming table false = free
 
 -- ALL OF THEM
 
--- behind the setup; where all is reverted the copier and the applier only roll back
+-- after the setup; where all is reverted the copier and the applier only roll back
 pub record WorkStands (journal : List Entry) (reverting : Bool) (has : Actor → Standing) (work : Work) : Type 0 where
   pub inspector : Stands inspector_waits false [] (has Insp)
   pub copier : (reverting ≡ true) ⊎ Stands (copier_asks work.copier.step) (copier_busy work.copier.step) [] (has Copy)

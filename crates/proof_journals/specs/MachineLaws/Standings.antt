@@ -38,11 +38,11 @@ abbrev pub standing_in : State → Option ℕ → Standing
 standing_in state None = free
 standing_in state (Some number) = standing (face_of state.sessions number) (request_of (waiting_of number state.waiting))
 
--- *Standing of an actor*: that of its live session behind the turns of a journal
+-- *Standing of an actor*: that of its live session after the turns of a journal
 abbrev pub standing_of : PlanData → List Entry → Actor → Standing
 standing_of plan journal actor = standing_in (state_at plan journal) (live_session journal actor)
 
--- whether the session is in a transaction behind a request that was answered so
+-- whether the session is in a transaction after a request that was answered so
 abbrev pub busy_after : Request → Answer → Bool → Bool
 busy_after requests.Begin (answers.Ok count) old = true
 busy_after (requests.BeginSpan table span size) (answers.Keys keys end) old = true
@@ -56,7 +56,7 @@ locked_after (requests.LockTables names) (answers.Ok count) old = old ++ names
 locked_after requests.Unlock (answers.Ok count) old = []
 locked_after request answer old = old
 
--- what is left behind a request that was answered so: a time-out rolls the transaction back, and a loss takes all away
+-- what is left after a request that was answered so: a time-out rolls the transaction back, and a loss takes all away
 abbrev pub answered : Request → Answer → Standing → Standing
 answered request answers.Lost old = free
 answered request (answers.Waits by) old = record old { waits = Some request }
@@ -129,6 +129,6 @@ abbrev pub MayTake : List Entry → ℕ → Option ℕ → Type 0
 MayTake journal n (Some session) = n ≡ session
 MayTake journal n None = sessions_named journal < n
 
--- the server behind a journal once this session of the actor's is live
+-- the server after a journal once this session of the actor's is live
 abbrev pub opened_for : PlanData → List Entry → Actor → ℕ → State
 opened_for plan journal actor n = opens_if false (not (is_client actor)) n (state_at plan journal)

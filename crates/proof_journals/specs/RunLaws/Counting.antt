@@ -10,7 +10,7 @@ use Rattle.server_model.specs.States.{State, session_of}
 abbrev pub numbered : ℕ → State → State
 numbered made state = record state { made = made }
 
--- *Server behind turns*: it may have made sessions besides, and lost them, since a step found no memory
+-- *Server after turns*: it may have made sessions besides, and lost them, since a step found no memory
 pub record IsAfter (told state : State) : Type 0 where
   pub made : told.made ≤ state.made
   pub same : state ≡ numbered state.made told

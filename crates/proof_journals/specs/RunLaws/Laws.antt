@@ -25,7 +25,7 @@ pub record Living (journal : List Entry) (state : State) : Type 0 where
   pub named : state.made ≡ sessions_named journal
   pub few : length state.sessions ≤ state.made
 
--- *Sessions are known*: behind every journal that is faithful and keeps to sessions
+-- *Sessions are known*: after every journal that is faithful and keeps to sessions
 abbrev pub SessionsAreKnown : Type 0
 SessionsAreKnown = (plan : PlanData) (journal : List Entry) → IsFaithful plan journal → KeepsSessions journal → Living journal (state_at plan journal)
 

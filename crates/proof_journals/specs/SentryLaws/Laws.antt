@@ -1,4 +1,4 @@
--- The sentry relation behind every journal, and what it says where the tool's RENAME may run.
+-- The sentry relation after every journal, and what it says where the tool's RENAME may run.
 use Rattle.std.specs.Prelude.{◌≡◌, ◌≢◌, ℕ, false, List, [], Some}
 use Rattle.base_script.specs.declared.actor.Actor.{Actor}
 use Rattle.server_model.specs.Along.{Along}
@@ -9,7 +9,7 @@ use Rattle.tool_program.specs.JournalWords.Sessions.{live_session}
 use Rattle.tool_program.specs.Programs.{IsFollowed}
 use Rattle.proof_journals.specs.SentryLaws.Turning.{IsGuarded, IsNumbered, IsTurned, last_session}
 
--- *Journals are guarded*: behind every journal whose entries are such turns the sentry relation holds.
+-- *Journals are guarded*: after every journal whose entries are such turns the sentry relation holds.
 abbrev pub JournalsAreGuarded : Type 0
 JournalsAreGuarded = (plan : PlanData) (journal : List Entry) → Along (IsTurned plan) [] journal → IsGuarded plan journal
 

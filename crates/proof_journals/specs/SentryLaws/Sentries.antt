@@ -56,7 +56,7 @@ pub record IsLocked (table : List ℕ) (held : List HeldName) (session : ℕ) : 
   pub old : holds held session (old_name table) true ≡ true
   pub alone : IsAlone table held session
 
--- the hint row of the attempt is logged, no hint row before it is the attempt's, and no event behind it is of the table
+-- the hint row of the attempt is logged, no hint row before it is the attempt's, and no event after it is of the table
 pub record IsHinted (table : List ℕ) (attempt : ℕ) (log : List RowEvent) : Type 0 where
   pub front : List RowEvent
   pub behind : List RowEvent
@@ -96,13 +96,13 @@ pub record AfterLock (table : List ℕ) (scene : Scene) (locker : ℕ) : Type 0 
   pub sentry : HasSentry table scene
   pub locked : IsLocked table scene.held locker
 
--- once the hint row is written: nothing is logged of the table behind the hint row
+-- once the hint row is written: nothing is logged of the table after the hint row
 pub record AfterHint (table : List ℕ) (scene : Scene) (attempt locker : ℕ) : Type 0 where
   pub sentry : HasSentry table scene
   pub locked : IsLocked table scene.held locker
   pub hinted : IsHinted table attempt scene.log
 
--- once the applier is behind the hint row: all is applied
+-- once the applier is past the hint row: all is applied
 pub record AfterDrain (table : List ℕ) (scene : Scene) (copier : Copier) (applier : Applier) (locker : ℕ) : Type 0 where
   pub sentry : HasSentry table scene
   pub locked : IsLocked table scene.held locker
@@ -291,8 +291,8 @@ abbrev pub InspectorServes : List ℕ → ℕ → Stage → Answer → Scene →
 InspectorServes t attempt Hinting (answers.Ok count) before after = WritesHint t attempt before after
 InspectorServes t attempt stage answer before after = Unit {0}
 
--- what is known of the applier after its turn: its hint is the last one up to its position; and where it has just come
--- behind the hint row, no batch is open
+-- what is known of the applier after its turn: its hint is the last one up to its position; and where it has just passed the
+-- hint row, no batch is open
 abbrev pub IsDraining : Phase → Type 0
 IsDraining (Attempting (Draining turns)) = Unit {0}
 IsDraining phase = ⊥

@@ -1,5 +1,5 @@
--- *What a turn leaves*, actor by actor, for the sentry relation: the premises of one entry, and what holds of the tool and
--- the server behind each journal.
+-- *What a turn leaves*, actor by actor, for the sentry relation: the premises of one entry, and what holds of the tool and the
+-- server after each journal.
 use Rattle.std.specs.Prelude.{◌+◌, if◌then◌else◌, ◌≡◌, ◌≢◌, ◌⊎◌, ℕ, ◌≤◌, Bool, true, false, List, [], ◌∷◌, ◌++◌, fold, drop, length, Option, Some, None}
 use Rattle.base_script.specs.declared.actor.Actor.{Actor}
 use Rattle.base_script.specs.declared.actor.Actor.TheVariants.{Insp, Copy, Apply, Lock, Ren}
@@ -132,7 +132,7 @@ abbrev pub CopierTurn : PlanData → State → Work → ℕ → Option Answer �
 CopierTurn plan after work turn None = Unit {0}
 CopierTurn plan after work turn (Some answer) = work.copier.is_copied ≡ true → (copiers.took turn work.copier answer).is_copied ≡ true
 
--- the applier's answer, and the drain behind it, which a loss between calls doesn't count for
+-- the applier's answer, and the drain after it, which a loss between calls doesn't count for
 abbrev pub ApplierTurn : PlanData → State → Work → ℕ → Option Answer → Type 0
 ApplierTurn plan after work turn None = Unit {0}
 ApplierTurn plan after work turn (Some answer) = HasTurned plan.table (scene after) work.copier work.applier (appliers.took turn work.applier answer) work.cutover.attempts work.cutover.phase × HasTurned plan.table (scene after) work.copier work.applier work.applier work.cutover.attempts work.cutover.phase
@@ -183,8 +183,8 @@ abbrev pub MayRename : Course → Type 0
 MayRename (SettingUp setup tries) = ⊥
 MayRename (Migrating work) = MayAnswer work.cutover.phase work.cutover.renamer_waits
 
--- *The statement*: behind every journal whose entries are such turns, where the renamer may be answered and the server
--- renames, all of the table is in the new one
+-- *The statement*: after every journal whose entries are such turns, where the renamer may be answered and the server renames,
+-- all of the table is in the new one
 abbrev pub RenamesAreWhole : Type 0
 RenamesAreWhole = (plan : PlanData) (journal : List Entry) (session : ℕ) → Along (IsTurned plan) [] journal → MayRename (moment plan journal).tool.course → IsRenamed plan (moment plan journal).server session
     → WholeIn plan (moment plan journal).server session (moment plan journal).tool.course

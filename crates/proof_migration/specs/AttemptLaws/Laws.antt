@@ -12,11 +12,11 @@ use Rattle.tool_program.specs.Tools.{Work, Migrating, moment}
 use Rattle.proof_journals.specs.MachineLaws.Forming.{IsFitting}
 use Rattle.proof_journals.specs.MachineLaws.Tabling.{TableStands}
 
--- the sentry's CREATE waits while the sentry isn't made, and the RENAME behind the unlock
+-- the sentry's CREATE waits while the sentry isn't made, and the RENAME after the unlock
 pub record IsWaiting (cutover : CutOver) : Type 0 where
   pub guards : cutover.phase ≡ Attempting Guarding → cutover.hold ≡ WaitsToGuard
   pub exchanges : cutover.phase ≡ Attempting Exchanging → cutover.renamer_waits ≡ true
 
--- *Attempts wait*: so does each, behind every journal of a fitting plan whose migrated table stands.
+-- *Attempts wait*: so does each, after every journal of a fitting plan whose migrated table stands.
 abbrev pub AttemptsWait : Type 0
 AttemptsWait = (plan : PlanData) (journal : List Entry) (work : Work) → IsFitting plan → TableStands plan → IsFaithful plan journal → Follows plan journal → (moment plan journal).tool.course ≡ Migrating work → IsWaiting work.cutover

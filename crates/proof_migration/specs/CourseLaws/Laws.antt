@@ -13,6 +13,6 @@ pub record IsOwned (journal : List Entry) (session : ℕ) : Type 0 where
   pub actor : Actor
   pub lives : live_session journal actor ≡ Some session
 
--- *Sessions are owned*: so is each that is live on the server, behind each faithful journal that follows the program.
+-- *Sessions are owned*: so is each that is live on the server, after each faithful journal that follows the program.
 abbrev pub SessionsAreOwned : Type 0
 SessionsAreOwned = (plan : PlanData) (journal : List Entry) (session : ℕ) → IsFaithful plan journal → Follows plan journal → is_live (state_at plan journal) session ≡ true → IsOwned journal session

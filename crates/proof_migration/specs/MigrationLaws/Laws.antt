@@ -17,7 +17,7 @@ use Rattle.proof_migration.specs.MigrationLaws.ApplyLaws.Finding.{FindsRows}
 use Rattle.proof_migration.specs.MigrationLaws.Away.{IsOtherTurn}
 use Rattle.proof_migration.specs.MigrationLaws.Machines.{IsMigrationEnd, IsMigrationStart, Machines, MigrationMove, MigrationRun, MigrationStands, MigrationTurn, StandsAway, Step, journal_after, machines_after}
 
--- *Others keep the relation*: behind another session's turn the tool stands where it stood.
+-- *Others keep the relation*: after another session's turn the tool stands where it stood.
 abbrev pub OthersKeep : Type 0
 OthersKeep =
     (m : Migration) (at : Clustered m.schema) (rows : List Row) (place : ℕ) → IsPlanned m rows → clustered_place m.new ≡ Some place → (limits : Limits) (scene : Scene) (journal : List Entry) (entry : Entry) (copy : CopyState) (plan : ApplyPlan) (position copier applier : ℕ)

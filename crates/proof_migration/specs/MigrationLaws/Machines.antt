@@ -47,7 +47,7 @@ hold_at state n = (face_of state.sessions n).hold
 abbrev pub moment_at : Migration → State → List Entry → Machines → ToolMoment
 moment_at m state journal now = moment_of state (copy_state journal now.copier) (apply_plan m journal now.applier) now.applier.position
 
--- *The migration stands* behind a journal
+-- *The migration stands* after a journal
 pub record MigrationStands (m : Migration) (at : Clustered m.schema) (rows : List Row) (limits : Limits) (scene : Scene) (journal : List Entry) (now : Machines) : Type 0 where
   pub tool : StandsAway m at rows now.copier_session now.applier_session (moment_at m (scene_state limits scene journal) journal now)
   pub copier_knows : CopierKnows journal now.copier
@@ -113,7 +113,7 @@ pub data MigrationMove (limits : Limits) (scene : Scene) (journal : List Entry) 
   chunks_resize : (size : ℕ) → 0 < size → after ≡ record before { copier = copiers.resized size before.copier } → MigrationMove limits scene journal before after
   span_resizes : (told old size : ℕ) → (before.copier).step ≡ Spanning told old → 0 < size → after ≡ record before { copier = record (before.copier) { step = Spanning told size } } → MigrationMove limits scene journal before after
 
--- a step: an entry, or a move; and the machines behind it
+-- a step: an entry, or a move; and the machines after it
 pub data Step : Type 0 where
   Turned : Entry → Machines → Step
   Moved : Machines → Step

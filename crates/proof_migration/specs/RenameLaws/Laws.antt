@@ -27,7 +27,7 @@ OperatorsAreTurned = (plan : PlanData) (journal : List Entry) (entry : Entry) �
 abbrev pub JournalsAreTurned : Type 0
 JournalsAreTurned = (plan : PlanData) (journal : List Entry) → IsRunnable plan → IsSerialPlan plan → IsKept plan journal → IsUnaltered plan journal → Along (IsTurned plan) [] journal
 
--- *A rename*: the turn behind a journal that is kept and unaltered does the RENAME of the migrated table
+-- *A rename*: the turn after a journal that is kept and unaltered does the RENAME of the migrated table
 pub record IsRename (plan : PlanData) (journal : List Entry) (entry : Entry) : Type 0 where
   pub kept : IsKept plan (journal ++ entry ∷ [])
   pub unaltered : IsUnaltered plan journal

@@ -81,7 +81,7 @@ line_of column = record {
   attributes = record { plain = record { nullable = if column.nullable then None else Some false; default = default_read column.default }; is_primary = false; is_unique = false };
 }
 
--- The words of a column's line are read as that column, up to the comma or the parenthesis behind it.
+-- The words of a column's line are read as that column, up to the comma or the parenthesis after it.
 abbrev pub PrintedColumnsAreRead : Type 0
 PrintedColumnsAreRead =
     (column : Column) (sign : List ℕ) (rest : List Token) → CanPrintColumn column → is_kind column.kind ≡ true → bytes_eq sign (codes "(") ≡ false

@@ -3,7 +3,7 @@
 /// How far a client is in its script.
 #[derive(Clone, Copy)]
 pub struct ClientState {
-    /// How many lines of the script are behind it.
+    /// How many lines of the script it has done.
     pub place: usize,
     /// Whether its transaction is open.
     pub is_inside: bool,

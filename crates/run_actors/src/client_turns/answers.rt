@@ -29,7 +29,7 @@ fn closes(word: &ScriptWord) -> bool
     matches!(word, ScriptWord::Commit | ScriptWord::Rollback)
 }
 
-/// The place behind the transaction that is open at this place.
+/// The place after the transaction that is open at this place.
 fn after_transaction(script: &[ScriptLine], place: usize) -> usize
     ensures { drop result script.now ≡ after_transaction (drop place script.now) }
 {
@@ -42,7 +42,7 @@ fn after_transaction(script: &[ScriptLine], place: usize) -> usize
 }
 
 impl ClientState {
-    /// The place behind the next line with its mark; after a time-out inside a transaction that behind the transaction.
+    /// The place after the next line with its mark; after a time-out inside a transaction that after the transaction.
     #[tactic(auto, using(crate::proofs::ClientTurns::Lines::next_left))]
     fn place_after(&self, script: &[ScriptLine], mark: Mark) -> usize
         requires { self.now.place < length script.now }

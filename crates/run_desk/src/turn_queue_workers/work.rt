@@ -30,7 +30,7 @@ pub struct Done<B: SharedState> {
 }
 
 /// Takes turns for one worker until none is left, or there is no memory for one, and gives the last answer. The gate is told
-/// before and behind each, and never while the turn is held.
+/// before and after each, and never while the turn is held.
 fn work<B: SharedState, R: Wait, G: Gate>(
     rt: &R,
     turn_queue: &TurnQueue<B>,

@@ -37,7 +37,7 @@ fn actor_at<V: Serve>(run: &Run<'_, V>, place: usize) -> Actor
     }
 }
 
-/// The first actor of the pass that is ready, from this place on; behind its turn no word of the plan's is left.
+/// The first actor of the pass that is ready, from this place on; after its turn no word of the plan's is left.
 #[tactic(auto, using(crate::proofs::WholeReplay::PassChoices::by_taken, crate::proofs::WholeReplay::PassChoices::actor_passed, crate::proofs::WholeReplay::PassChoices::by_spent))]
 pub(crate) fn next_in_pass<V: Serve>(run: &Run<'_, V>, from: usize) -> Option<NextTurn>
     ensures { option_map (choice_of run.now.plan) result ≡ from_pass (first_ready (is_ready run.now.plan run.now.journal) (drop from (actors run.now.plan))) }

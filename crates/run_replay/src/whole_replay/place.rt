@@ -7,17 +7,17 @@ use base_script::Actor;
 pub(crate) struct Place {
     /// The plan's run of words that comes next.
     pub(crate) run: usize,
-    /// How many of its words are behind.
+    /// How many of its words are done.
     pub(crate) used: u32,
     /// The place in the fixed order of the actor that comes next in the pass.
     pub(crate) actor: usize,
 }
 
-/// The actor whose turn comes next, and what is left behind that turn.
+/// The actor whose turn comes next, and what is left after that turn.
 #[derive(Clone, Copy)]
 pub(crate) struct NextTurn {
     /// The actor.
     pub(crate) actor: Actor,
-    /// What is left behind its turn.
+    /// What is left after its turn.
     pub(crate) behind: Place,
 }

@@ -23,9 +23,9 @@ pub struct TurnFacts {
     pub range: Option<KeyRange>,
     /// Whether its session had a transaction, a table lock or a wait before it.
     pub had_work: bool,
-    /// How many transactions of clients are open behind it.
+    /// How many transactions of clients are open after it.
     pub load: u64,
-    /// How many sessions of the tool's wait or are in a transaction behind it.
+    /// How many sessions of the tool's wait or are in a transaction after it.
     pub busy: u64,
 }
 
@@ -42,7 +42,7 @@ pub fn reserve(run_state: &mut RunState<'_>) -> Result<(), AllocError>
     run_state.tool.reserve()
 }
 
-/// How far a client is behind its turn.
+/// How far a client is after its turn.
 #[tactic(auto, using(crate::proofs::Clients::scripted, crate::proofs::Clients::actor_state_within))]
 fn client_took(run_state: &mut RunState<'_>, client: u32, entry: &Entry)
     requires actor { entry.now.actor ≡ Client client }
@@ -57,7 +57,7 @@ fn client_took(run_state: &mut RunState<'_>, client: u32, entry: &Entry)
     run_state.clients[client as usize - 1].took(script, entry);
 }
 
-/// How far the clients are behind a turn.
+/// How far the clients are after a turn.
 #[tactic(auto, using(crate::proofs::Clients::no_client, crate::proofs::Clients::reached_still))]
 fn clients_took(run_state: &mut RunState<'_>, entry: &Entry)
     requires planned { is_planned run_state.old.plan.now entry.now.actor ≡ true }
@@ -107,7 +107,7 @@ fn keep(run_state: &mut RunState<'_>, entry: &Entry, told: TurnFacts)
     run_state.is_altered = run_state.is_altered || alters;
 }
 
-/// Writes the next turn behind the others, and keeps what it changes.
+/// Writes the next turn after the others, and keeps what it changes.
 #[tactic(auto, using(crate::proofs::Keeping::written))]
 pub fn take(run_state: &mut RunState<'_>, entry: Entry, told: TurnFacts)
     requires run_state { IsRunState run_state.old.plan.now run_state.old.journal.items run_state.old }

@@ -32,7 +32,7 @@ due_by plan journal actor None = given_turn plan journal actor (given plan journ
 unfoldable pub due : PlanData → List Entry → Actor → Option Turn
 due plan journal actor = due_by plan journal actor (cut_due plan journal)
 
--- the session of what is asked: the actor's own, else the next one behind those that were made; a command is in none
+-- the session of what is asked: the actor's own, else the next one after those that were made; a command is in none
 abbrev pub session_at : Asked → Option ℕ → ℕ → ℕ
 session_at (Command word) own made = 0
 session_at asked own made = session_for own made

@@ -11,7 +11,7 @@ use Rattle.proof_journals.specs.RunLaws.Kept.{IsKept}
 use Rattle.run_turns.specs.declared.due_turns.migration_run.turn.Turn.{Turn}
 use Rattle.run_turns.specs.DueTurns.Due.{due, next_entry}
 
--- the journal with this entry is kept, and the server as the entry leaves it is the one behind it
+-- the journal with this entry is kept, and the server as the entry leaves it is the one after it
 pub record IsKeptWith (plan : PlanData) (journal : List Entry) (server : State) (entry : Entry) : Type 0 where
   pub kept : IsKept plan (journal ++ entry ∷ [])
   pub behind : IsAfter (state_at plan (journal ++ entry ∷ [])) (after_entry server entry)

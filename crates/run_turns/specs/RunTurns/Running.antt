@@ -19,7 +19,7 @@ pub record IsDue (plan : PlanData) (journal : List Entry) (turn : Turn) : Type 0
   pub is : due plan journal actor ≡ Some turn
 
 -- What holds of a run: its plan is runnable; its journal is kept, with no more turns than the plan allows, and the run state is
--- that journal's; and the server is the one behind it, with no more sessions than were counted.
+-- that journal's; and the server is the one after it, with no more sessions than were counted.
 pub record IsRun (plan : PlanData) (journal : List Entry) (one : RunState) (sessions : ℕ) (state : State) : Type 0 where
   pub runs : IsRunnable plan
   pub kept : IsKept plan journal

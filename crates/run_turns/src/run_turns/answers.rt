@@ -54,7 +54,7 @@ fn command_turn<V: Serve>(server: &V, counts: Counts, turn: Turn) -> Taken
     }
 }
 
-/// How many sessions are made at most behind a turn in this session.
+/// How many sessions are made at most after a turn in this session.
 fn sessions_after(sessions: u32, session: Option<u32>) -> u32
     requires { sessions < u32.MAX }
     ensures { result ≡ made_for session sessions }

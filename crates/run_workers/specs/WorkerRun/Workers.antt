@@ -29,11 +29,11 @@ is_wanted Own plan journal own actor = is_among actor own && is_ready plan journ
 is_wanted Idle plan journal own actor = not (is_among actor own) && is_ready_idle plan journal actor
 is_wanted Waiting plan journal own actor = not (is_among actor own) && is_ready_waiting plan journal actor
 
--- *Goes on from*: behind the own actor that the worker took last, its own ones are those from this place of the fixed order on
+-- *Goes on from*: after the own actor that the worker took last, its own ones are those from this place of the fixed order on
 abbrev pub GoesOnFrom : PlanData → ℕ → ℕ → ℕ → Option Actor → Type 0
 GoesOnFrom plan count worker place last = after_last last (owned plan count worker) ≡ owned_from count worker place (drop place (actors plan))
 
--- the workers' places behind a turn at this place: where it was the worker's own, and no loss between calls, its rotation goes
+-- the workers' places after a turn at this place: where it was the worker's own, and no loss between calls, its rotation goes
 -- on from the next
 abbrev pub places_after : List ℕ → Member → ℕ → Bool → List ℕ
 places_after places member place cut = if not cut && place % member.workers == member.worker then slice_set places member.worker (place + 1) else places

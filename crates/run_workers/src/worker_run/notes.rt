@@ -57,7 +57,7 @@ fn is_cut(entry: &Entry) -> bool
     matches!(entry.asked, Asked::Cut)
 }
 
-/// Notes the worker's turn; behind an own actor's, but for a loss between calls, its rotation goes on from the next place.
+/// Notes the worker's turn; after an own actor's, but for a loss between calls, its rotation goes on from the next place.
 pub(crate) fn note(
     turns: &mut Turns,
     places: &mut [usize],

@@ -44,7 +44,7 @@ pub(crate) fn actor_count<V: Serve>(run: &Run<'_, V>) -> usize
     run.plan().clients().len() + 6
 }
 
-/// The tool's actor at a place of the fixed order; none behind the tool's.
+/// The tool's actor at a place of the fixed order; none after the tool's.
 #[tactic(auto, using(crate::proofs::WorkerRun::ActorStates::tool_none))]
 fn tool_actor(place: usize) -> Option<Actor>
     ensures { result ≡ slice_get tool_actors place }

@@ -97,7 +97,7 @@ fn last_of(alloc: Global, keys: &[Key]) -> Result<Key, AllocError>
     }
 }
 
-/// The clustered keys of the rows that are left, this many at most; the rows behind them are left then.
+/// The clustered keys of the rows that are left, this many at most; the rows after them are left then.
 fn next_keys(
     alloc: Global,
     size: u32,

@@ -30,11 +30,12 @@ added held session false names = map (held_by session false) (filter (λ name. n
 abbrev pub last_of : NameTable → ℕ → Bool → Option LastAsk
 last_of t session exclusive = Some (record { session = session; exclusive = exclusive; held = t.held; waiting = t.waiting })
 
--- After a request for exclusive locks was refused: it waits behind all others.
+-- After a request for exclusive locks was refused: it waits after all others.
 abbrev pub lined_up : NameTable → ℕ → List (List ℕ) → NameTable
 lined_up t session names = record { held = t.held; waiting = t.waiting ++ record { session = session; names = names } ∷ []; last = last_of t session true }
 
--- After an ask, where this session refuses, or none does: the locks are held, an exclusive request waits behind all others, a shared one leaves no trace.
+-- After an ask, where this session refuses, or none does: the locks are held, an exclusive request waits after all others, a
+-- shared one leaves no trace.
 abbrev pub asked_by : Option ℕ → NameTable → ℕ → Bool → List (List ℕ) → NameTable
 asked_by None t session exclusive names = record { held = t.held ++ added t.held session exclusive names; waiting = t.waiting; last = last_of t session exclusive }
 asked_by (Some by) t session true names = lined_up t session names

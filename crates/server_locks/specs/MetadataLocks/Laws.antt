@@ -46,7 +46,8 @@ GrantsWhole =
     → ((answer_by (blocker_of t session exclusive names) ≡ answers.Granted) × AllByRecursion (λ name. holds (asked t session exclusive names).held session name exclusive ≡ true) names)
     ⊎ ((answer_by (blocker_of t session exclusive names) ≢ answers.Granted) × ((asked t session exclusive names).held ≡ t.held))
 
--- Where a request waits for a name, no other session is granted a shared lock on it that holds no lock on it yet: whoever comes later waits behind the request.
+-- Where a request waits for a name, no other session is granted a shared lock on it that holds no lock on it yet: whoever comes
+-- later waits after the request.
 abbrev pub WaitersGoFirst : Type 0
 WaitersGoFirst =
     (held : List HeldName) (front behind : List Waiter) (waiter : Waiter) (session : ℕ) (name : List ℕ)

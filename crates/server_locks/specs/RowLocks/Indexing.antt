@@ -50,7 +50,7 @@ compare_locks a b = ordering_then (compare_places a b) (bool_cmp b.exclusive a.e
 abbrev pub compare_at : List Lock → ℕ → ℕ → Ordering
 compare_at locks a b = option_cmp compare_locks (slice_get locks a) (slice_get locks b)
 
--- the lock comes behind the one at this place, by one of the orders
+-- the lock comes after the one at this place, by one of the orders
 abbrev pub is_after : (Lock → Lock → Ordering) → List Lock → Lock → ℕ → Bool
 is_after cmp locks lock place = is_gt (option_cmp cmp (Some lock) (slice_get locks place))
 
@@ -73,7 +73,7 @@ conflicts_with lock (Some other) = conflict other lock
 abbrev pub conflicts_at : List Lock → Lock → ℕ → Bool
 conflicts_at locks lock place = conflicts_with lock (slice_get locks place)
 
--- none comes behind one that follows it
+-- none comes after one that follows it
 abbrev pub Rises : (ℕ → ℕ → Ordering) → List ℕ → Type 0
 Rises cmp [] = Unit {0}
 Rises cmp (place ∷ places) = AllByRecursion (λ other. is_gt (cmp place other) ≡ false) places × Rises cmp places

@@ -12,7 +12,7 @@ pub fn names_are_granted_whole()
     ensures { GrantsWhole }
 {}
 
-/// Whoever asks for a shared lock later waits behind a request for an exclusive one.
+/// Whoever asks for a shared lock later waits after a request for an exclusive one.
 pub fn waiters_go_first()
     ensures { WaitersGoFirst }
 {}

@@ -144,7 +144,7 @@ impl MetaLocks {
         Ok(())
     }
 
-    /// Lets the request for exclusive locks wait behind all others.
+    /// Lets the request for exclusive locks wait after all others.
     fn line_up(&mut self, session: u32, names: &Names) -> Result<(), AllocError>
         ensures ok { OnOk result (self.new ≡ lined_up self.old session names.now) }
         ensures err { OnErr result (self.new ≡ self.old) }

@@ -45,7 +45,7 @@ impl HeldLocks {
         }
     }
 
-    /// Adds the locks of a set behind the others.
+    /// Adds the locks of a set after the others.
     pub fn append(&mut self, set: LockSet) -> Result<(), AllocError>
         ensures ok { OnOk result (self.new ≡ self.old ++ set) }
         ensures err { OnErr result (self.new ≡ self.old) }

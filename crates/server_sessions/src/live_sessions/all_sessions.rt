@@ -177,7 +177,7 @@ impl Sessions {
         unlock_tables(&mut self.sessions, session);
     }
 
-    /// The session's request waits behind all others, and wasn't polled yet.
+    /// The session's request waits after all others, and wasn't polled yet.
     pub fn wait(&mut self, session: u32, request: &Request) -> Result<(), AllocError>
         ensures ok { OnOk result (self.new ≡ record self.old { waiting = self.old.waiting ++ record { session = session; request = request.now } ∷ []; sessions = with_session session (counting 0) self.old.sessions }) }
         ensures err { OnErr result (self.new ≡ self.old) }
@@ -288,7 +288,7 @@ impl Sessions {
         self.log.end()
     }
 
-    /// The first events of these tables at the position or behind it, and where the next ones are read.
+    /// The first events of these tables at the position or after it, and where the next ones are read.
     pub fn read_log(&self, position: u64, limit: u32, tables: &Names) -> Result<Answer, AllocError>
         requires { 1 ≤ limit }
         ensures { IfOk result (λ answer. answer ≡ events_read position limit tables.now self.now.log) }
@@ -296,7 +296,7 @@ impl Sessions {
         self.log.after(position, limit, tables)
     }
 
-    /// How many events of these tables stand at the position or behind it.
+    /// How many events of these tables stand at the position or after it.
     #[tactic(auto, unfolding(server_model::specs::States::unread))]
     pub fn unread(&self, position: u64, tables: &Names) -> u64
         ensures { result ≡ unread self.now position tables.now }

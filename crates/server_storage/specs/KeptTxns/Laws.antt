@@ -68,7 +68,7 @@ RollingBackKeeps = (tables : List StoredTable) (number : ℕ) (txns : List OpenT
 
 -- WHAT CHANGES WHICH TABLES THERE ARE
 
--- *Creating keeps*: where a table without rows, of a schema that a table may have, stands behind the others.
+-- *Creating keeps*: where a table without rows, of a schema that a table may have, stands after the others.
 abbrev pub CreatingKeeps : Type 0
 CreatingKeeps =
     (tables : List StoredTable) (schema : Schema) (new : StoredTable) (txns : List OpenTxn) → IsKept tables txns → IsWellFormedTable (record { schema = schema; rows = [] }) → has_table schema.name (database tables) ≡ false

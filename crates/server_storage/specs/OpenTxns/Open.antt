@@ -59,7 +59,7 @@ pub record IsReserved (number : ℕ) (before after : List OpenTxn) : Type 0 wher
   pub events : now.events ≡ was.events
   pub schemas_are : schemas now.tables ≡ schemas was.tables
 
--- *Written*: the session's transaction has these changes of a table behind what it had.
+-- *Written*: the session's transaction has these changes of a table after what it had.
 pub record IsWritten (number : ℕ) (writes : TableChanges) (before after : List OpenTxn) : Type 0 where
   pub was : StoredTxn
   pub now : StoredTxn

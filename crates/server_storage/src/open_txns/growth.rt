@@ -8,7 +8,7 @@ use crate::open_txns::txns::{OpenTxn, place_of};
 use server_transaction::{Txn, Writes};
 use std::alloc::{AllocError, Global};
 
-/// Opens a transaction of a session, behind the others.
+/// Opens a transaction of a session, after the others.
 pub fn open_txn(alloc: Global, txns: &mut Vec<OpenTxn>, session: u32) -> Result<(), AllocError>
     ensures ok { OnOk result (IsOpened session txns.old.items txns.new.items) }
     ensures err { OnErr result (txns.new.items ≡ txns.old.items) }

@@ -88,8 +88,8 @@ pub trait Data: Drop {
         ensures committed { committed self.new ≡ committed self.old }
         ensures written { (other : ℕ) → written self.new other ≡ written self.old other };
 
-    /// Writes the events in the session's transaction, behind those that it wrote. They fit the tables as the session sees
-    /// them, and leave them tables.
+    /// Writes the events in the session's transaction, after those that it wrote. They fit the tables as the session sees them,
+    /// and leave them tables.
     fn write(&mut self, session: u32, writes: Self::Writes)
         requires ready { is_ready self.old session writes }
         requires fit { EventsFit (after_events (committed self.old) (written self.old session)) (events writes) }
@@ -113,7 +113,7 @@ pub trait Data: Drop {
         ensures own { written self.new session ≡ [] }
         ensures others { (other : ℕ) → (other == session) ≡ false → written self.new other ≡ written self.old other };
 
-    /// Makes a table without rows, behind the others (CREATE TABLE).
+    /// Makes a table without rows, after the others (CREATE TABLE).
     fn create(&mut self, schema: &Schema) -> Result<(), AllocError>
         requires absent { has_table schema.now.name (committed self.old) ≡ false }
         requires formed { IsWellFormed (committed self.old) (Create schema.now) }

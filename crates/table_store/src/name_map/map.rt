@@ -90,7 +90,7 @@ impl<T> NameMap<T> {
 }
 
 impl<T: Drop> NameMap<T> {
-    /// Adds a value of a new name behind the others.
+    /// Adds a value of a new name after the others.
     pub fn add(&mut self, name: String, value: T) -> Result<(), AllocError>
         requires new { has_name (string_bytes name) self.old.names ≡ false }
         ensures names { OnOk result (self.new.names ≡ self.old.names ++ string_bytes name ∷ []) }

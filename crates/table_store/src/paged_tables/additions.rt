@@ -8,7 +8,7 @@ use crate::name_map::NameMap;
 use crate::paged_tables::row_pages::Table;
 use std::alloc::AllocError;
 
-/// Adds a table of a new name behind the others, under its own name.
+/// Adds a table of a new name after the others, under its own name.
 pub fn add_new(tables: &mut NameMap<Table>, table: Table) -> Result<(), AllocError>
     requires named { AreNamed tables.old }
     requires new { has_table table.table.schema.name (database (stored tables.old.values)) ≡ false }

@@ -103,7 +103,7 @@ impl Tables {
         })
     }
 
-    /// Adds a table behind the others.
+    /// Adds a table after the others.
     pub fn add(&mut self, table: Table) -> Result<(), AddFault>
         ensures ok { OnOk result (self.new ≡ self.old ++ stored_of table ∷ []) }
         ensures stands { result ≡ Err AddFault.Stands → has_table table.table.schema.name (database self.old) ≡ true }

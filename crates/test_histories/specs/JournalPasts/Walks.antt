@@ -30,7 +30,7 @@ client_in number clients = if number == 0 then None else slice_get clients (numb
 abbrev pub AreReached : PlanData → List Entry → List Reached → Type 0
 AreReached plan journal clients = (number : ℕ) → client_in number clients ≡ option_map (λ (script : List ScriptLine). client_at plan journal number) (script_of number plan)
 
--- *Was walked*: what was found behind the turns of a journal is their history, and how far they left each client.
+-- *Was walked*: what was found after the turns of a journal is their history, and how far they left each client.
 pub record WasWalked (plan : PlanData) (journal : List Entry) (walked : Walked) : Type 0 where
   pub items : map item_as walked.items ≡ history plan journal
   pub clients : AreReached plan journal walked.clients.items

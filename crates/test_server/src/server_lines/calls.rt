@@ -1,6 +1,6 @@
 //! Calls on a server, with semicolons between them. `CREATE TABLE ..` makes a table, and prints nothing. `1 BEGIN`, `2 INSERT
 //! INTO t VALUES (1)` and the like are what the sessions 1 to 3 ask, whose waits are never polled, and so is `1 log 0 2 t`: the
-//! first two events of the table at the position 0 or behind it, printed after the position that follows them. `unread 0 t`
+//! first two events of the table at the position 0 or after it, printed after the position that follows them. `unread 0 t`
 //! tells how many events there are, and `rows t` the table's committed rows. What may not come now is printed so.
 
 use crate::server_lines::requests::{ask, create, names_of};
@@ -29,7 +29,7 @@ fn say_table<V: Serve>(
     Ok(())
 }
 
-/// Says how many events stand at a position or behind it, as `0 t` asks.
+/// Says how many events stand at a position or after it, as `0 t` asks.
 fn say_unread<V: Serve>(
     alloc: Global,
     server: &V,

@@ -53,7 +53,7 @@ fn roll_back<V: Serve>(server: &mut V, session: u32) -> Result<Option<Answer>, C
     Ok(Some(server.call(session, &Request::Rollback)?))
 }
 
-/// The first events of these tables at the position or behind it.
+/// The first events of these tables at the position or after it.
 fn read_log<V: Serve>(
     server: &mut V,
     session: u32,
@@ -72,7 +72,7 @@ fn read_log<V: Serve>(
     Ok(Some(server.call(session, &request)?))
 }
 
-/// The first events of tables, as `0 2 t` asks: at the position 0 or behind it, two at most.
+/// The first events of tables, as `0 2 t` asks: at the position 0 or after it, two at most.
 fn look_at_log<V: Serve>(
     alloc: Global,
     server: &mut V,

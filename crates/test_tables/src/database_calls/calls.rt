@@ -1,7 +1,7 @@
 //! Calls on the tables of a database, with semicolons between them: `add`, `put`, `remove`, `rename`, `take`, `stands`,
 //! `names`, `copy`, and `anew`, by which the database in pages is made of the plain lists. Each table has the key `id` and a
 //! column `a`. Each call is made of a database in pages and of the same database as plain lists. What both answer is printed
-//! once; where they differ, ` or not` stands behind it.
+//! once; where they differ, ` or not` comes after it.
 
 use base_values::gho_schema::key_of;
 use base_values::{Duplicate, Name, Row, Sequence, Text};
@@ -244,7 +244,7 @@ fn say_stands(both: &BothDatabases, name: &Name, told: &mut Text) -> Result<(), 
     Ok(())
 }
 
-/// Calls on the table of a name, behind which a row or a key may stand.
+/// Calls on the table of a name, after which a row or a key may stand.
 fn take_on(
     alloc: Global,
     both: &mut BothDatabases,

@@ -5,7 +5,7 @@ use extra_event_codec::{DecodeFault, cost, decode, encode};
 use std::alloc::{AllocError, Global};
 use test_lines::{CallFault, bytes_of, text_of};
 
-/// An event that was read, how many bytes it took, what it costs, and its bytes again behind a byte that was there.
+/// An event that was read, how many bytes it took, what it costs, and its bytes again after a byte that was there.
 #[derive(Drop)]
 struct Reencoded {
     event: RowEvent,

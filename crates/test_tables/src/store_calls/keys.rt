@@ -21,7 +21,7 @@ fn key_at(alloc: Global, places: &str, row: &str) -> Result<Key, CallFault> {
     Ok(key_of(alloc, places.as_slice(), row.as_slice())?)
 }
 
-/// What is printed of rows, one behind another.
+/// What is printed of rows, one after another.
 fn told_rows(alloc: Global, rows: &[Row]) -> Result<Text, CallFault> {
     let mut told = Text::new(alloc);
     for row in rows {

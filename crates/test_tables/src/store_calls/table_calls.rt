@@ -1,6 +1,6 @@
 //! Calls on one table, with semicolons between them: first its text, then `put`, `rising`, `get`, `by`, `remove`, `clash`,
 //! `in`, `in-by`, `rows`, `pages`, `len` and `copy`. Each is made of a table in pages and of the same table as a plain list.
-//! What both answer is printed once; where they differ, ` or not` stands behind it.
+//! What both answer is printed once; where they differ, ` or not` comes after it.
 
 use base_values::gho_schema::{Schema, key_of};
 use base_values::{Duplicate, Key, Row, Sequence, Text, Value, print_row};

@@ -5,7 +5,7 @@ use extra_throttle::{Go, Throttle};
 use std::alloc::Global;
 use test_lines::{CallFault, text_of, unsigned_of};
 
-/// A load, and whether the word `commanded` stands behind it.
+/// A load, and whether the word `commanded` comes after it.
 fn load_of(text: &str) -> Result<(u32, bool), CallFault> {
     match text.strip_suffix(" commanded") {
         Some(load) => Ok((unsigned_of(load)?, true)),

@@ -67,7 +67,7 @@ fn compared(alloc: Global, input: &str) -> Result<Text, CallFault> {
     text_of(alloc, order_of(&key, &other))
 }
 
-/// Whether each value comes before all that stand behind it.
+/// Whether each value comes before all that stand after it.
 fn is_rising(values: &[Value]) -> bool {
     let mut rest = values;
     while let [first, later @ ..] = rest {

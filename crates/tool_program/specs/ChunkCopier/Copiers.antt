@@ -42,7 +42,7 @@ is_choosing step = false
 abbrev pub starts : Copier → Bool
 starts copier = is_choosing copier.step
 
--- the chunk begins behind the end of the one before, or where the copy begins
+-- the chunk begins after the end of the one before, or where the copy begins
 abbrev pub low_end : List Entry → CopyRange → Option ℕ → Bound
 low_end journal range None = range.low
 low_end journal range (Some told) = Open (end_in (answer_at journal told))
@@ -76,7 +76,7 @@ next journal copier = if copier.is_copied then None else call_in journal copier 
 abbrev pub begun : Chunk → CopyStep
 begun chunk = if chunk.keys == 0 then Committing chunk else Copying chunk 0
 
--- behind the copy of this many keys
+-- after the copy of this many keys
 abbrev pub after_copies : Chunk → ℕ → CopyStep
 after_copies chunk copied = if copied == chunk.keys then Committing chunk else Copying chunk copied
 
@@ -84,7 +84,7 @@ abbrev pub is_top : Option CopyRange → List Value → Bool
 is_top None key = true
 is_top (Some range) key = is_eq (compare_keys key range.top)
 
--- after the chunk's commit: behind its end, unless that is the greatest key
+-- after the chunk's commit: after its end, unless that is the greatest key
 abbrev pub committed : Copier → Chunk → Copier
 committed copier chunk = record copier { number = copier.number + 1; behind = Some chunk.told; is_copied = chunk.is_last; step = Choosing }
 

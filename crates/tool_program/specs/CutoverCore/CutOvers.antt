@@ -98,7 +98,7 @@ locker_took cutover answer =
       is_asked = if is_resting cutover.phase then false else cutover.is_asked;
     }
 
--- behind the RENAME the inspector drops the changelog, and the old table where that is wanted, where they are listed
+-- after the RENAME the inspector drops the changelog, and the old table where that is wanted, where they are listed
 abbrev pub left_at_end : CutOver → List TableName → Leftovers
 left_at_end cutover tables =
     record { log = has_name (log_name cutover.table) tables; new_table = false; old = cutover.drops_old && has_name (old_name cutover.table) tables }
@@ -106,12 +106,12 @@ left_at_end cutover tables =
 abbrev pub finishing : Leftovers → Phase
 finishing left = if is_clear left then Finished else Finishing (Drops left)
 
--- behind an attempt that failed the inspector drops the sentry alone
+-- after an attempt that failed the inspector drops the sentry alone
 abbrev pub sentry_alone : Leftovers
 sentry_alone = record { log = false; new_table = false; old = true }
 
--- what the inspector sees behind an attempt: where the new table is gone, the RENAME was done after all; else the sentry,
--- where it is listed
+-- what the inspector sees after an attempt: where the new table is gone, the RENAME was done after all; else the sentry, where
+-- it is listed
 abbrev pub seen : CutOver → List TableName → Phase
 seen cutover tables =
     if not (has_name (ghost_name cutover.table) tables) then finishing (left_at_end cutover tables)
@@ -195,15 +195,15 @@ is_done phase = false
 
 -- AFTER AN APPLIER'S TURN
 
--- the attempt is drained where the applier has come behind its hint row, and fails where it hasn't in so many turns
+-- the attempt is drained where the applier has passed its hint row, and fails where it hasn't in so many turns
 abbrev pub drained : CutOver → ℕ → Phase → Phase
 drained cutover hint (Attempting (Draining turns)) =
     if hint == cutover.attempts then Attempting Drained
     else if nat_le cutover.drain_limit (turns + 1) then Ending Looking else Attempting (Draining (turns + 1))
 drained cutover hint phase = phase
 
--- *Applier's turn*: behind each turn of the applier but a loss between calls, with the attempt of the last hint row that
--- its position has passed.
+-- *Applier's turn*: after each turn of the applier but a loss between calls, with the attempt of the last hint row that its
+-- position has passed.
 unfoldable pub applier_turn : ℕ → CutOver → CutOver
 applier_turn hint cutover = record cutover { phase = drained cutover hint cutover.phase }
 

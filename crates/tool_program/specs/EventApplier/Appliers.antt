@@ -150,20 +150,20 @@ batch_of turn applier events behind =
 abbrev pub moved : Applier → Batch → Applier
 moved applier batch = record applier { position = batch.next; hint = batch.hint; step = Reading }
 
--- behind the read: a transaction begins, unless there is nothing to apply
+-- after the read: a transaction begins, unless there is nothing to apply
 abbrev pub read_batch : Applier → Batch → Applier
 read_batch applier batch = if batch.statements == 0 then moved applier batch else record applier { step = Beginning batch }
 
--- behind this many planned statements
+-- after this many planned statements
 abbrev pub after_statements : Batch → ℕ → ApplyStep
 after_statements batch done = if done == batch.statements then Committing batch else Applying batch done Whole
 
--- behind a statement that was done
+-- after a statement that was done
 abbrev pub after_part : Batch → ℕ → Part → ApplyStep
 after_part batch done Removal = Applying batch done Return
 after_part batch done part = after_statements batch (done + 1)
 
--- behind a statement that was refused: 1062 refuses an UPDATE alone, which goes on as DELETE and REPLACE
+-- after a statement that was refused: 1062 refuses an UPDATE alone, which goes on as DELETE and REPLACE
 abbrev pub after_refusal : Batch → ℕ → Part → ℕ → ApplyStep
 after_refusal batch done part number = if number == 1062 then Applying batch done Removal else Applying batch done part
 

@@ -102,12 +102,12 @@ closes words.Commit = true
 closes words.Rollback = true
 closes word = false
 
--- the script behind the open transaction
+-- the script after the open transaction
 abbrev pub after_transaction : List ScriptLine → List ScriptLine
 after_transaction [] = []
 after_transaction (line ∷ lines) = if closes line.word then lines else after_transaction lines
 
--- the script behind a line, with its mark; after a time-out inside a transaction the next one comes
+-- the script after a line, with its mark; after a time-out inside a transaction the next one comes
 abbrev pub left_after : Bool → Mark → ScriptLine → List ScriptLine → List ScriptLine
 left_after true marks.TimedOut line lines = after_transaction (line ∷ lines)
 left_after inside mark line lines = lines
@@ -131,7 +131,7 @@ with_line client word mark = client.lines ++ record { word = word; mark = mark }
 abbrev pub with_reply : Reached → Option Reply → List Reply
 with_reply client reply = client.replies ++ option_to_list reply
 
--- the client behind a line that got this mark and this reply
+-- the client after a line that got this mark and this reply
 abbrev pub marked : Reached → Mark → Option Reply → List ScriptLine → Reached
 marked client mark reply [] = client
 marked client mark reply (line ∷ lines) =
@@ -161,7 +161,7 @@ after_turn number client entry = if same_actor entry.actor (Client number) then 
 abbrev pub script_of : ℕ → PlanData → Option (List ScriptLine)
 script_of number plan = if number == 0 then None else slice_get plan.clients (number - 1)
 
--- *Client at*: how far a client is behind the turns of a journal
+-- *Client at*: how far a client is after the turns of a journal
 unfoldable pub client_at : PlanData → List Entry → ℕ → Reached
 client_at plan journal number = fold (after_turn number) (new_client (unwrap_or (script_of number plan) [])) journal
 

@@ -63,7 +63,7 @@ client_ends number client (Marked mark reply) = line_ends number client mark rep
 client_ends number client Broken = breaks number client (is_inside client.lines)
 client_ends number client other = []
 
--- the request that waits behind a turn with this answer, where this one waited before it
+-- the request that waits after a turn with this answer, where this one waited before it
 abbrev pub waits_after : Asked → Answer → Option Request → Option Request
 waits_after (Call request) (answers.Waits by) old = Some request
 waits_after Poll (answers.Waits by) old = old

@@ -31,7 +31,7 @@ opens entry state = opens_if (is_command entry.asked) (not (is_client entry.acto
 abbrev pub after_entry : State → Entry → State
 after_entry state entry = leaves entry.side (opens entry state) entry.session entry.asked
 
--- the server behind turns, from this state on
+-- the server after turns, from this state on
 unfoldable pub state_after : State → List Entry → State
 state_after state [] = state
 state_after state (entry ∷ entries) = state_after (after_entry state entry) entries

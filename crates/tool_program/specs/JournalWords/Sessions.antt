@@ -48,6 +48,6 @@ IsNumbered before entry Cut live = Unit {0}
 IsNumbered before entry asked (Some session) = Unit {0}
 IsNumbered before entry asked None = entry.session ≡ sessions_named before + 1
 
--- *Numbering sessions*: so each new one is, where no step was out of memory behind the session that it had opened.
+-- *Numbering sessions*: so each new one is, where no step was out of memory after the session that it had opened.
 unfoldable pub NumbersSessions : List Entry → Type 0
 NumbersSessions journal = Along (λ before entry. IsNumbered before entry entry.asked (live_session before entry.actor)) [] journal

@@ -34,7 +34,7 @@ pub record AsksWell (plan : PlanData) (now : Moment) (actor : Actor) (request : 
   pub held : holds_back plan now actor request ≡ true
   pub copies : copies_well actor request ≡ true
 
--- *Given calls are online*: so is each call that is given to an actor of the tool, behind any turns whatever.
+-- *Given calls are online*: so is each call that is given to an actor of the tool, after any turns whatever.
 abbrev pub GivenCallsAreOnline : Type 0
 GivenCallsAreOnline = (plan : PlanData) (journal : List Entry) (actor : Actor) (request : Request) → is_client actor ≡ false → given plan journal actor ≡ Some (Call request) → AsksWell plan (moment plan journal) actor request
 

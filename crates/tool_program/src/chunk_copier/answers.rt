@@ -29,7 +29,7 @@ fn begun(chunk: Chunk) -> CopyStep
     }
 }
 
-/// Behind the copy of this many of a chunk's keys.
+/// After the copy of this many of a chunk's keys.
 fn after_copies(chunk: Chunk, copied: usize) -> CopyStep
     ensures { result ≡ after_copies chunk copied }
 {
@@ -92,7 +92,7 @@ impl Copier {
         }
     }
 
-    /// The chunk is committed: the next one begins behind its end.
+    /// The chunk is committed: the next one begins after its end.
     fn commit(&mut self, chunk: Chunk)
         requires { self.old.number < u64.MAX }
         ensures { self.new ≡ committed self.old chunk }

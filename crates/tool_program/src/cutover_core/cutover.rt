@@ -22,9 +22,9 @@ pub enum Stage {
     Locking,
     /// The hint row comes next.
     Hinting,
-    /// The hint row is written; the applier took so many turns since and isn't behind it.
+    /// The hint row is written; the applier took so many turns since and hasn't passed it.
     Draining(u32),
-    /// The applier is behind the hint row: the RENAME comes next.
+    /// The applier is past the hint row: the RENAME comes next.
     Drained,
     /// The RENAME waits: the inspector looks for it next.
     Showing,
@@ -89,7 +89,7 @@ pub enum Hold {
 pub struct CutOver {
     /// The migrated table.
     pub table: Name,
-    /// In how many turns the applier must come behind the hint row.
+    /// In how many turns the applier must pass the hint row.
     pub drain_limit: u32,
     /// Whether the old table is dropped at the end.
     pub drops_old: bool,

@@ -72,7 +72,7 @@ impl Leftovers {
         }
     }
 
-    /// What is left behind the drop of the next.
+    /// What is left after the drop of the next.
     pub fn without_first(self) -> Leftovers
         ensures { result ≡ without_first self }
     {

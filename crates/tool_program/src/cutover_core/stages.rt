@@ -64,7 +64,7 @@ pub(crate) fn locker_phase(phase: Phase, answer: &Answer) -> Phase
     }
 }
 
-/// What the locker has behind an answer: it waits for the lock or for the sentry, or holds the lock.
+/// What the locker has after an answer: it waits for the lock or for the sentry, or holds the lock.
 pub(crate) fn hold_after(hold: Hold, phase: Phase, answer: &Answer) -> Hold
     ensures { result ≡ hold_after hold phase answer.now }
 {
@@ -120,7 +120,7 @@ pub(crate) fn inspector_stage(stage: Stage, answer: &Answer) -> Stage
     }
 }
 
-/// Behind the RENAME: what is left is dropped, or all is done.
+/// After the RENAME: what is left is dropped, or all is done.
 pub(crate) fn finishing(left: Leftovers) -> Phase
     ensures { result ≡ finishing left }
 {
@@ -182,7 +182,7 @@ impl Phase {
         matches!(self, Phase::Ending(_))
     }
 
-    /// Whether all is cleared up behind the RENAME.
+    /// Whether all is cleared up after the RENAME.
     pub fn is_finished(self) -> bool
         ensures { result ≡ is_finished self }
     {

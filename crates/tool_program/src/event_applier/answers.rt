@@ -11,7 +11,7 @@ use base_values::{Name, RowEvent};
 use server_model::{Answer, Progress};
 use tool_changelog::last_hint;
 
-/// Behind this many planned statements.
+/// After this many planned statements.
 fn after_statements(batch: Batch, done: usize) -> ApplyStep
     ensures { result ≡ after_statements batch done }
 {
@@ -26,7 +26,7 @@ fn after_statements(batch: Batch, done: usize) -> ApplyStep
     }
 }
 
-/// Behind a statement that was done.
+/// After a statement that was done.
 fn after_part(batch: Batch, done: usize, part: Part) -> ApplyStep
     requires { done < batch.statements }
     ensures { result ≡ after_part batch done part }
@@ -41,7 +41,7 @@ fn after_part(batch: Batch, done: usize, part: Part) -> ApplyStep
     }
 }
 
-/// Behind a statement that was refused: an UPDATE that clashes goes on as DELETE and REPLACE.
+/// After a statement that was refused: an UPDATE that clashes goes on as DELETE and REPLACE.
 fn after_refusal(batch: Batch, done: usize, part: Part, number: u16) -> ApplyStep
     ensures { result ≡ after_refusal batch done part number }
 {
@@ -50,7 +50,7 @@ fn after_refusal(batch: Batch, done: usize, part: Part, number: u16) -> ApplySte
 }
 
 impl Applier {
-    /// An applier at its start, behind this many logged events.
+    /// An applier at its start, after this many logged events.
     pub fn new(
         table: Name,
         new_schema: Schema,

@@ -20,7 +20,7 @@ pub enum Part {
 pub struct Batch {
     /// The turn in which the applier got its events.
     pub read: u64,
-    /// The position behind them.
+    /// The position after them.
     pub next: u64,
     /// The attempt of the last hint row up to there, or 0.
     pub hint: u128,

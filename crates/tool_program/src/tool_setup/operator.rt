@@ -21,7 +21,7 @@ pub struct Operator {
     pub size: u32,
 }
 
-/// The word behind so many, each unit of a wait as one.
+/// The word after so many, each unit of a wait as one.
 fn word_after(commands: &[Command], taken: u64) -> Option<OperatorWord>
     ensures { result ≡ slice_get (words_in commands.now) taken }
 {

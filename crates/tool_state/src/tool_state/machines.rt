@@ -107,7 +107,7 @@ impl Tool {
         self.leave(plan, before);
     }
 
-    /// Behind a turn of the applier: the attempt is drained, or has no turn left.
+    /// After a turn of the applier: the attempt is drained, or has no turn left.
     #[tactic(auto, unfolding(tool_program::specs::CutoverCore::CutOvers::applier_turn))]
     pub(crate) fn drain(&mut self, plan: &Plan)
         requires room { IsRoomy self.old.spent.room self.old.work.attempt_tries }

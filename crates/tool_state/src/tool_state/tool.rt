@@ -30,11 +30,11 @@ pub struct Tool {
     pub turns: u64,
     /// What the operator's commands have done.
     pub operator: Operator,
-    /// The setup; none once the work behind it has begun.
+    /// The setup; none once the work after it has begun.
     pub setup: Option<Setup>,
     /// The turns in which the setup failed.
     pub setup_tries: Tries,
-    /// The work behind the setup; its machines stand at their start until it begins.
+    /// The work after the setup; its machines stand at their start until it begins.
     pub work: Work,
     /// Why all is reverted, where it is.
     pub reason: Option<Reason>,

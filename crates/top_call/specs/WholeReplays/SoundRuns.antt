@@ -42,7 +42,7 @@ pub record IsSoundRun (plan : PlanData) (journal : List Entry) : Type 0 where
   pub online : IsOnline plan journal
   pub causes : (cause : Cause) → verdict_of plan journal ≡ Reverted cause → Stands plan journal cause
 
--- *Kept runs are sound*: each journal of an accepted plan that is kept, has no more turns than the plan allows and none behind
+-- *Kept runs are sound*: each journal of an accepted plan that is kept, has no more turns than the plan allows and none after
 -- its end.
 unfoldable pub KeptRunsAreSound : Type 0
 KeptRunsAreSound = (plan : PlanData) (journal : List Entry) → WasRead plan → IsKept plan journal → length journal ≤ plan.options.turn_limit → Stops plan journal → IsSoundRun plan journal

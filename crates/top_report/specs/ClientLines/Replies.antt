@@ -17,7 +17,7 @@ reply_text (Some (Error number)) = codes "error " ++ decimal number ++ codes "\n
 reply_text (Some (Rows rows)) = codes "rows " ++ decimal (length rows) ++ codes "\n" ++ row_lines rows
 reply_text None = codes "lost\n"
 
--- a reply behind the numbers of its transaction in the script and of its line in the transaction: `1.1 ok 1`
+-- a reply after the numbers of its transaction in the script and of its line in the transaction: `1.1 ok 1`
 unfoldable pub numbered_text : NumberedReply → List ℕ
 numbered_text numbered = decimal numbered.transaction ++ codes "." ++ decimal numbered.line ++ codes " " ++ reply_text numbered.reply
 

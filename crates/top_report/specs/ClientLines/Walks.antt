@@ -65,12 +65,12 @@ abbrev pub ends_now : Bool → Mark → List ScriptLine → Bool
 ends_now inside mark [] = false
 ends_now inside mark (line ∷ lines) = is_some (ends_with inside line.word mark)
 
--- the script behind its line
+-- the script after its line
 abbrev pub after_line : Bool → Mark → List ScriptLine → List ScriptLine
 after_line inside mark [] = []
 after_line inside mark (line ∷ lines) = left_after inside mark line lines
 
--- behind a line that got this mark; there is none at the script's end
+-- after a line that got this mark; there is none at the script's end
 abbrev pub walk_marked : Walk → Mark → List ScriptLine → Walk
 walk_marked walk mark [] = walk
 walk_marked walk mark (line ∷ lines) =
@@ -121,7 +121,7 @@ abbrev pub client_added : ℕ → Option Walk → Entry → List ℕ
 client_added client None entry = []
 client_added client (Some walk) entry = ended_text client walk (became_now walk entry)
 
--- the walks behind a turn, from the client of this number on
+-- the walks after a turn, from the client of this number on
 unfoldable pub walks_after : ℕ → Entry → List Walk → List Walk
 walks_after client entry [] = []
 walks_after client entry (walk ∷ walks) = (if same_actor entry.actor (Client client) then walk_after (became_now walk entry) walk else walk) ∷ walks_after (client + 1) entry walks
@@ -139,7 +139,7 @@ renames_at renaming Lock = renaming.lock
 renames_at renaming Ren = renaming.ren
 renames_at renaming (Client number) = false
 
--- *Are renaming*: they are those whose request, which waits behind the turns of a journal, takes the plan's table away.
+-- *Are renaming*: they are those whose request, which waits after the turns of a journal, takes the plan's table away.
 abbrev pub AreRenaming : PlanData → List Entry → Renaming → Type 0
 AreRenaming plan before renaming = (actor : Actor) → is_client actor ≡ false → renames_at renaming actor ≡ renames_away plan.table (request_waiting before actor)
 
@@ -158,7 +158,7 @@ renames_in name waiting (Call request) = renames_away name (Some request)
 renames_in name waiting (Command word) = false
 renames_in name waiting asked = waiting
 
--- whether the actor waits with one behind a turn
+-- whether the actor waits with one after a turn
 abbrev pub renames_after : List ℕ → Bool → Asked → Answer → Bool
 renames_after name waiting (Call request) (answers.Waits by) = renames_away name (Some request)
 renames_after name waiting Poll (answers.Waits by) = waiting

@@ -100,7 +100,7 @@ fn push_added(
     }
 }
 
-/// The walks behind a turn.
+/// The walks after a turn.
 fn pass(walks: &mut Vec<Walk<'_>>, entry: &Entry)
     ensures { walks.new.items ≡ walks_after 1 entry.now walks.old.items }
 {
@@ -109,7 +109,7 @@ fn pass(walks: &mut Vec<Walk<'_>>, entry: &Entry)
     }
 }
 
-/// The same, behind a turn of the client of this number.
+/// The same, after a turn of the client of this number.
 fn pass_client(walks: &mut Vec<Walk<'_>>, client: u32, entry: &Entry)
     requires { entry.now.actor ≡ Client client }
     ensures { walks.new.items ≡ walks_after 1 entry.now walks.old.items }

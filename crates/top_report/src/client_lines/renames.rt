@@ -49,7 +49,7 @@ pub(crate) fn renames_in(name: &Name, waiting: bool, asked: &Asked) -> bool
     }
 }
 
-/// Whether its actor waits with one behind the turn.
+/// Whether its actor waits with one after the turn.
 fn renames_after(name: &Name, waiting: bool, asked: &Asked, answer: &Answer) -> bool
     ensures { result ≡ renames_after name.now waiting asked.now answer.now }
 {
@@ -121,7 +121,7 @@ impl Renaming {
         }
     }
 
-    /// Who waits with it behind a turn.
+    /// Who waits with it after a turn.
     pub fn pass(&mut self, name: &Name, entry: &Entry)
         ensures { self.new ≡ renaming_after name.now entry.now self.old }
     {

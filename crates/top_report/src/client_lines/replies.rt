@@ -46,7 +46,7 @@ fn push_reply(into: &mut Text, heard: Option<&Answer>) -> Result<(), AllocError>
     }
 }
 
-/// Adds a reply behind the numbers of its transaction and its line.
+/// Adds a reply after the numbers of its transaction and its line.
 #[tactic(auto, unfolding(crate::specs::ClientLines::Replies::numbered_text))]
 fn push_numbered(into: &mut Text, walk: &Walk<'_>, heard: Option<&Answer>) -> Result<(), AllocError>
     ensures { OnOk result (into.new ≡ into.old ++ numbered_text (record { transaction = number_in walk.now; line = walk.now.lines + 1; reply = option_and_then (λ answer. reply_of answer.now) heard.entry })) }

@@ -37,7 +37,7 @@ fn closes(word: &ScriptWord) -> bool
     }
 }
 
-/// The script behind the open transaction.
+/// The script after the open transaction.
 #[tactic(auto, using(crate::proofs::ClientLines::Walking::ends_here, crate::proofs::ClientLines::Walking::goes_on, crate::proofs::ClientLines::Walking::none_ends))]
 fn after_transaction(lines: &[ScriptLine]) -> &[ScriptLine]
     ensures { result.now ≡ after_transaction lines.now }
@@ -52,7 +52,7 @@ fn after_transaction(lines: &[ScriptLine]) -> &[ScriptLine]
     &[]
 }
 
-/// The script behind its first line, which got this mark.
+/// The script after its first line, which got this mark.
 pub fn after_line(inside: bool, mark: Mark, left: &[ScriptLine]) -> &[ScriptLine]
     ensures { result.now ≡ after_line inside mark left.now }
 {
@@ -127,14 +127,14 @@ impl<'a> Walk<'a> {
         }
     }
 
-    /// How many lines the open transaction has behind its next line, which gets this mark.
+    /// How many lines the open transaction has after its next line, which gets this mark.
     fn lines_after(&self, mark: Mark) -> u64
         ensures { result ≡ (if ends_now (is_open self.now) mark self.now.left then 0 else self.now.lines + 1) }
     {
         if self.ends(mark) { 0 } else { self.line() }
     }
 
-    /// How far it is behind its next line, which got this mark.
+    /// How far it is after its next line, which got this mark.
     #[tactic(auto, using(crate::proofs::ClientLines::Walking::small_after))]
     fn mark(&mut self, mark: Mark)
         ensures { self.new ≡ walk_marked self.old mark self.old.left }
@@ -150,7 +150,7 @@ impl<'a> Walk<'a> {
         };
     }
 
-    /// How far it is behind its turn.
+    /// How far it is after its turn.
     pub(crate) fn take(&mut self, became: &Became<'_>)
         ensures { self.new ≡ walk_after (became_view became.now) self.old }
     {

@@ -2,7 +2,7 @@
 
 ghost use Rattle.proof_journals.specs.GhostLaws.Laws.{WritesFit, EffectsAreDone, EffectsAnswer, UndoneIsLeft, CutsAreLeft, ChangesAgree, CommitsFit, RowsAreHeld, HeldByOne, HeldRowsAreDisjoint, CopyStarts, EmptyCopyStarts, CopyEnds, OthersCommit, OthersGoOn, TablesMove, CopierReturns, ApplierReturns, ChunksAreTold, ChunkBegins, ToldKeysStand, RowCopies, ChunkCommits, RangeIsCopied, ChunkIsLost, ChunkRepeats, BatchIsRead, BatchIsPassed, RowIsPut, RowIsPutAgain, RowIsRemoved, RowIsChanged, UnfitRowIsMissed, StatementIsRefused, RefusedRowIsRemoved, BatchCommits, BatchRepeats, BatchIsLost, RunsKeep, CopiesAlter, SceneCopiesAlter};
 
-/// Behind every run, what each session wrote fits the committed tables, under its locks.
+/// After every run, what each session wrote fits the committed tables, under its locks.
 pub fn writes_fit()
     ensures { WritesFit }
 {}

@@ -3,7 +3,7 @@
 ghost use Rattle.proof_journals.specs.SentryLaws.Turning.{RenamesAreWhole, RenamesFollow};
 ghost use Rattle.proof_journals.specs.SentryLaws.Laws.{JournalsAreGuarded, SessionsDiffer, LiveIsLast};
 
-/// Behind every journal of such turns the sentry relation holds.
+/// After every journal of such turns the sentry relation holds.
 pub fn journals_are_guarded()
     ensures { JournalsAreGuarded }
 {}

@@ -2,8 +2,8 @@
 
 ghost use Rattle.proof_migration.specs.FollowLaws.HintLaws.Laws.{HintsAreKnown};
 
-/// Behind every journal that is kept the applier knows the last hint row up to its position, and each hint row is of an attempt that was
-/// begun.
+/// After every journal that is kept the applier knows the last hint row up to its position, and each hint row is of an attempt
+/// that was begun.
 pub fn hints_are_known()
     ensures { HintsAreKnown }
 {}

@@ -3,7 +3,7 @@
 use Rattle.std.specs.Prelude.{◌≡◌, ℕ, ◌+◌, Bool, true, false, Option, Some, None, ◌⊎◌}
 use Rattle.proof_journals.specs.GhostLaws.GhostRelation.Timelines.{Timeline}
 
--- The event at this place names two keys, of the row before it and of the row behind it: no other row changes.
+-- The event at this place names two keys, of the row before it and of the row after it: no other row changes.
 pub record EventOfKeys {K R M : Type 0} (timeline : Timeline K R M) (i : ℕ) (old new : K) : Type 0 where
   pub untouched : (key : K) → (old ≡ key → ⊥) → (new ≡ key → ⊥) → timeline.touches i key ≡ false
   pub same : (key : K) → (old ≡ key → ⊥) → (new ≡ key → ⊥) → timeline.row_at (i + 1) key ≡ timeline.row_at i key

@@ -25,7 +25,7 @@ abbrev pub updating : Row → Option Row → List Change
 updating new None = []
 updating new (Some row) = Update row new ∷ []
 
--- the key of the row before a change, and of the row behind it
+-- the key of the row before a change, and of the row after it
 abbrev pub old_key : List ℕ → Change → Row
 old_key places (Write row) = key_of places row
 old_key places (Update before after) = key_of places before

@@ -1,4 +1,4 @@
--- The rows of a table behind each event of the log, and events that fit the rows as they then are.
+-- The rows of a table after each event of the log, and events that fit the rows as they then are.
 use Rattle.std.specs.Prelude.{◌≡◌, ℕ, zero, suc, true, false, if◌then◌else◌, List, [], ◌∷◌, find, unwrap_or, Some}
 use Rattle.std.specs.List.{AllByRecursion}
 use Rattle.std.specs.Str.{bytes_eq}

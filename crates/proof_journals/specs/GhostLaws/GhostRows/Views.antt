@@ -55,7 +55,7 @@ is_left (Some span) key = has span key
 abbrev pub is_done : Option Span → Row → Bool
 is_done left key = not (is_left left key)
 
--- *Done in an open chunk*, which leaves this span behind it and has these keys: also each key of the chunk's span at which no
+-- *Done in an open chunk*, which leaves this span after it and has these keys: also each key of the chunk's span at which no
 -- row stood when it began
 abbrev pub is_done_in : Option Span → Option Span → List Row → Row → Bool
 is_done_in left behind keys key = is_done left key || (is_done behind key && not (is_among keys key))

@@ -29,6 +29,6 @@ abbrev pub CourseRenamed : PlanData → Database → Course → Type 0
 CourseRenamed plan tables (SettingUp setup tries) = ⊥
 CourseRenamed plan tables (Migrating work) = IsRenamedAt plan tables work.cutover.phase
 
--- *Renames are seen*: so it is behind every journal in whose history the ALTER is.
+-- *Renames are seen*: so it is after every journal in whose history the ALTER is.
 abbrev pub RenamesAreSeen : Type 0
 RenamesAreSeen = (plan : PlanData) (journal : List Entry) → IsRunnable plan → IsSerialPlan plan → IsFaithful plan journal → Follows plan journal → list_any is_alter (history plan journal) ≡ true → CourseRenamed plan (state_at plan journal).tables (moment plan journal).tool.course

@@ -15,8 +15,8 @@ use Rattle.proof_journals.specs.MachineLaws.Forming.{IsFitting}
 use Rattle.proof_journals.specs.MachineLaws.Runnable.{IsRunnable}
 use Rattle.proof_journals.specs.MachineLaws.Tabling.{TableStands}
 
--- *Chunk ends come at once*: the copier's call for a chunk's end, behind a faithful journal that follows the program,
--- isn't made to wait. So no command comes between the call and its answer.
+-- *Chunk ends come at once*: the copier's call for a chunk's end, after a faithful journal that follows the program, isn't made
+-- to wait. So no command comes between the call and its answer.
 abbrev pub ChunkEndsComeAtOnce : Type 0
 ChunkEndsComeAtOnce =
     (plan : PlanData) (journal : List Entry) (entry : Entry) (table : List ℕ) (low : Bound) (top : List Value) (size : ℕ) → IsFitting plan → TableStands plan → IsFaithful plan journal → Follows plan journal → IsAnswered (state_at plan journal) entry → IsFollowed plan journal entry

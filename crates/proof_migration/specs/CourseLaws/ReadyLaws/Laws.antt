@@ -28,8 +28,8 @@ LinesEnd inside (line ∷ lines) = LinesEnd (inside_after inside line.word) line
 abbrev pub ScriptsEnd : PlanData → Type 0
 ScriptsEnd plan = AllByRecursion (LinesEnd false) plan.clients
 
--- *Stuck*: an attempt that may succeed and that nobody takes on. The sentry's CREATE waited and was refused; or the RENAME
--- was, behind the unlock; or the applier is behind all that is logged, and its position hasn't passed the hint row.
+-- *Stuck*: an attempt that may succeed and that nobody takes on. The sentry's CREATE waited and was refused; or the RENAME was,
+-- after the unlock; or the applier is past all that is logged, and its position hasn't passed the hint row.
 abbrev pub IsStuckAt : PlanData → Moment → Work → Phase → Type 0
 IsStuckAt plan now work (Attempting Guarding) = work.cutover.hold ≡ Nothing
 IsStuckAt plan now work (Attempting (Draining turns)) = (appliers.starts work.applier ≡ true) × (may_read plan now.server now.tool work ≡ false)

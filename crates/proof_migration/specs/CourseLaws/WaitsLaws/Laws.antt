@@ -8,6 +8,6 @@ use Rattle.tool_program.specs.Programs.{Follows}
 use Rattle.proof_journals.specs.SentryLaws.Turning.{WaitsSay}
 
 -- *Waits are known*: along every journal that follows the program another actor's turn changes no wait of the renamer's, and
--- behind its own it waits only where that was its answer.
+-- after its own it waits only where that was its answer.
 abbrev pub WaitsAreTold : Type 0
 WaitsAreTold = (plan : PlanData) (journal : List Entry) → IsFaithful plan journal → Follows plan journal → Along (WaitsSay plan) [] journal

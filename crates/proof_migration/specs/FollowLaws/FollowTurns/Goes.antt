@@ -1,4 +1,4 @@
--- How the migration stands behind a journal that follows the program, in whatever sessions its machines go on.
+-- How the migration stands after a journal that follows the program, in whatever sessions its machines go on.
 use Rattle.std.specs.Prelude.{◌≡◌, ◌<◌, ℕ, ◌==◌, false, List, [], Some}
 use Rattle.base_script.specs.declared.actor.Actor.TheVariants.{Copy, Apply}
 use Rattle.server_model.specs.declared.entry.Entry.{Entry}

@@ -28,13 +28,13 @@ pub record IsMigrationOf (plan : PlanData) (m : Migration) (rows : List Row) : T
   pub place : ℕ
   pub is_place : clustered_place m.new ≡ Some place
 
--- the tool's work behind a journal, where it goes
+-- the tool's work after a journal, where it goes
 pub record GoesSomehow (plan : PlanData) (m : Migration) (at : Clustered m.schema) (rows : List Row) (journal : List Entry) : Type 0 where
   pub work : Work
   pub course : (moment plan journal).tool.course ≡ Migrating work
   pub goes : Goes plan m at rows journal work
 
--- *Followers go on*: from a journal behind which the migration goes, over whatever turns follow the program, until something is
+-- *Followers go on*: from a journal after which the migration goes, over whatever turns follow the program, until something is
 -- reverted or the RENAME is done.
 abbrev pub FollowersGoOn : Type 0
 FollowersGoOn =

@@ -36,9 +36,9 @@ pub record KnowsHints (plan : PlanData) (log : List RowEvent) (work : Work) : Ty
   pub begun : (count : ℕ) → IsBegun (is_unhinted work.cutover.phase) work.cutover.attempts (last_hint plan.table 0 (take count log))
   -- and their numbers rise
   pub rising : (one other : ℕ) → one ≤ other → last_hint plan.table 0 (take one log) ≤ last_hint plan.table 0 (take other log)
-  -- while an attempt is drained the applier hasn't come behind its hint row
+  -- while an attempt is drained the applier hasn't passed its hint row
   pub ahead : IsDraining work.cutover.phase → work.applier.hint ≢ work.cutover.attempts
 
--- *Hints are known* behind every journal that is kept, until the RENAME is done.
+-- *Hints are known* after every journal that is kept, until the RENAME is done.
 abbrev pub HintsAreKnown : Type 0
 HintsAreKnown = (plan : PlanData) (journal : List Entry) (work : Work) → IsRunnable plan → IsSerialPlan plan → IsKept plan journal → IsUnaltered plan journal → (moment plan journal).tool.course ≡ Migrating work → KnowsHints plan (state_at plan journal).log work

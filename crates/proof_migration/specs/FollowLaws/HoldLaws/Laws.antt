@@ -17,7 +17,7 @@ pub record IsHeldLive (journal : List Entry) (work : Work) : Type 0 where
   pub locker : live_session journal Lock ≡ None → work.cutover.hold ≡ Nothing
   pub renamer : live_session journal Ren ≡ None → work.cutover.renamer_waits ≡ false
 
--- *Holds are live*: so it is behind each faithful journal that follows the program.
+-- *Holds are live*: so it is after each faithful journal that follows the program.
 abbrev pub HoldsAreLive : Type 0
 HoldsAreLive = (plan : PlanData) (journal : List Entry) (work : Work) → IsFaithful plan journal → Follows plan journal → (moment plan journal).tool.course ≡ Migrating work → IsHeldLive journal work
 

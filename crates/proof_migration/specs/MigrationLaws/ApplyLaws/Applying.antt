@@ -25,11 +25,11 @@ use Rattle.proof_journals.specs.GhostLaws.Reading.{own_changes}
 use Rattle.proof_journals.specs.GhostLaws.Running.{ApplyPlan}
 use Rattle.proof_journals.specs.GhostLaws.Running.ApplyPlan.{Resting, Planned, Returning}
 
--- what is left to do of a batch, behind so many of its statements
+-- what is left to do of a batch, after so many of its statements
 abbrev pub todo_of : Migration → List Entry → Batch → ℕ → List Doing
 todo_of m journal batch done = drop done (planned m (own_changes m.name (events_in (answer_at journal batch.read))))
 
--- behind the DELETE of a refused UPDATE its REPLACE comes first
+-- after the DELETE of a refused UPDATE its REPLACE comes first
 abbrev pub plan_in : Part → ℕ → List Doing → ApplyPlan
 plan_in Return next (Changing before after ∷ rest) = Returning next before after rest
 plan_in part next todo = Planned next todo

@@ -40,13 +40,13 @@ pub record IsApplierTurn (m : Migration) (limits : Limits) (scene : Scene) (jour
   pub uncut : is_cut entry.asked ≡ false
   pub fits : (place number : ℕ) → progress applier entry.answer ≡ Unfit place number → ⊥
 
--- the applier stands in this session behind the journal, and knows what it is to know
+-- the applier stands in this session after the journal, and knows what it is to know
 pub record ApplierStands (m : Migration) (at : Clustered m.schema) (rows : List Row) (limits : Limits) (scene : Scene) (journal : List Entry) (applier : Applier) (copy : CopyState) (copier session : ℕ) : Type 0 where
   pub stands : ToolStands m at rows copier session (moment_of (scene_state limits scene journal) copy (apply_plan m journal applier) applier.position)
   pub knows : ApplierKnows m journal applier
   pub busy : StepIsBusy applier.step (face_of (scene_state limits scene journal).sessions session).busy
 
--- *Appliers keep the relation*: behind each turn of the applier it stands where its record says.
+-- *Appliers keep the relation*: after each turn of the applier it stands where its record says.
 abbrev pub AppliersKeep : Type 0
 AppliersKeep =
     (m : Migration) (at : Clustered m.schema) (rows : List Row) (place : ℕ) → IsPlanned m rows → clustered_place m.new ≡ Some place → FindsRows m → (limits : Limits) (scene : Scene) (journal : List Entry) (entry : Entry) (applier : Applier) (request : Request) (copy : CopyState) (copier : ℕ)

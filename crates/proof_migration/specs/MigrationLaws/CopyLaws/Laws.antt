@@ -31,12 +31,12 @@ pub record IsCopierTurn (m : Migration) (limits : Limits) (scene : Scene) (journ
   pub uncut : is_cut entry.asked ≡ false
   pub fits : (place number : ℕ) → progress copier entry.answer ≡ Unfit place number → ⊥
 
--- the copier stands in this session behind the journal, and knows what it is to know
+-- the copier stands in this session after the journal, and knows what it is to know
 pub record CopierStands (m : Migration) (at : Clustered m.schema) (rows : List Row) (limits : Limits) (scene : Scene) (journal : List Entry) (copier : Copier) (plan : ApplyPlan) (position session applier : ℕ) : Type 0 where
   pub stands : ToolStands m at rows session applier (moment_of (scene_state limits scene journal) (copy_state journal copier) plan position)
   pub knows : CopierKnows journal copier
 
--- *Copiers keep the relation*: behind each turn of the copier it stands where its record says.
+-- *Copiers keep the relation*: after each turn of the copier it stands where its record says.
 abbrev pub CopiersKeep : Type 0
 CopiersKeep =
     (m : Migration) (at : Clustered m.schema) (rows : List Row) (place : ℕ) → IsPlanned m rows → clustered_place m.new ≡ Some place → (limits : Limits) (scene : Scene) (journal : List Entry) (entry : Entry) (copier : Copier) (request : Request) (plan : ApplyPlan) (position applier : ℕ)

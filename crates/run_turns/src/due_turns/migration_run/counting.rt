@@ -57,7 +57,7 @@ pub fn has_work<V: Serve>(server: &V, session: u32) -> bool
     server.in_transaction(session) || server.locked(session) || server.waits(session)
 }
 
-/// A count behind a turn of a session that was counted before or wasn't, and is counted now or isn't.
+/// A count after a turn of a session that was counted before or wasn't, and is counted now or isn't.
 pub fn recount(count: u64, before: bool, after: bool) -> u64
     requires before { weight before ≤ count }
     requires after { count + 1 < 2 ^ 64 }
@@ -82,7 +82,7 @@ pub(crate) fn share_of<V: Serve>(server: &V, actor: Actor, session: u32) -> Shar
     }
 }
 
-/// What the session of a turn adds to the counts behind it: nothing where it was lost in the turn.
+/// What the session of a turn adds to the counts after it: nothing where it was lost in the turn.
 pub(crate) fn share_after<V: Serve>(server: &V, turn: &Turn, session: u32) -> Share
     requires lost { is_lost_in turn.now.side turn.now.asked ≡ true → session_of session (V.state server.now).sessions ≡ None }
     requires left { is_lost_in turn.now.side turn.now.asked ≡ false → kind_of session (V.state server.now).sessions ≡ Some (not (is_client turn.now.actor)) }
@@ -100,7 +100,7 @@ pub(crate) fn share_after<V: Serve>(server: &V, turn: &Turn, session: u32) -> Sh
 }
 
 impl Counts {
-    /// The counts behind a turn of a session that added this before it and adds that now.
+    /// The counts after a turn of a session that added this before it and adds that now.
     pub(crate) fn behind(self, before: Share, after: Share) -> Counts
         requires open { weight before.open ≤ self.load }
         requires busy { weight before.busy ≤ self.busy }

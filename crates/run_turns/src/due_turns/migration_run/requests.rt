@@ -16,7 +16,7 @@ use std::alloc::AllocError;
 pub struct Heard {
     /// The answer; `Lost` where the session was lost.
     pub answer: Answer,
-    /// The answer that nobody heard, where the session was lost behind it.
+    /// The answer that nobody heard, where the session was lost after it.
     pub missed: Option<Answer>,
 }
 

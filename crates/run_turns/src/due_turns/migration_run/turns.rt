@@ -23,7 +23,7 @@ pub struct Taken {
     pub entry: Entry,
     /// Whether the session had a transaction, a table lock or a wait before it.
     pub had_work: bool,
-    /// The counts behind it.
+    /// The counts after it.
     pub counts: Counts,
 }
 

@@ -70,7 +70,7 @@ impl LockIndex {
         self.points.insert(at, place);
     }
 
-    /// Puts the place of another lock behind those of the others.
+    /// Puts the place of another lock after those of the others.
     fn add_wide(&mut self, locks: &[Lock], place: usize)
         requires indexed { IsIndexed locks.now place (flat self.old.points.pages) self.old.wide.items }
         requires within { place < length locks.now }

@@ -75,7 +75,7 @@ impl Counts {
         self.watched == *tables
     }
 
-    /// How many events of the watched tables stand at the place or behind it.
+    /// How many events of the watched tables stand at the place or after it.
     #[tactic(auto, using(crate::proofs::LiveSessions::RowLog::WatchedCounts::steps))]
     pub(crate) fn behind(&self, place: usize) -> u64
         ensures { (events : List Event) → IsCounted events self.now → result ≡ count_by (is_of self.now.watched) (drop place events) }

@@ -32,7 +32,7 @@ impl Model for Log {
     ghost invariant = { λ log. IsCounted log.events.items log.counts };
 }
 
-/// Counts events behind others.
+/// Counts events after others.
 fn count_all(counts: &mut Counts, more: &[RowEvent])
     requires { length more.now ≤ counts.old.spare }
     ensures counted { (events : List Event) → IsCounted events counts.old → IsCounted (events ++ more.now) counts.new }
@@ -71,7 +71,7 @@ impl Log {
         self.counts.reserve(n)
     }
 
-    /// Adds the events of a committed transaction behind all others.
+    /// Adds the events of a committed transaction after all others.
     pub fn append(&mut self, events: Events)
         requires { length events ≤ self.old.spare }
         ensures events { self.new.events ≡ self.old.events ++ events }
@@ -85,7 +85,7 @@ impl Log {
         }
     }
 
-    /// The first events of these tables at the position or behind it, and where the next ones are read.
+    /// The first events of these tables at the position or after it, and where the next ones are read.
     pub fn after(&self, position: u64, limit: u32, tables: &Names) -> Result<Answer, AllocError>
         requires { 1 ≤ limit }
         ensures { IfOk result (λ answer. answer ≡ events_read position limit tables.now self.now.events) }
@@ -94,8 +94,8 @@ impl Log {
         read_after(alloc, self.events.as_slice(), position, limit, tables)
     }
 
-    /// How many events of these tables stand at the position or behind it. It takes no memory, and where the log watches
-    /// these tables, it looks at none of the events.
+    /// How many events of these tables stand at the position or after it. It takes no memory, and where the log watches these
+    /// tables, it looks at none of the events.
     pub fn unread(&self, position: u64, tables: &Names) -> u64
         ensures { result ≡ count_by (is_of tables.now) (drop position self.now.events) }
     {

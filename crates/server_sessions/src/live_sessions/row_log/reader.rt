@@ -15,7 +15,7 @@ pub fn is_of(tables: &Names, event: &RowEvent) -> bool
     tables.as_slice().iter().any(|table| event.table == *table)
 }
 
-/// The events at the position or behind it.
+/// The events at the position or after it.
 pub fn from_place(events: &[RowEvent], position: u64) -> &[RowEvent]
     ensures { result.now ≡ drop position events.now }
 {
@@ -34,7 +34,7 @@ pub fn count_of(events: &[RowEvent], tables: &Names) -> u64
     events.iter().filter(|event| is_of(tables, event)).count() as u64
 }
 
-/// The first events of these tables at the position or behind it, and where the next ones are read.
+/// The first events of these tables at the position or after it, and where the next ones are read.
 pub fn read_after(
     alloc: Global,
     log: &[RowEvent],

@@ -25,7 +25,7 @@ TransactionsGrow =
     (tables : Database) (was now : StoredTxn) (schema : Schema) (more : List RowEvent) → IsOf tables was → HasSchema tables schema → EventsFit (after_events tables was.events) more → IsWellFormedDatabase (after_events (after_events tables was.events) more)
     → now.events ≡ was.events ++ more → schemas now.tables ≡ schemas_with schema (schemas was.tables) → IsOf tables now
 
--- *Transactions outlast commits*: one of a database is one of it behind another one's events, where its own still fit and leave
+-- *Transactions outlast commits*: one of a database is one of it after another one's events, where its own still fit and leave
 -- the tables well formed.
 abbrev pub TransactionsOutlastCommits : Type 0
 TransactionsOutlastCommits =

@@ -26,7 +26,7 @@ compare_by first second a b = ordering_then (compare_keys (key_of first a) (key_
 abbrev pub is_before : List ℕ → List ℕ → List Value → List Value → Bool
 is_before first second row other = is_gt (compare_by first second row other)
 
--- each comes before all behind it
+-- each comes before all after it
 abbrev pub Ascending : {X : Type 0} → (X → X → Ordering) → List X → Type 0
 Ascending cmp [] = Unit {0}
 Ascending cmp (x ∷ xs) = AllByRecursion (λ y. cmp x y ≡ Less) xs × Ascending cmp xs

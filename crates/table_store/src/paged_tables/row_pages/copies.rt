@@ -9,7 +9,7 @@ use base_values::gho_schema::Schema;
 use base_values::{Duplicate, Row};
 use std::alloc::{AllocError, Global};
 
-/// Puts a row behind the others.
+/// Puts a row after the others.
 fn put_last(table: &mut Table, row: Row)
     requires room { 0 < table.old.spare }
     requires last { Ascends (key_places table.old.table.schema) (table.old.table.rows ++ row ∷ []) }
