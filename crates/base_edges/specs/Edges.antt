@@ -33,6 +33,6 @@ abbrev pub OnSinkFault : Gave → Type 0 → Type 0
 OnSinkFault (gave.Some n) P = Unit {0}
 OnSinkFault gave.Failed P = P
 
--- A fault count increased: it is greater, or stands at its last value, where it can't increase. This project's rule.
+-- A fault count increased: it is greater, or stays at its last value, where it can't increase. This project's rule.
 abbrev pub Rose : ℕ → ℕ → Type 0
 Rose old new = (old < new) ⊎ (new ≡ 2 ^ 64 - 1)

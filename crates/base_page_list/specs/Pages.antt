@@ -79,7 +79,7 @@ first_passes test (entry ∷ entries) = test entry
 abbrev pub last_page : {X : Type 0} → (X → Bool) → List (List X) → ℕ
 last_page test pages = prefix_len (first_passes test) pages - 1
 
--- the entry stands at this place of the one list, in this page
+-- the entry is at this place of the one list, in this page
 pub record StandsAt (pages : List (List ℕ)) (place page at entry : ℕ) : Type 0 where
   pub page_is : page < length pages
   pub within : at < length (get_or pages page [])

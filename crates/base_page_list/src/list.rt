@@ -15,7 +15,7 @@ use std::marker::Model;
 pub struct Place {
     /// The page's number, from 0.
     pub page: usize,
-    /// How many of the page's entries stand before the place.
+    /// How many of the page's entries come before the place.
     pub at: usize,
 }
 
@@ -91,7 +91,7 @@ fn place_among<T: Test>(pages: &[Page], test: &T) -> Place
     }
 }
 
-/// The entry after a place, and where it stands.
+/// The entry after a place, and where it is.
 fn entry_in(pages: &[Page], place: Place) -> Option<(Place, usize)>
     requires are { ArePages pages.now }
     requires gap { IsGap pages.now place.page place.at }
@@ -119,7 +119,7 @@ fn entry_in(pages: &[Page], place: Place) -> Option<(Place, usize)>
     }
 }
 
-/// The entry after the one at a place, and where it stands.
+/// The entry after the one at a place, and where it is.
 fn entry_behind(pages: &[Page], place: Place) -> Option<(Place, usize)>
     requires are { ArePages pages.now }
     requires page { place.page < length pages.now }
@@ -218,7 +218,7 @@ impl PagedList {
         place_among(self.pages.as_slice(), test)
     }
 
-    /// The entry after a place, and where it stands.
+    /// The entry after a place, and where it is.
     pub fn entry_at(&self, place: Place) -> Option<(Place, usize)>
         requires { IsGap self.now.pages place.page place.at }
         ensures { MatchOption result (length (flat self.now.pages) ≤ place_in self.now.pages place.page place.at)
@@ -227,7 +227,7 @@ impl PagedList {
         entry_in(self.pages.as_slice(), place)
     }
 
-    /// The entry after the one at a place, and where it stands.
+    /// The entry after the one at a place, and where it is.
     pub fn entry_after(&self, place: Place) -> Option<(Place, usize)>
         requires page { place.page < length self.now.pages }
         requires at { place.at < length (get_or self.now.pages place.page []) }

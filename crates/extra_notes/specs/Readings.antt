@@ -42,7 +42,7 @@ abbrev pub note_at : List ℕ → Option ℕ → Option Checkpoint
 note_at behind None = None
 note_at behind (Some position) = Some (record { position = position; reach = reach_of behind })
 
--- the checkpoint that a text tells: its position stands before the first blank, and its reach after it
+-- the checkpoint that a text tells: its position comes before the first blank, and its reach after it
 abbrev pub note_of : List ℕ → Option Checkpoint
 note_of text = note_at (after_first is_blank text) (position_of (literals (before_first is_blank text)))
 

@@ -55,7 +55,7 @@ fn reach_of(alloc: Global, text: &str) -> Result<Reach, AllocError>
     }
 }
 
-/// What stands before the first blank, and what follows it.
+/// What comes before the first blank, and what follows it.
 fn split(text: &str) -> Option<(&str, &str)>
     ensures { MatchOption result (position_or_len is_blank text.now ≡ length text.now) (λ parts. (parts.0.now ≡ before_first is_blank text.now) × (parts.1.now ≡ after_first is_blank text.now)) }
 {
@@ -73,7 +73,7 @@ fn parts(text: &str) -> (&str, &str)
     }
 }
 
-/// The checkpoint that a text tells: its position stands before the first blank, and its reach after it.
+/// The checkpoint that a text tells: its position comes before the first blank, and its reach after it.
 fn note_of(alloc: Global, text: &str) -> Result<Option<Checkpoint>, AllocError>
     ensures { IfOk result (λ note. note ≡ note_of text.now) }
 {

@@ -1,4 +1,4 @@
--- What stands at a key of a document (the TOML specification, as the library `toml` states it).
+-- What is at a key of a document (the TOML specification, as the library `toml` states it).
 use Rattle.std.specs.Prelude.{ℕ, pos, ℤ, Bool, List, [], Option, Some, None, Result, Ok, Err}
 use Rattle.std.specs.Option.{option_map}
 use Rattle.toml.specs.Data.{Data, Items, Members, as_str, as_integer, as_bool, as_array, as_table}

@@ -11,7 +11,7 @@ use Rattle.plan_keys.specs.declared.options.NumberKeys.{NumberKeys}
 use Rattle.plan_keys.specs.declared.options.TruthKeys.{TruthKeys}
 use Rattle.plan_keys.specs.Documents.{number_or, truth_or}
 
--- what stands at a key of the options, where there are some
+-- what is at a key of the options, where there are some
 abbrev pub option_at : List ℕ → Option Members → Option Data
 option_at key options = option_and_then (get_member key) options
 

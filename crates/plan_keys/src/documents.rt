@@ -1,4 +1,4 @@
-//! What stands at a key of a document.
+//! What is at a key of a document.
 
 ghost use Rattle.std.specs.Prelude.{◌≡◌, map, option_map, option_copied};
 ghost use Rattle.toml.specs.Data.{get_member, as_array};
@@ -13,7 +13,7 @@ use toml::{Table, Value};
 
 const MISSING_KEY: KeyFault = KeyFault::Refused(KeyRefusal::MissingKey);
 
-/// What stands at a key.
+/// What is at a key.
 pub fn member_at<'a>(table: &'a Table, key: &str) -> Option<&'a Value>
     ensures { option_map (λ value. view value.now) result ≡ get_member key.now (table_view table.now) }
 {

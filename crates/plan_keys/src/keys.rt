@@ -25,7 +25,7 @@ pub struct PlanKeys<'a> {
     pub options: Options,
 }
 
-/// What stands at the keys, each value of its type.
+/// What is at the keys, each value of its type.
 #[derive(Drop)]
 pub struct TypedKeys<'a> {
     /// The plan's version.

@@ -56,7 +56,7 @@ pub struct TruthKeys {
     pub show_replies: bool,
 }
 
-/// What stands at a key of the options.
+/// What is at a key of the options.
 fn option_at<'a>(options: Option<&'a Table>, key: &str) -> Option<&'a Value>
     ensures { option_map (λ value. view value.now) result ≡ option_at key.now (option_map (λ table. table_view table.now) options.entry) }
 {

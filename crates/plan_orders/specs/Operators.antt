@@ -52,7 +52,7 @@ abbrev pub line_command : ℕ → List (List ℕ) → Result (Option Command) Or
 line_command line [] = Ok None
 line_command line (word ∷ words) = or_refused (refusals.Command line) (option_map Some (command_of (word ∷ words)))
 
--- lines count from 1, those without words too (and stand still at the greatest number of 32 bits)
+-- lines count from 1, those without words too (and stay at the greatest number of 32 bits)
 abbrev pub next_line : ℕ → ℕ
 next_line line = min (line + 1) (2 ^ 32 - 1)
 

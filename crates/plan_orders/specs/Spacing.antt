@@ -17,6 +17,6 @@ abbrev pub parts_around : List ℕ → Option ℕ → Option (List ℕ × List �
 parts_around word None = None
 parts_around word (Some place) = Some (take place word, drop (place + 1) word)
 
--- what stands before and after the first such mark in a word; none where it has none
+-- what comes before and after the first such mark in a word; none where it has none
 abbrev pub parts_at : ℕ → List ℕ → Option (List ℕ × List ℕ)
 parts_at mark word = parts_around word (position (λ byte. byte == mark) word)

@@ -36,7 +36,7 @@ fn place_of(mark: u8, word: &[u8]) -> Option<usize>
     word.iter().position(|byte| *byte == mark)
 }
 
-/// What stands before and after the first such mark in a word.
+/// What comes before and after the first such mark in a word.
 pub fn parts_at(mark: u8, word: &[u8]) -> Option<(&[u8], &[u8])>
     ensures { option_map (λ parts. (parts.0.now, parts.1.now)) result ≡ parts_at mark word.now }
 {

@@ -1,4 +1,4 @@
--- *Opening* of a plan: the tables that stand before the migration, the ALTER, and what it makes of the migrated table. This
+-- *Opening* of a plan: the tables that exist before the migration, the ALTER, and what it makes of the migrated table. This
 -- project's rule, and gh-ost's where it has the option.
 use Rattle.std.specs.Prelude.{ℕ, Bool, not, ◌&&◌, ◌||◌, if◌then◌else◌, false, List, Option, Some, None, Result, Ok, Err}
 use Rattle.std.specs.Str.{bytes_eq}
@@ -26,16 +26,16 @@ pub record OpeningData : Type 0 where
 
 -- ---- what an earlier run left
 
--- A new table that an earlier run left stands, and may not be dropped (gh-ost, `--initially-drop-ghost-table`).
+-- A new table that an earlier run left exists, and may not be dropped (gh-ost, `--initially-drop-ghost-table`).
 abbrev pub has_left_ghost : List ℕ → Options → Database → Bool
 has_left_ghost migrated options tables = has_table (ghost_name migrated) tables && not options.initially_drop_ghost_table
 
--- a table stands that is no earlier run's sentry, which its comment would tell
+-- a table exists that is no earlier run's sentry, which its comment would tell
 abbrev pub is_no_sentry : Option TableRows → Bool
 is_no_sentry None = false
 is_no_sentry (Some table) = not (bytes_eq table.schema.comment sentry_comment)
 
--- An old table that an earlier run left stands, and may not be dropped (gh-ost, `--initially-drop-old-table`).
+-- An old table that an earlier run left exists, and may not be dropped (gh-ost, `--initially-drop-old-table`).
 abbrev pub has_left_old : List ℕ → Options → Database → Bool
 has_left_old migrated options tables = is_no_sentry (find_table (old_name migrated) tables) && not options.initially_drop_old_table
 

@@ -46,7 +46,7 @@ operator_place (orders.Command line) = places.Operator line
 operator_place orders.Loss = places.Nowhere
 operator_place orders.LossActor = places.Nowhere
 
--- where a refusal stands
+-- where a refusal is
 abbrev pub refusal_place : PlanRefusal → Place
 refusal_place TooLong = places.Nowhere
 refusal_place NotToml = places.Nowhere

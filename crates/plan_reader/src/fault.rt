@@ -11,7 +11,7 @@ use plan_orders::turn_order::TurnRefusal;
 use sql_change::AlterCode;
 use sql_statement::ScriptRefusal;
 
-/// Where in a plan a refusal stands. Everything is counted from 1.
+/// Where in a plan a refusal is. Everything is counted from 1.
 #[derive(Clone, Copy)]
 pub enum Place {
     /// Nowhere that has a number.
@@ -53,7 +53,7 @@ pub enum PlanRefusal {
     Tables(TableRefusal),
     /// 56: no table has the name of the one to migrate.
     NoTable,
-    /// 57: a table that an earlier run left stands, and the plan doesn't let the tool drop it.
+    /// 57: a table that an earlier run left exists, and the plan doesn't let the tool drop it.
     Leftover,
     /// 20 to 31: the ALTER.
     Alter(AlterCode),
@@ -118,7 +118,7 @@ impl PlanRefusal {
         }
     }
 
-    /// Where in the plan it stands.
+    /// Where in the plan it is.
     pub fn place(self) -> Place
         ensures { result ≡ refusal_place self }
     {

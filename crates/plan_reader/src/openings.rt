@@ -1,4 +1,4 @@
-//! The tables that stand before the migration, and its ALTER.
+//! The tables that exist before the migration, and its ALTER.
 
 ghost use Rattle.std.specs.Prelude.{◌≡◌, Some, IfOk, map, option_map};
 ghost use Rattle.std.specs.List.{AllByRecursion};
@@ -27,7 +27,7 @@ use std::alloc::{AllocError, Global};
 use table_store::{Table, Tables};
 use tool_changelog::SENTRY_COMMENT;
 
-/// What stands before the migration, and what the ALTER makes of it.
+/// What exists before the migration, and what the ALTER makes of it.
 #[derive(Drop)]
 pub struct Opening {
     /// The opening tables, in the plan's order.
@@ -59,7 +59,7 @@ fn migrated_in<'a>(migrated: &Name, tables: &'a Tables) -> Result<&'a Table, Pla
     }
 }
 
-/// Whether a new table that an earlier run left stands, and may not be dropped.
+/// Whether a new table that an earlier run left exists, and may not be dropped.
 fn has_left_ghost(
     alloc: Global,
     migrated: &Name,
@@ -72,7 +72,7 @@ fn has_left_ghost(
     Ok(tables.stands(&new) && !options.initially_drop_ghost_table)
 }
 
-/// Whether a table stands that is no earlier run's sentry.
+/// Whether a table exists that is no earlier run's sentry.
 #[tactic(auto, unfolding(tool_changelog::specs::ToolTables::sentry_comment))]
 fn is_no_sentry(table: Option<&Table>) -> bool
     ensures { result ≡ is_no_sentry (option_map (λ table. table.now.table) table.entry) }
@@ -83,7 +83,7 @@ fn is_no_sentry(table: Option<&Table>) -> bool
     }
 }
 
-/// Whether an old table that an earlier run left stands, and may not be dropped.
+/// Whether an old table that an earlier run left exists, and may not be dropped.
 fn has_left_old(
     alloc: Global,
     migrated: &Name,

@@ -89,7 +89,7 @@ abbrev pub Serial : Scene → Stored → List PlainItem → Stored → Type 0
 Serial scene before [] after = Alike scene before after
 Serial scene before (item ∷ items) after = (start : Stored) × (between : Stored) × Alike scene before start × Leads scene item start between × Serial scene between items after
 
--- *Tables left*: the tables of these names that stand, in the order of the names
+-- *Tables left*: the tables of these names that exist, in the order of the names
 unfoldable pub tables_left : List (List ℕ) → Database → Database
 tables_left [] tables = []
 tables_left (name ∷ names) tables = option_to_list (find_table name tables) ++ tables_left names tables

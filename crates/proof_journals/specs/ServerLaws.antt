@@ -1,2 +1,2 @@
--- What one turn of a session leaves to the others: names, waits, rows under locks, and the tables that stand.
+-- What one turn of a session leaves to the others: names, waits, rows under locks, and the tables that exist.
 pub mod Others

@@ -25,7 +25,7 @@ abbrev pub AcceptedRunsAreSerial : Type 0
 AcceptedRunsAreSerial = (plan : PlanData) (journal : List Entry) → WasRead plan → IsKept plan journal → IsSerial plan journal
 
 -- *Accepted renames find the altered table*: where the RENAME is done the new table is what the plan's ALTER makes of the
--- migrated one as it stands.
+-- migrated one as it is.
 abbrev pub AcceptedRenamesFindTheAltered : Type 0
 AcceptedRenamesFindTheAltered =
     (plan : PlanData) (table : TableRows) (new : Altered) (journal : List Entry) (entry : Entry) → WasRead plan → find_table plan.table plan.tables ≡ Some table → altered_by plan table.schema ≡ Some new → IsRename plan journal entry
@@ -48,6 +48,6 @@ AcceptedRunsAreOnline = (plan : PlanData) (journal : List Entry) → WasRead pla
 abbrev pub AcceptedRunsGoOn : Type 0
 AcceptedRunsGoOn = (plan : PlanData) (journal : List Entry) → WasRead plan → IsKept plan journal → has_ended plan journal ≡ false → list_any (is_ready plan journal) (actors plan) ≡ true
 
--- *Accepted causes stand*: where all was reverted, the cause that the verdict names stands in the journal, whichever it is.
+-- *Accepted causes stand*: where all was reverted, the cause that the verdict names is in the journal, whichever it is.
 abbrev pub AcceptedCausesStand : Type 0
 AcceptedCausesStand = (plan : PlanData) (journal : List Entry) (cause : Cause) → WasRead plan → IsKept plan journal → verdict_of plan journal ≡ Reverted cause → Stands plan journal cause

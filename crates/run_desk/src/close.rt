@@ -29,7 +29,7 @@ pub(crate) fn gather<B: SharedState>(board: &Board<B>, mut passes: Passes<B>) ->
     seat
 }
 
-/// The shared state that stands in the slot.
+/// The shared state in the slot.
 pub(crate) fn taken_out<B: SharedState>(mut closed: Closed<Option<B>, Global>) -> B
     requires slots { (slots_len closed.slots ≡ 1) × IsFull closed.slots × IsFull closed.words }
     requires shared_state { (shared_state : B) × (slots_items closed.slots ≡ Some shared_state ∷ []) }

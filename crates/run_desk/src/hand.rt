@@ -14,7 +14,7 @@ pub enum Stage {
 
 /// What a hand is that of.
 pub enum Role<E> {
-    /// A worker's number, its own turns, and where it stands.
+    /// A worker's number, its own turns, and where it is.
     Worker(u32, LinkedList<Entry<E>>, Stage),
     /// It only knows what another has seen.
     Witness,

@@ -46,7 +46,7 @@ free_actor_state actor = record { actor = actor; session = None; turns = 0; rena
 abbrev pub actor_state_of : PlanData → List Entry → Actor → Option ActorState
 actor_state_of plan journal actor = if is_planned plan actor then Some (actor_state_at plan.table journal actor) else None
 
--- the actor state that stands at an actor's place, where it is the actor's
+-- the actor state at an actor's place, where it is the actor's
 abbrev pub own_actor_state : Actor → Option ActorState → Option ActorState
 own_actor_state actor None = None
 own_actor_state actor (Some actor_state) = if same_actor actor_state.actor actor then Some actor_state else None

@@ -1,4 +1,4 @@
-//! Requests that change which tables stand, and LOCK TABLES.
+//! Requests that change which tables exist, and LOCK TABLES.
 
 ghost use Rattle.std.specs.Prelude.{◌≡◌, ℕ, [], ◌∷◌, IfOk, OnOk, OnErr};
 ghost use Rattle.table_store.specs.Databases.{has_table, rename_tables};

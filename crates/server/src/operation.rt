@@ -18,7 +18,7 @@ use server_sessions::live_sessions::Sessions;
 use server_transaction::server_data::Data;
 use std::alloc::AllocError;
 
-/// What is answered without a change: ends of keys, the log, and what stands or waits.
+/// What is answered without a change: ends of keys, the log, and what exists or waits.
 fn look<D: Data>(
     store: &D,
     all_sessions: &Sessions,

@@ -1,4 +1,4 @@
-//! What a server answers of its committed tables, as they stand: ends of keys, chunks of a copy, the list of tables.
+//! What a server answers of its committed tables, as they are: ends of keys, chunks of a copy, the list of tables.
 
 mod answers;
 mod chunk;

@@ -72,7 +72,7 @@ pub trait Serve: Drop {
     fn locked(&self, session: u32) -> bool
         ensures { result ≡ holds_tables (session_of session (state self.now).sessions) };
 
-    /// How many events of these tables stand at the position or after it.
+    /// How many events of these tables are at the position or after it.
     fn unread(&self, position: u64, tables: &Names) -> u64
         ensures { result ≡ unread (state self.now) position tables.now };
 

@@ -1,5 +1,5 @@
--- What is said of a journal entry by entry, each with the entries before it. These words are of all lists; their laws
--- stand beside them, since every layer above proves with them.
+-- What is said of a journal entry by entry, each with the entries before it. These words are of all lists; their laws are
+-- beside them, since every layer above proves with them.
 use Rattle.std.specs.Prelude.{◌≡◌, List, [], ◌∷◌, ◌++◌}
 use Rattle.std.proofs.Common.{sym, ◌∙◌, ap, subst, append_assoc, append-nil}
 

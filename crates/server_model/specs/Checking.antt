@@ -68,7 +68,7 @@ unfoldable pub are_distinct : List ℕ → Bool
 are_distinct [] = true
 are_distinct (place ∷ places) = not (list_any (λ other. place == other) places) && are_distinct places
 
--- the value that stands beside a place, where one does
+-- the value that is beside a place, where one does
 unfoldable pub beside : ℕ → List ℕ → List Value → Option Value
 beside place [] values = None
 beside place (other ∷ places) [] = None

@@ -74,7 +74,7 @@ pub record IsMapOf (map : List MapColumn) (old new : Schema) : Type 0 where
   pub origins : AllByRecursion (λ column. IsOrigin old column.origin) map
   pub columns : MapsInto map new.columns
 
--- where a table of the name stands, this holds of its schema
+-- where a table of the name exists, this holds of its schema
 abbrev pub IfStands : (Schema → Type 0) → Option TableRows → Type 0
 IfStands P None = Unit {0}
 IfStands P (Some table) = P table.schema
@@ -101,7 +101,7 @@ pub record MayCall (state : State) (session : ℕ) (request : Request) : Type 0 
   pub comes : ComesWell (is_in_transaction (session_of session state.sessions)) (holds_tables (session_of session state.sessions)) request
   pub formed : IsWellFormed state.tables request
 
--- *May poll*: the session is live and waits, and its request is still well formed on the tables that now stand.
+-- *May poll*: the session is live and waits, and its request is still well formed on the tables that now exist.
 pub record MayPoll (state : State) (session : ℕ) : Type 0 where
   pub live : is_live state session ≡ true
   pub waiting : Waiting

@@ -52,12 +52,12 @@ abbrev pub result_effect : Bool → Need → StatementResult → Effect
 result_effect true need result = Grows result.answer need result.events
 result_effect false need result = Writes result.answer result.events
 
--- a transaction begins, where the table stands
+-- a transaction begins, where the table exists
 abbrev pub begins : Option TableRows → Span → ℕ → Need → Effect
 begins None span size need = Rests (refuses 1146)
 begins (Some table) span size need = Grows (span_keys span size table) need []
 
--- tables are locked, where all stand
+-- tables are locked, where all exist
 abbrev pub all_stand : List (List ℕ) → Database → Bool
 all_stand names tables = not (list_any (λ name. not (has_table name tables)) names)
 

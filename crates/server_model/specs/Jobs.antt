@@ -48,7 +48,7 @@ events_of name changes = map (λ change. record { table = name; change = change 
 abbrev pub result_of : List ℕ → TableResult → StatementResult
 result_of name told = record { answer = told.answer; events = events_of name told.changes }
 
--- 1146 where the table doesn't stand
+-- 1146 where the table doesn't exist
 abbrev pub result_in : Job → Option TableRows → StatementResult
 result_in job None = record { answer = refuses 1146; events = [] }
 result_in job (Some table) = result_of job.table (tells table.schema table.rows (job.work table.schema))

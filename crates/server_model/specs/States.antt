@@ -167,7 +167,7 @@ has_work state number =
 abbrev pub is_of : List (List ℕ) → RowEvent → Bool
 is_of tables event = list_any (λ table. bytes_eq event.table table) tables
 
--- *Unread*: how many events of these tables stand at the position or after it
+-- *Unread*: how many events of these tables are at the position or after it
 unfoldable pub unread : State → ℕ → List (List ℕ) → ℕ
 unread state position tables = count_by (is_of tables) (drop position state.log)
 

@@ -31,7 +31,7 @@ pub enum Answer {
         /// The position after them.
         next: u64,
     },
-    /// The tables that stand.
+    /// The tables that exist.
     Tables(TableNames),
     /// The sessions that wait for names of tables exclusively.
     Waiting(ShownWaiters),

@@ -5,7 +5,7 @@ ghost use Rattle.std.specs.Prelude.{◌≡◌, IfOk};
 use base_values::{Chars, Duplicate, Name, Names, Sequence};
 use std::alloc::AllocError;
 
-/// A table that stands.
+/// A table that exists.
 pub struct TableName {
     /// Its name.
     pub name: Name,
@@ -22,7 +22,7 @@ impl Drop for TableName {
     }
 }
 
-/// Tables that stand, in byte order of their names.
+/// Tables that exist, in byte order of their names.
 pub type TableNames = Sequence<TableName>;
 
 /// A session that waits for names of tables exclusively.

@@ -73,7 +73,7 @@ pub enum Request {
         /// The tables whose events are given.
         tables: Names,
     },
-    /// The tables that stand.
+    /// The tables that exist.
     ShowTables,
     /// The sessions that wait for names of tables exclusively.
     ShowWaiting,

@@ -70,7 +70,7 @@ pub fn are_distinct(places: &[usize]) -> bool
     true
 }
 
-/// The value that stands beside a place, where one does.
+/// The value that is beside a place, where one does.
 #[tactic(auto, unfolding(server_model::specs::Checking::beside))]
 pub fn beside<'a>(place: usize, places: &[usize], values: &'a [Value]) -> Option<&'a Value>
     ensures { option_copied result ≡ beside place places.now values.now }

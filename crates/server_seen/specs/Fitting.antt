@@ -16,7 +16,7 @@ use Rattle.server_seen.specs.Written.{Written, is_touched}
 abbrev pub IsNewAmong : List ℕ → List (List Value) → List Value → Type 0
 IsNewAmong places rows row = find (is_at places (key_of places row)) rows ≡ None
 
--- *A change fits the rows*: what it takes out stands among them, and what it puts has a key that none of the others has.
+-- *A change fits the rows*: what it takes out is among them, and what it puts has a key that none of the others has.
 abbrev pub FitsRows : List ℕ → List (List Value) → Change → Type 0
 FitsRows places rows (Write row) = IsNewAmong places rows row
 FitsRows places rows (Update before after) = (stands before rows ≡ true) × IsNewAmong places (without_row before rows) after
@@ -27,7 +27,7 @@ unfoldable pub AllFit : List ℕ → List Change → List (List Value) → Type 
 AllFit places [] rows = Unit {0}
 AllFit places (change ∷ changes) rows = FitsRows places rows change × AllFit places changes (change_rows places change rows)
 
--- the keys stand in order, each once
+-- the keys are in order, each once
 abbrev pub KeysAscend : List (List Value) → Type 0
 KeysAscend [] = Unit {0}
 KeysAscend (key ∷ keys) = AllByRecursion (λ other. compare_keys key other ≡ Less) keys × KeysAscend keys

@@ -11,8 +11,8 @@ use Rattle.base_values.specs.declared.event.Change.TheVariants.{Write, Update, D
 use Rattle.table_store.specs.RowLists.{without_key}
 use Rattle.server_model.specs.Rows.{stands}
 
--- What was written to a table: the new rows that stand, in order of the clustered key, and in order the clustered keys of
--- all rows that were written or removed.
+-- What was written to a table: the new rows that exist, in order of the clustered key, and in order the clustered keys of all
+-- rows that were written or removed.
 pub record Written : Type 0 where
   pub rows : List (List Value)
   pub keys : List (List Value)

@@ -47,7 +47,7 @@ impl<'a> SeenTable<'a> {
         SeenTable { table, written }
     }
 
-    /// Its schema. The rows stand in order of the clustered key.
+    /// Its schema. The rows are in order of the clustered key.
     pub fn schema(&self) -> &'a Schema
         ensures schema { result.now ≡ self.now.schema }
         ensures ascends { Ascends (key_places self.now.schema) self.now.rows }

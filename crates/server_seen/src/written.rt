@@ -19,8 +19,8 @@ use std::alloc::{AllocError, Global};
 use std::marker::Model;
 use table_store::paged_tables::row_pages::Table;
 
-/// What was written to a table: the new rows that stand, and the keys of all rows that were written or removed. Contracts
-/// see besides the table's schema, and for how many more rows and keys there is room.
+/// What was written to a table: the new rows that exist, and the keys of all rows that were written or removed. Contracts see
+/// besides the table's schema, and for how many more rows and keys there is room.
 #[derive(Drop)]
 pub struct WrittenRows {
     rows: Table,
@@ -157,21 +157,21 @@ impl WrittenRows {
         Ok(())
     }
 
-    /// The rows that stand and that a condition reaches.
+    /// The rows that exist and that a condition reaches.
     pub(crate) fn met(&self, alloc: Global, reach: &Reach) -> Result<Rows, AllocError>
         ensures { IfOk result (λ rows. rows ≡ rows_met self.now.schema reach.now self.now.written.rows) }
     {
         rows_met(alloc, &self.rows, reach)
     }
 
-    /// The rows that stand and that clash with a new one.
+    /// The rows that exist and that clash with a new one.
     pub(crate) fn clashing(&self, alloc: Global, new: &Row) -> Result<Rows, AllocError>
         ensures { IfOk result (λ rows. rows ≡ displaced self.now.schema new.now self.now.written.rows) }
     {
         rows_clashing(alloc, &self.rows, new)
     }
 
-    /// Rows that stand, laid over those of rows whose keys weren't touched.
+    /// Rows that exist, laid over those of rows whose keys weren't touched.
     pub(crate) fn over(&self, alloc: Global, mine: Rows, rows: Rows) -> Result<Rows, AllocError>
         requires { Ascends (key_places self.now.schema) mine }
         ensures { IfOk result (λ all. all ≡ put_all (key_places self.now.schema) mine (untouched (key_places self.now.schema) self.now.written.keys rows)) }
@@ -181,7 +181,7 @@ impl WrittenRows {
         merged(alloc, places, mine.as_slice(), left)
     }
 
-    /// How many rows stand.
+    /// How many rows exist.
     pub fn rows(&self) -> usize
         ensures { result ≡ length self.now.written.rows }
     {

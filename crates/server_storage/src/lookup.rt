@@ -91,7 +91,7 @@ fn key_locks(alloc: Global, schema: &Schema, span: &Span) -> Result<LockSet, All
     Ok(locks)
 }
 
-/// The row lock on a span of a table's clustered key, where the table stands, whatever was written.
+/// The row lock on a span of a table's clustered key, where the table exists, whatever was written.
 pub fn span_locks(
     alloc: Global,
     tables: &Tables,

@@ -17,7 +17,7 @@ use Rattle.server_transaction.specs.declared.keyed.KeyedEvent.{KeyedEvent}
 abbrev pub HasSchema : Database → Schema → Type 0
 HasSchema tables schema = option_map (λ table. table.schema) (find_table schema.name tables) ≡ Some schema
 
--- *A transaction of a database*: its events fit the tables and leave them well formed, and the tables to which it wrote stand
+-- *A transaction of a database*: its events fit the tables and leave them well formed, and the tables to which it wrote exist
 -- with the schemas that they had.
 pub record IsOf (tables : Database) (txn : StoredTxn) : Type 0 where
   pub fit : EventsFit tables txn.events

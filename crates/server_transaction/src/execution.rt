@@ -112,7 +112,7 @@ fn needs_of(
     needs(alloc, &SeenTable::new(table, written), &work)
 }
 
-/// What is said where the table doesn't stand.
+/// What is said where the table doesn't exist.
 pub fn missing(alloc: Global) -> ReadyResult<Option<Writes>>
     ensures says { result.result ≡ record { answer = refuses 1146; events = [] } }
     ensures writes { result.writes ≡ None }

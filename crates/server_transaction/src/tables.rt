@@ -16,7 +16,7 @@ fn is_named(name: &Name, table: &WrittenRows) -> bool
     table.schema().name == *name
 }
 
-/// How many tables stand before the one of this name.
+/// How many tables come before the one of this name.
 pub fn place_of(tables: &[WrittenRows], name: &Name) -> usize
     ensures { result ≡ position_or_len (λ table. bytes_eq table.schema.name name.now) tables.now }
 {

@@ -32,7 +32,7 @@ add_at (word ∷ rest) =
     else (if is_index_word word then add_index_at rest
     else add_column_at (after_column (word ∷ rest)))))
 
--- After CHANGE: a column, what it is afterwards, and where it stands.
+-- After CHANGE: a column, what it is afterwards, and where it is.
 unfoldable pub change_at : List Token → Read Clause
 change_at words = do
   old ← in_alter (name_at (after_column words))

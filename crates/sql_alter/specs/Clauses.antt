@@ -1,4 +1,4 @@
--- The clauses of an ALTER, and the ALTER TABLE that may stand in front of them ("ALTER TABLE Statement").
+-- The clauses of an ALTER, and the ALTER TABLE that may come before them ("ALTER TABLE Statement").
 use Rattle.std.specs.Prelude.{codes, ℕ, Bool, true, false, if◌then◌else◌, List, [], ◌∷◌, length, Option, Some, None, Result, Ok, Err}
 use Rattle.std.specs.Str.{bytes_eq}
 use Rattle.base_values.specs.declared.row_conversion.clause.Clause.{Clause}
@@ -51,7 +51,7 @@ abbrev pub after_alter : List ℕ → List Token → Option (List Token) → Res
 after_alter table words (Some rest) = after_table table words (after_keyword (codes "TABLE") rest)
 after_alter table words None = Ok words
 
--- The words after ALTER TABLE and the table's name, where those stand in front.
+-- The words after ALTER TABLE and the table's name, where those come first.
 unfoldable pub front_at : List ℕ → List Token → Result (List Token) AlterCode
 front_at table words = after_alter table words (after_keyword (codes "ALTER") words)
 
@@ -59,7 +59,8 @@ abbrev pub unless_faulty : Bool → List Clause → Result (List Clause) AlterCo
 unless_faulty true clauses = Err refusals.Syntax
 unless_faulty false clauses = Ok clauses
 
--- What the words of a text say, or the refusal of the first that doesn't fit. Where all that stand before a fault of the text fit, the fault is refused.
+-- What the words of a text say, or the refusal of the first that doesn't fit. Where all that come before a fault of the text
+-- fit, the fault is refused.
 unfoldable pub read : List ℕ → TextWords → Result (List Clause) AlterCode
 read table text = do
   rest ← front_at table text.words

@@ -1,4 +1,4 @@
--- A column as a clause writes it, and where it is to stand ("ALTER TABLE Statement").
+-- A column as a clause writes it, and where it is put ("ALTER TABLE Statement").
 use Rattle.std.specs.Prelude.{codes, if◌then◌else◌, List, [], ◌∷◌, length, Option, Some, None, Result, Ok, Err}
 use Rattle.base_values.specs.declared.row_conversion.clause.NewColumn.{NewColumn}
 use Rattle.base_values.specs.declared.row_conversion.clause.ColumnPosition.{ColumnPosition}
@@ -20,7 +20,7 @@ use Rattle.sql_alter.specs.Pieces.{Read, in_alter}
 abbrev pub Perhaps : Type 0
 Perhaps = Result (Option (Attribute × List Token)) AlterCode
 
--- KEY has to stand after PRIMARY, and then the clustered key is changed
+-- KEY must come after PRIMARY, and then the clustered key is changed
 abbrev pub primary_at : {A : Type 0} → List Token → Result A AlterCode
 primary_at words = in_alter (keyword_at (codes "KEY") words) >>= λ rest. Err codes.ClusteredKeyChange
 

@@ -29,6 +29,6 @@ after_column words = without words (after_keyword (codes "COLUMN") words)
 abbrev pub is_index_word : Token → Bool
 is_index_word word = is_keyword word (codes "INDEX") || is_keyword word (codes "KEY")
 
--- what may stand after ADD and DROP in MySQL and not here ("ALTER TABLE Statement")
+-- what may come after ADD and DROP in MySQL and not here ("ALTER TABLE Statement")
 unfoldable pub is_out_of_scope : Token → Bool
 is_out_of_scope word = is_keyword word (codes "CONSTRAINT") || is_keyword word (codes "FOREIGN") || is_keyword word (codes "FULLTEXT") || is_keyword word (codes "SPATIAL") || is_keyword word (codes "CHECK") || is_keyword word (codes "PARTITION")

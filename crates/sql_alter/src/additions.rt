@@ -35,7 +35,7 @@ fn add_index_at(alloc: Global, words: &[Token]) -> Result<(Clause, &[Token]), Al
     Ok((Clause::AddIndex { name, columns }, rest))
 }
 
-/// The clause whose ADD stands in front of these words, and what follows it.
+/// The clause whose ADD comes before these words, and what follows it.
 #[tactic(auto, unfolding(crate::specs::Adding::add_at))]
 pub fn add_at(alloc: Global, words: &[Token]) -> Result<(Clause, &[Token]), AlterFault>
     ensures { Answers (λ clause. (clause.0, clause.1.now)) result (add_at words.now) }
@@ -59,7 +59,7 @@ pub fn add_at(alloc: Global, words: &[Token]) -> Result<(Clause, &[Token]), Alte
     }
 }
 
-/// The clause whose CHANGE stands in front of these words, and what follows it.
+/// The clause whose CHANGE comes before these words, and what follows it.
 #[tactic(auto, unfolding(crate::specs::Adding::change_at))]
 pub fn change_at(alloc: Global, words: &[Token]) -> Result<(Clause, &[Token]), AlterFault>
     ensures { Answers (λ clause. (clause.0, clause.1.now)) result (change_at words.now) }
@@ -77,7 +77,7 @@ pub fn change_at(alloc: Global, words: &[Token]) -> Result<(Clause, &[Token]), A
     ))
 }
 
-/// The clause whose MODIFY stands in front of these words, and what follows it.
+/// The clause whose MODIFY comes before these words, and what follows it.
 #[tactic(auto, unfolding(crate::specs::Adding::modify_at))]
 pub fn modify_at(alloc: Global, words: &[Token]) -> Result<(Clause, &[Token]), AlterFault>
     ensures { Answers (λ clause. (clause.0, clause.1.now)) result (modify_at words.now) }

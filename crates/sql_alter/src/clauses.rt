@@ -1,4 +1,4 @@
-//! The clauses of an ALTER, and the ALTER TABLE that may stand in front of them.
+//! The clauses of an ALTER, and the ALTER TABLE that may come before them.
 
 ghost use Rattle.std.specs.Prelude.{codes};
 ghost use Rattle.base_values.specs.Faults.{Answers};
@@ -90,7 +90,7 @@ fn after_table<'a>(
     }
 }
 
-/// What follows ALTER TABLE and the table's name, where those stand in front.
+/// What follows ALTER TABLE and the table's name, where those come first.
 #[tactic(auto, unfolding(crate::specs::Clauses::front_at))]
 pub fn front_at<'a>(
     alloc: Global,

@@ -1,4 +1,4 @@
-//! A column as a clause writes it, and where it is to stand.
+//! A column as a clause writes it, and where it is put.
 
 ghost use Rattle.std.specs.Prelude.{option_map};
 ghost use Rattle.base_values.specs.Faults.{Answers};

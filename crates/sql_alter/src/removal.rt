@@ -25,7 +25,7 @@ fn drop_index_at(alloc: Global, words: &[Token]) -> Result<(Clause, &[Token]), A
     Ok((Clause::DropIndex(name), rest))
 }
 
-/// The clause whose DROP stands in front of these words, and what follows it.
+/// The clause whose DROP comes before these words, and what follows it.
 #[tactic(auto, unfolding(crate::specs::Removing::drop_at))]
 pub fn drop_at(alloc: Global, words: &[Token]) -> Result<(Clause, &[Token]), AlterFault>
     ensures { Answers (λ clause. (clause.0, clause.1.now)) result (drop_at words.now) }
@@ -57,7 +57,7 @@ fn rename_column_at(alloc: Global, words: &[Token]) -> Result<(Clause, &[Token])
     Ok((Clause::Rename { old, new }, rest))
 }
 
-/// The clause whose RENAME stands in front of these words, and what follows it.
+/// The clause whose RENAME comes before these words, and what follows it.
 #[tactic(auto, unfolding(crate::specs::Removing::rename_at))]
 pub fn rename_at(alloc: Global, words: &[Token]) -> Result<(Clause, &[Token]), AlterFault>
     ensures { Answers (λ clause. (clause.0, clause.1.now)) result (rename_at words.now) }

@@ -68,7 +68,7 @@ renamed approve standing old new = renamed_at approve standing new (column_named
 
 -- ---- CHANGE and MODIFY
 
--- The column after which the changed one is to stand is one of the others, by their names; and none of these has its new name.
+-- The column after which the changed one is to be put is one of the others, by their names; and none of these has its new name.
 abbrev pub change_reasons : Schema → ℕ → Column → NewColumn → ColumnPosition → Reasons AlterCode
 change_reasons schema place column written column_position =
     (not (is_column_position (remove schema.columns place) column_position), codes.UnknownName)

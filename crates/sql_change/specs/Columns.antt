@@ -53,7 +53,7 @@ is_in_primary uniques place = list_any (λ index. is_none index.name && has_plac
 
 -- ---- where clauses put columns
 
--- the column after which another is to stand is there
+-- the column after which another is to be put is there
 abbrev pub is_column_position : List Column → ColumnPosition → Bool
 is_column_position columns Unsaid = true
 is_column_position columns First = true
@@ -72,7 +72,7 @@ column_position_place columns (After name) place = behind (column_place columns 
 
 -- ---- defaults
 
--- an added column that may not be null has to have a default, since rows that stand have no value for it (this project's rule)
+-- an added column that may not be null has to have a default, since rows that exist have no value for it (this project's rule)
 abbrev pub lacks_default : Option ℕ → Bool → Option Value → Bool
 lacks_default None false None = true
 lacks_default None false (Some value) = false

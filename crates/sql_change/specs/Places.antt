@@ -1,4 +1,4 @@
--- Where the places of keys stand after a column was put in, taken out or moved.
+-- Where the places of keys are after a column was put in, taken out or moved.
 use Rattle.std.specs.Prelude.{ℕ, ◌+◌, ◌-◌, ◌<◌, ◌==◌, nat_lt, Bool, not, if◌then◌else◌, List, map, filter, length, Option, Some, None}
 use Rattle.std.specs.List.{filter_map, AllByRecursion}
 use Rattle.base_values.specs.declared.gho_schema.schema.Index.{Index}

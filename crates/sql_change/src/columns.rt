@@ -70,7 +70,7 @@ pub fn is_in_primary(uniques: &[Index], place: usize) -> bool
         .any(|index| index.name.is_none() && has_place(place, index))
 }
 
-/// Whether the column after which another is to stand is there.
+/// Whether the column after which another is to be put is there.
 pub fn is_column_position(columns: &[Column], column_position: &ColumnPosition) -> bool
     ensures { result ≡ is_column_position columns.now column_position.now }
 {

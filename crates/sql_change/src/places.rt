@@ -1,4 +1,4 @@
-//! Where the places of keys stand after a column was put in, taken out or moved.
+//! Where the places of keys are after a column was put in, taken out or moved.
 
 ghost use Rattle.std.specs.Prelude.{◌≡◌, ◌<◌, ◌≤◌, [], ◌∷◌, ◌++◌, option_to_list, filter, IfOk, OnOk};
 ghost use Rattle.std.specs.List.{filter_map, AllByRecursion};
@@ -19,7 +19,7 @@ pub enum PlaceChange {
     Moved {
         /// Where it stood.
         from: usize,
-        /// Where it stands.
+        /// Where it is.
         to: usize,
     },
 }

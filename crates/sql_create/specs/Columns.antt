@@ -29,13 +29,13 @@ with_column_attribute attributes (Plain attribute) = record attributes { plain =
 abbrev pub Perhaps : Type 0
 Perhaps = Result (Option (ColumnAttribute × List Token)) SchemaCode
 
--- after PRIMARY, KEY has to stand
+-- after PRIMARY, KEY must come next
 abbrev pub primary_at : List Token → Perhaps
 primary_at words = do
   rest ← keyword_at (codes "KEY") words
   Ok (Some (Primary, rest))
 
--- after UNIQUE, KEY may stand
+-- after UNIQUE, KEY may come next
 abbrev pub unique_after : List Token → Option (List Token) → Option (ColumnAttribute × List Token)
 unique_after words (Some rest) = Some (Unique, rest)
 unique_after words None = Some (Unique, words)

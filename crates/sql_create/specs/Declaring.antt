@@ -73,7 +73,7 @@ primary_index names columns = record { name = None; places = places_of names col
 abbrev pub key_index : List (List ℕ) → WrittenKey → Index
 key_index names key = record { name = key.text.name; places = places_of names key.text.columns }
 
--- the PRIMARY KEY stands in front of the other unique keys, which stand as they are declared
+-- the PRIMARY KEY comes before the other unique keys, which stand as they are declared
 unfoldable pub schema_of : List ℕ → List ℕ → List (List ℕ) → List (List (List ℕ)) → List WrittenKey → List Column → Schema
 schema_of name comment names primaries keys columns = record {
   name = name;

@@ -20,7 +20,7 @@ with_option comment Passed = comment
 abbrev pub Perhaps : Type 0
 Perhaps = Result (Option (TableOption × List Token)) SchemaCode
 
--- = may stand in front of an option's value
+-- = may come before an option's value
 abbrev pub unsigned : List Token → Option (List Token) → List Token
 unsigned words (Some rest) = rest
 unsigned words None = words
@@ -54,7 +54,7 @@ charset_at (word ∷ rest) =
     else (if is_keyword word (codes "COLLATE") then passed_at rest
     else Ok None))
 
--- after DEFAULT, one of them has to stand
+-- after DEFAULT, one of them must come next
 abbrev pub needed : List Token → Option (TableOption × List Token) → Perhaps
 needed words (Some read) = Ok (Some read)
 needed words None = Err (mismatch words)

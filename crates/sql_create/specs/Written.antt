@@ -30,7 +30,7 @@ key_item_at is_unique words = do
   key ← key_at words
   Ok (items.Key (record { is_unique = is_unique; text = key.0 }), key.1)
 
--- KEY or INDEX, which may stand after UNIQUE
+-- KEY or INDEX, which may come after UNIQUE
 abbrev pub key_word : List Token → Option (List Token) → Option (List Token) → List Token
 key_word words (Some rest) index = rest
 key_word words None (Some rest) = rest
@@ -79,12 +79,13 @@ table_at words = do
   comment ← options_at rest
   alone (record { name = name.0; items = items.0; comment = comment.0 }) (last_words comment.1 (after_sign (codes ";") comment.1))
 
--- a text whose first fault stands after a whole table is no CREATE TABLE
+-- a text whose first fault comes after a whole table is no CREATE TABLE
 abbrev pub unless_faulty : Bool → WrittenTable → Result WrittenTable SchemaCode
 unless_faulty true table = Err Syntax
 unless_faulty false table = Ok table
 
--- What the words of a text write, or the refusal of the first that doesn't fit. Where all that stand before a fault of the text fit, the fault is refused.
+-- What the words of a text write, or the refusal of the first that doesn't fit. Where all that come before a fault of the text
+-- fit, the fault is refused.
 unfoldable pub written : TextWords → Result WrittenTable SchemaCode
 written read = do
   table ← table_at read.words

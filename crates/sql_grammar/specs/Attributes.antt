@@ -23,7 +23,7 @@ with_attribute attributes Passed = attributes
 abbrev pub Perhaps : Type 0
 Perhaps = Result (Option (Attribute × List Token)) SchemaCode
 
--- after NOT, NULL has to stand
+-- after NOT, NULL must come next
 abbrev pub not_null_at : List Token → Perhaps
 not_null_at words = do
   rest ← keyword_at (codes "NULL") words

@@ -55,7 +55,7 @@ key_columns_at words = do
   names ← names_at rest
   closed names.0 names.1 (after_sign (codes ")") names.1)
 
--- nothing where the parenthesis stands, else the key's name
+-- nothing where the parenthesis is there, else the key's name
 abbrev pub key_name : List Token → Option (List Token) → Read (Option (List ℕ))
 key_name words (Some rest) = Ok (None, words)
 key_name words None = do

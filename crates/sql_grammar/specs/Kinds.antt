@@ -25,7 +25,7 @@ kind_word word =
     else (if is_keyword word (codes "VARBINARY") then Some words.VarBinary
     else None))))))
 
--- a number in parentheses, where an opening one stands, is passed over
+-- a number in parentheses, where an opening one is there, is passed over
 abbrev pub width_after : List Token → Option (List Token) → Result (List Token) SchemaCode
 width_after words None = Ok words
 width_after words (Some rest) = do
@@ -36,7 +36,7 @@ width_after words (Some rest) = do
 unfoldable pub width_at : List Token → Result (List Token) SchemaCode
 width_at words = width_after words (after_sign (codes "(") words)
 
--- the integer kind, which is UNSIGNED where that word stands
+-- the integer kind, which is UNSIGNED where that word is there
 abbrev pub signed_kind : ℕ → List Token → Option (List Token) → Kind × List Token
 signed_kind bytes words None = (Int bytes false, words)
 signed_kind bytes words (Some rest) = (Int bytes true, rest)

@@ -49,7 +49,8 @@ words_or_none (Err fault) = []
 abbrev pub cut_at : ℕ → List ℕ → TextWords
 cut_at place text = record { words = words_or_none (words_of (take place text)); is_faulty = true }
 
--- All words of a text, or where it has a fault, those that stand before the first. (Running out of memory is no fault of a text.)
+-- All words of a text, or where it has a fault, those that come before the first. (Running out of memory is no fault of a
+-- text.)
 abbrev pub words_to : List ℕ → Result (List Reading) WordFault → TextWords
 words_to text (Ok words) = record { words = map token_of words; is_faulty = false }
 words_to text (Err (Unclosed place)) = cut_at place text

@@ -13,7 +13,7 @@ pub enum LiteralRef<'a> {
     Null,
     /// A whole number.
     Num(i128),
-    /// A text: what stands between its quotes, with its escapes and doubled quotes.
+    /// A text: what is between its quotes, with its escapes and doubled quotes.
     Text(&'a str),
     /// Bytes: the hexadecimal digits between the quotes.
     Blob(&'a str),

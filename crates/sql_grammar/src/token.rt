@@ -10,7 +10,7 @@ use sql_words::{Word, WordClass};
 pub struct Token {
     /// What sort of word it is.
     pub class: WordClass,
-    /// The word as it stands in the text, with its quotes.
+    /// The word as it is in the text, with its quotes.
     pub text: Chars,
 }
 

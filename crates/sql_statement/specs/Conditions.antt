@@ -26,7 +26,7 @@ equality_at words = do
   value ← operand_at rest
   Ok (record { column = column.0; value = value.0 }, value.1)
 
--- one more equality after AND, where AND stands
+-- one more equality after AND, where AND is there
 abbrev pub after_and : Option (List Token) → Result (Option (Set × List Token)) StatementCode
 after_and None = Ok None
 after_and (Some rest) = do

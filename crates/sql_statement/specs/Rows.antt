@@ -33,7 +33,7 @@ in_parentheses words (Some rest) = do
   rest ← sign_at (codes ")") names.1
   Ok (Some names.0, rest)
 
--- the columns in parentheses, where an opening one stands
+-- the columns in parentheses, where an opening one is there
 unfoldable pub columns_at : List Token → Read (Option (List (List ℕ)))
 columns_at words = in_parentheses words (after_sign (codes "(") words)
 

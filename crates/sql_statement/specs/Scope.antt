@@ -12,18 +12,18 @@ begins_statement word = is_keyword word (codes "INSERT") || is_keyword word (cod
 unfoldable pub bounds_transaction : Token → Bool
 bounds_transaction word = is_keyword word (codes "BEGIN") || is_keyword word (codes "START") || is_keyword word (codes "COMMIT") || is_keyword word (codes "ROLLBACK")
 
--- a word without quotes of what is left out, wherever it stands
+-- a word without quotes of what is left out, wherever it is
 unfoldable pub is_left_out : Token → Bool
 is_left_out word = is_keyword word (codes "JOIN") || is_keyword word (codes "ORDER") || is_keyword word (codes "LIMIT") || is_keyword word (codes "ON") || is_keyword word (codes "DEFAULT")
 
--- `)`, `,` and `(` stand at the front
+-- `)`, `,` and `(` are at the front
 abbrev pub begins_row : List Token → Bool
 begins_row [] = false
 begins_row (closing ∷ []) = false
 begins_row (closing ∷ (comma ∷ [])) = false
 begins_row (closing ∷ (comma ∷ (opening ∷ rest))) = same_sign closing (codes ")") && same_sign comma (codes ",") && same_sign opening (codes "(")
 
--- they stand somewhere
+-- they are somewhere
 unfoldable pub has_next_row : List Token → Bool
 has_next_row [] = false
 has_next_row (word ∷ rest) = begins_row (word ∷ rest) || has_next_row rest

@@ -73,7 +73,7 @@ abbrev pub numbered : ℕ → Option ScriptWord → List ScriptLine
 numbered line None = []
 numbered line (Some asked) = record { line = line; word = asked } ∷ []
 
--- lines count from 1, those without words too (and stand still at the greatest number of 32 bits)
+-- lines count from 1, those without words too (and stay at the greatest number of 32 bits)
 abbrev pub next_line : ℕ → ℕ
 next_line line = min (line + 1) (2 ^ 32 - 1)
 

@@ -56,7 +56,7 @@ listed_columns_at words = do
   names ← names_at words
   Ok (shown.Columns names.0, names.1)
 
--- COUNT is a function where an opening parenthesis stands after it, and a column's name elsewhere
+-- COUNT is a function where an opening parenthesis comes after it, and a column's name elsewhere
 abbrev pub count_or_columns : List Token → Option (List Token) → Read Shown
 count_or_columns words (Some rest) = count_at rest
 count_or_columns words None = listed_columns_at words

@@ -20,9 +20,9 @@ pub enum ScriptCode {
     Word,
     /// 41 and 42: its words are refused.
     Statement(StatementCode),
-    /// 43: BEGIN stands inside a transaction.
+    /// 43: BEGIN is inside a transaction.
     BeginInside,
-    /// 44: COMMIT or ROLLBACK stands outside a transaction.
+    /// 44: COMMIT or ROLLBACK is outside a transaction.
     EndOutside,
     /// 45: it is the last line, and leaves a transaction open.
     LeftOpen,

@@ -33,7 +33,7 @@ fn equality_at(alloc: Global, words: &[Token]) -> Result<(Set, &[Token]), Statem
     Ok((Set { column, value }, rest))
 }
 
-/// The equality after AND, where AND stands.
+/// The equality after AND, where AND is there.
 #[tactic(auto, unfolding(crate::specs::Conditions::and_equality_at))]
 fn and_equality_at(
     alloc: Global,

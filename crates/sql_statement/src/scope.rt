@@ -44,7 +44,7 @@ fn has_left_out(words: &[Token]) -> bool
     words.iter().any(|word| is_left_out(word))
 }
 
-/// Whether `)`, `,` and `(` stand at the front.
+/// Whether `)`, `,` and `(` are at the front.
 fn begins_row(words: &[Token]) -> bool
     ensures { result ≡ begins_row words.now }
 {
@@ -58,7 +58,7 @@ fn begins_row(words: &[Token]) -> bool
     }
 }
 
-/// Whether `)`, `,` and `(` stand somewhere.
+/// Whether `)`, `,` and `(` are somewhere.
 fn has_next_row(words: &[Token]) -> bool
     ensures { result ≡ has_next_row words.now }
 {

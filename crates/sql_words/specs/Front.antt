@@ -1,4 +1,4 @@
--- What stands at the front of a rest of a text.
+-- What is at the front of a rest of a text.
 use Rattle.std.specs.Prelude.{ℕ, ◌+◌, Bool, ◌&&◌, ◌||◌, not, ◌==◌, nat_eq, nat_lt, codes, if◌then◌else◌, List, drop, slice_index, Option, Some, None, Result, Ok, Err}
 use Rattle.std.specs.Option.{option_map}
 use Rattle.std.specs.List.{prefix_len, starts_with}
@@ -17,7 +17,7 @@ abbrev pub size_of : Front → ℕ
 size_of (Gap n) = n
 size_of (Found kind n) = n
 
--- how many bytes stand before the line's end, or the text's
+-- how many bytes come before the line's end, or the text's
 abbrev pub line_length : List ℕ → ℕ
 line_length bytes = prefix_len (λ b. not (is_line_end b)) bytes
 
@@ -33,7 +33,7 @@ begins_bytes bytes = starts_with nat_eq bytes (codes "x'") || starts_with nat_eq
 abbrev pub bytes_length : List ℕ → Option ℕ
 bytes_length bytes = if begins_bytes bytes then option_map (λ n. 2 + n) (length_of (bytes_inside (drop 2 bytes))) else None
 
--- an unquoted name, where no bytes stand at the front
+-- an unquoted name, where no bytes are at the front
 abbrev pub bytes_or_name : Option ℕ → ℕ → Front
 bytes_or_name (Some n) name = Found class.Bytes n
 bytes_or_name None name = Found class.Name name
@@ -59,7 +59,7 @@ sign_width bytes = if is_plus_or_minus (slice_index bytes 0) then 1 else 0
 abbrev pub begins_number : List ℕ → Bool
 begins_number bytes = is_ascii_digit (slice_index bytes (sign_width bytes))
 
--- how many digits stand after the sign
+-- how many digits come after the sign
 abbrev pub digit_count : List ℕ → ℕ
 digit_count bytes = prefix_len is_ascii_digit (drop (sign_width bytes) bytes)
 
@@ -73,7 +73,7 @@ number place bytes =
 abbrev pub sign_length : List ℕ → ℕ
 sign_length bytes = if is_angle (slice_index bytes 0) && slice_index bytes 1 == 61 then 2 else 1
 
--- What stands at the front of bytes that begin at this place of the text. (No byte is read as NUL, which begins nothing.)
+-- What is at the front of bytes that begin at this place of the text. (No byte is read as NUL, which begins nothing.)
 unfoldable pub front_at : ℕ → List ℕ → Result Front WordFault
 front_at place bytes =
     let first = slice_index bytes 0 in

@@ -21,7 +21,7 @@ is_text bytes = is_quote (slice_index bytes 0) && is_all (length_of (text_inside
 abbrev pub text_value : List ℕ → Option (List ℕ)
 text_value bytes = if is_text bytes then value_of (text_inside (slice_index bytes 0) (drop 1 bytes)) else None
 
--- what stands between a text's quotes, as it is written: with its escapes and doubled quotes
+-- what is between a text's quotes, as it is written: with its escapes and doubled quotes
 abbrev pub written_text : List ℕ → Option (List ℕ)
 written_text bytes = if is_text bytes then Some (take (length bytes - 2) (drop 1 bytes)) else None
 

@@ -1,4 +1,5 @@
--- What stands between quotes, and what it stands for. Source: MySQL 8.0 manual, "String Literals", "Hexadecimal Literals" and "Schema Object Names".
+-- What is between quotes, and what it stands for. Source: MySQL 8.0 manual, "String Literals", "Hexadecimal Literals" and
+-- "Schema Object Names".
 use Rattle.std.specs.Prelude.{ℕ, ◌+◌, ◌*◌, ◌&&◌, ◌||◌, ◌==◌, nat_lt, if◌then◌else◌, List, [], ◌∷◌, ◌++◌, length, take, Option, Some, None}
 use Rattle.std.specs.Option.{option_map}
 use Rattle.std.specs.List.{position_or_len}

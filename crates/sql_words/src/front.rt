@@ -1,4 +1,4 @@
-//! What stands at the front of a rest of a text.
+//! What is at the front of a rest of a text.
 
 ghost use Rattle.std.specs.Prelude.{◌≡◌, ◌<◌, ◌≤◌, ◌+◌, ◌^◌, length, IsTrue};
 ghost use Rattle.std.specs.Option.{ForSome};
@@ -13,7 +13,7 @@ use crate::characters::{
 use crate::quoted::{bytes_length, name_length, text_length};
 use crate::word::{WordClass, WordFault};
 
-/// What stands at the front of a rest of a text.
+/// What is at the front of a rest of a text.
 #[derive(Clone, Copy)]
 pub enum Front {
     /// White space or a comment, of so many bytes.
@@ -56,7 +56,7 @@ fn unquoted_length(bytes: &[u8]) -> usize
     bytes.iter().take_while(|byte| is_name_byte(**byte)).count()
 }
 
-/// Whether x' or X' stands at the front.
+/// Whether x' or X' is at the front.
 pub fn begins_bytes(bytes: &[u8]) -> bool
     ensures begins { result ≡ begins_bytes bytes.now }
     ensures long { IsTrue result → 2 ≤ length bytes.now }
@@ -130,7 +130,7 @@ fn sign_length(bytes: &[u8]) -> usize
     }
 }
 
-/// A quoted word whose opening quote stands at this place, by its length after that quote.
+/// A quoted word whose opening quote is at this place, by its length after that quote.
 fn quoted(place: usize, class: WordClass, inside: Option<usize>) -> Result<Front, WordFault>
     requires { ForSome inside (λ n. n + 1 < 2 ^ 64) }
     ensures { result ≡ quoted place class inside }

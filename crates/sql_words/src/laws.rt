@@ -13,7 +13,7 @@ ghost use Rattle.sql_words.specs.Reading.{with_word, words_after, words_of};
 ghost use Rattle.sql_words.specs.Meaning.{text_value, bytes_value, number_value, AreDigits};
 ghost use Rattle.sql_words.specs.Printed.{printed_text, printed_bytes};
 
-/// What stands at the front is the first word, and the others are those of what follows it.
+/// What is at the front is the first word, and the others are those of what follows it.
 pub fn words_follow_one_another()
     ensures { (class : WordClass) (place : ℕ) (word rest : List ℕ) → 0 < length word → front_at place (word ++ rest) ≡ Ok (Found class (length word)) → words_after 0 place (word ++ rest) ≡ with_word (record { class = class; text = word; place = place }) (words_after 0 (place + length word) rest) }
 {}

@@ -40,7 +40,7 @@ impl<'a> Word<'a> {
         unquoted(alloc, bytes[0], &self.text[1..])
     }
 
-    /// What stands between the quotes, as it is written, or None where the word is no text.
+    /// What is between the quotes, as it is written, or None where the word is no text.
     pub fn written_text(&self) -> Option<&'a str>
         ensures { option_map (λ text. text.now) result ≡ written_text self.now.text.now }
     {
@@ -179,7 +179,7 @@ fn plain_length(quote: u8, bytes: &[u8]) -> usize
         .count()
 }
 
-/// What stands between the quotes, from after the opening one, or None where none closes it.
+/// What is between the quotes, from after the opening one, or None where none closes it.
 fn unquoted(alloc: Global, quote: u8, text: &str) -> Result<Option<String>, AllocError>
     requires { IsTrue (is_quote quote) }
     ensures { IfOk result (λ found. option_map string_bytes found ≡ value_of (text_inside quote text.now)) }

@@ -6,7 +6,7 @@ ghost use Rattle.std.specs.Char.{is_ascii_hexdigit};
 ghost use Rattle.sql_words.specs.Characters.{begins_with};
 ghost use Rattle.sql_words.specs.Quoted.{length_of, text_inside, bytes_inside, name_inside};
 
-/// Whether this byte stands at this index.
+/// Whether this byte is at this index.
 pub fn stands_at(byte: u8, bytes: &[u8], at: usize) -> bool
     ensures { result ≡ begins_with byte (drop at bytes.now) }
 {
@@ -31,7 +31,7 @@ pub fn text_length(quote: u8, bytes: &[u8]) -> Option<usize>
     None
 }
 
-/// Whether two hexadecimal digits stand at this index.
+/// Whether two hexadecimal digits are at this index.
 pub fn is_pair(bytes: &[u8], at: usize) -> bool
     ensures { result ≡ (is_ascii_hexdigit (slice_index bytes.now at) && is_ascii_hexdigit (slice_index bytes.now (at + 1))) }
 {

@@ -25,7 +25,7 @@ pub enum WordClass {
 #[derive(Clone, Copy)]
 pub struct Word<'a> {
     pub class: WordClass,
-    /// The word as it stands in the text, with its quotes.
+    /// The word as it is in the text, with its quotes.
     pub text: &'a str,
     /// The byte of the text, counted from 0, at which the word begins.
     pub place: usize,

@@ -91,9 +91,9 @@ name_table name table = record { schema = record table.schema { name = name }; r
 abbrev pub with_name : List ℕ → List ℕ → Database → Database
 with_name old new tables = with_change old (name_table new) tables
 
--- The tables after RENAME TABLE, whose pairs are taken from left to right; or why none is renamed: at its pair a table
--- of the new name stands, or no table of the old name does (MySQL's manual, "RENAME TABLE Statement"; that the new name
--- is looked at first is this project's rule).
+-- The tables after RENAME TABLE, whose pairs are taken from left to right; or why none is renamed: at its pair a table of the
+-- new name exists, or no table of the old name does (MySQL's manual, "RENAME TABLE Statement"; that the new name is looked at
+-- first is this project's rule).
 unfoldable pub rename_tables : List Pair → Database → Result Database NotRenamed
 rename_tables [] tables = Ok tables
 rename_tables (pair ∷ pairs) tables =

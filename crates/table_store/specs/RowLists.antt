@@ -29,7 +29,7 @@ without_key places key rows = filter (λ row. not (is_at places key row)) rows
 abbrev pub comes_before : List ℕ → List Value → List Value → Bool
 comes_before places key row = is_gt (compare_keys key (key_of places row))
 
--- the row of this key stands at this place among the rows
+-- the row of this key is at this place among the rows
 pub record StandsAt (places : List ℕ) (key : List Value) (rows : List (List Value)) (place : ℕ) : Type 0 where
   pub within : place < length rows
   pub row : find (is_at places key) rows ≡ slice_get rows place

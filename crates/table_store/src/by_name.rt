@@ -14,7 +14,7 @@ use crate::table::Table;
 use base_values::{Duplicate, Name};
 use std::alloc::{AllocError, Global};
 
-/// How many tables stand before the one of this name.
+/// How many tables come before the one of this name.
 pub(crate) fn place_of(name: &Name, tables: &NameMap<Table>) -> usize
     requires { AreNamed tables.now }
     ensures { result ≡ prefix_len (λ stored. not (is_named name.now stored.table)) tables.now.values }

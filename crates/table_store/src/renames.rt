@@ -30,10 +30,10 @@ impl Duplicate for Pair {
 /// Why MySQL renames no table.
 #[derive(Clone, Copy, Debug, PartialEq, Eq, Error)]
 pub enum NotRenamed {
-    /// At its pair, a table of the new name stands already.
+    /// At its pair, a table of the new name exists already.
     #[error("a table of the new name stands already")]
     Stands,
-    /// At its pair, no table of the old name stands.
+    /// At its pair, no table of the old name exists.
     #[error("no table of the old name stands")]
     Missing,
 }

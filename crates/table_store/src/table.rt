@@ -67,7 +67,7 @@ impl Table {
         }
     }
 
-    /// The table of rows that stand in order of the clustered key.
+    /// The table of rows in order of the clustered key.
     pub fn from_rows(schema: Schema, rows: Rows) -> Table
         requires { Ascends (key_places schema) rows }
         ensures schema { result.table.schema ≡ schema }
@@ -79,7 +79,7 @@ impl Table {
         }
     }
 
-    /// What its columns and keys are. The rows stand in order of the clustered key.
+    /// What its columns and keys are. The rows are in order of the clustered key.
     pub fn schema(&self) -> &Schema
         ensures schema { result.now ≡ self.now.table.schema }
         ensures ascends { Ascends (key_places self.now.table.schema) self.now.table.rows }

@@ -138,7 +138,7 @@ impl Write for Shaky<'_> {
     }
 }
 
-/// What a source over the text takes in pieces of four bytes, with what stands in the buffer after each.
+/// What a source over the text takes in pieces of four bytes, with what is in the buffer after each.
 fn taken_of_text() -> ([Took; 3], [[u8; 4]; 2]) {
     let mut source = StdSource::new(TEXT);
     let mut buffer = [b'-'; 4];
@@ -173,7 +173,7 @@ fn readers_of_std_are_sources(rt: HostRuntime) -> Result<(), Fail> {
     Ok(())
 }
 
-/// What a sink over a buffer of two bytes gives of the text, twice, and what stands in it. A writer that is full takes nothing.
+/// What a sink over a buffer of two bytes gives of the text, twice, and what is in it. A writer that is full takes nothing.
 fn given_to_two() -> ([Gave; 2], [u8; 2]) {
     let mut room = [0; 2];
     let mut sink = StdSink::new(room.as_mut_slice());

@@ -22,7 +22,7 @@ fn push_found(into: &mut PlainTables, found: Option<&PlainTable>) -> Result<(), 
     }
 }
 
-/// The tables of these names but the leftovers, as they stand.
+/// The tables of these names but the leftovers, as they are.
 fn clients_of(
     alloc: Global,
     migrated: &Name,
@@ -41,7 +41,7 @@ fn clients_of(
     Ok(left)
 }
 
-/// The plan's tables but the leftovers, as they stand, in the plan's order: what a history is run on.
+/// The plan's tables but the leftovers, as they are, in the plan's order: what a history is run on.
 #[tactic(auto, unfolding(tool_program::specs::JournalWords::Serials::tables_left))]
 pub fn tables_left(
     alloc: Global,

@@ -58,7 +58,7 @@ fn result_of(
     })
 }
 
-/// What a statement says of its table: 1146 where it doesn't stand.
+/// What a statement says of its table: 1146 where it doesn't exist.
 fn says_in(
     alloc: Global,
     statement: &Statement,

@@ -1,5 +1,5 @@
 //! Calls of a program with plans, and the form in which files have cases of them. The program is a closure, so that this crate
-//! stands beside it: it is for programs that run cases, and no part of the tool.
+//! is beside it: it is for programs that run cases, and no part of the tool.
 #![tactic(auto)]
 
 mod cases;

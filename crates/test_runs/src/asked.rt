@@ -9,11 +9,11 @@ use test_program::{Case, Program, Ran, run};
 /// What is asked of a case.
 #[derive(Clone, Copy)]
 pub enum Asked {
-    /// That the call ends with the case's status and prints what stands there, and that one at a time gives the same.
+    /// That the call ends with the case's status and prints what is there, and that one at a time gives the same.
     Prints,
     /// That the run is as one at a time, and that the lines that stand there stand among those that it prints, in their order.
     HasLines,
-    /// That what stands there, a report altered by hand, isn't what one at a time gives.
+    /// That what is there, a report altered by hand, isn't what one at a time gives.
     TellsReport,
     /// That the run isn't one of the plan that stands there in place of a report.
     TellsPlan,
@@ -21,7 +21,7 @@ pub enum Asked {
     EndsAtEdges,
 }
 
-/// Whether a run ended with the case's status and printed what stands in the case.
+/// Whether a run ended with the case's status and printed what is in the case.
 fn is_written(alloc: Global, case: &Case<'_>, ran: &Ran) -> Result<bool, AllocError> {
     let status = format!(in alloc; "{}", ran.ended.status)?;
     Ok(status.as_str() == case.status && case.prints.as_slice() == ran.printed())
@@ -32,7 +32,7 @@ fn is_alone_where_run(alloc: Global, plan: &[u8], ran: &Ran) -> Result<bool, All
     Ok(ran.ended.journal.is_empty() || is_run_as_alone(alloc, plan, ran)?)
 }
 
-/// Whether a case prints what stands in it, with the status that stands there, and what one at a time gives.
+/// Whether a case prints what is in it, with the status that stands there, and what one at a time gives.
 fn is_printed(alloc: Global, program: &Program, case: &Case<'_>) -> Result<bool, AllocError> {
     let plan = case.plan.as_slice();
     let ran = run(alloc, program, case.words, plan)?;

@@ -1,5 +1,5 @@
--- *Causes*: what a verdict of revert names stands in the journal, by the turn's entry and by how far the server and the
--- tool were before it.
+-- *Causes*: what a verdict of revert names is in the journal, by the turn's entry and by how far the server and the tool were
+-- before it.
 use Rattle.std.specs.Prelude.{◌≡◌, ◌≢◌, ℕ, zero, suc, ◌+◌, ◌-◌, ◌<◌, ◌==◌, Bool, true, false, ◌||◌, ◌&&◌, List, [], ◌∷◌, take, length, filter, reverse, Option, Some, None, ◌⊎◌, AllPairs, Err}
 use Rattle.std.specs.List.{slice_get, AllByRecursion}
 use Rattle.base_values.specs.declared.value.Value.{Value}
@@ -68,7 +68,7 @@ waited_for polls [] = false
 waited_for zero (entry ∷ earlier) = is_call entry.asked && is_wait entry.answer
 waited_for (suc polls) (entry ∷ earlier) = is_poll entry.asked && is_wait entry.answer && waited_for polls earlier
 
--- *Waited*: the wait was over after as many polls as the plan lets the tool wait, and these stand in the journal
+-- *Waited*: the wait was over after as many polls as the plan lets the tool wait, and these are in the journal
 pub record IsWaited (plan : PlanData) (journal : List Entry) (turn : ℕ) (entry : Entry) : Type 0 where
   pub over : entry.answer ≡ answers.TimedOut plan.options.tool_wait
   pub polls : waited_for (plan.options.tool_wait - 1) (reverse (filter (λ other. other.session == entry.session) (take (turn - 1) journal))) ≡ true
@@ -155,7 +155,7 @@ pub record IsUnfit (plan : PlanData) (journal : List Entry) (turn : ℕ) (key : 
   pub refuses : converted_row (new_map plan) row ≡ Err (record { column = place; unfit = unfit })
   pub numbered : error_number unfit ≡ number
 
--- *Cause*: it stands in the journal
+-- *Cause*: it is in the journal
 unfoldable pub Stands : PlanData → List Entry → Cause → Type 0
 Stands plan journal (causes.Unfit turn key column number) = IsUnfit plan journal turn key column number
 Stands plan journal (causes.Spent task turns) = IsSpent plan journal task turns

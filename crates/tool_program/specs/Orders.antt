@@ -47,7 +47,7 @@ pub record Queue : Type 0 where
   pub words : List Actor
   pub round : List Actor
 
--- the plan's words, each as often as it stands
+-- the plan's words, each as often as it is there
 unfoldable pub words_in : PlanData → List Actor
 words_in plan = flat_map (λ run. repeat run.times (run.actor ∷ [])) plan.turns
 

@@ -48,8 +48,8 @@ copy_call plan state journal tool work =
 abbrev pub unread_in : State → Work → ℕ
 unread_in state work = unread state work.applier.position (work.applier.table ∷ log_name work.applier.table ∷ [])
 
--- A batch begins where something is unread. While no attempt stands it doesn't where the tool is throttled; while one
--- stands, it doesn't once the RENAME was asked for.
+-- A batch begins where something is unread. While no attempt is under way it doesn't where the tool is throttled; while one is
+-- under way, it doesn't once the RENAME was asked for.
 abbrev pub is_held : PlanData → State → Tool → Work → Bool
 is_held plan state tool work = if stands work.cutover.phase then work.cutover.is_asked else is_throttled plan state tool.operator
 

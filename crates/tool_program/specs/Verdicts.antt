@@ -18,7 +18,7 @@ use Rattle.tool_program.specs.CutoverCore.CutOvers.{stands}
 use Rattle.tool_program.specs.CutoverCore.CutOvers as cutovers
 use Rattle.tool_program.specs.Tools.{Course, SettingUp, Migrating, Reason, CopyUnfit, ApplyUnfit, Spent, Panicked, Tool, Moment, is_renamed, is_reverting, moment}
 
--- no attempt stands
+-- no attempt is under way
 abbrev pub is_calm : Course → Bool
 is_calm (SettingUp setup tries) = true
 is_calm (Migrating work) = not (stands work.cutover.phase)
@@ -52,8 +52,8 @@ cause_of plan journal tool (ApplyUnfit turn place number) = causes.Unfit turn (a
 cause_of plan journal tool (Spent task turns) = causes.Spent task turns
 cause_of plan journal tool (Panicked turn) = causes.Panic turn
 
--- the first ground that was taken (Of several at one turn a row that didn't fit stands first, then a batch, then the
--- cut-over: the order in which a turn is taken.)
+-- the first ground that was taken (Of several at one turn a row that didn't fit comes first, then a batch, then the cut-over:
+-- the order in which a turn is taken.)
 abbrev pub reverted_by : PlanData → List Entry → Tool → Option Reason → Verdict
 reverted_by plan journal tool None = verdicts.Unfinished
 reverted_by plan journal tool (Some reason) = verdicts.Reverted (cause_of plan journal tool reason)

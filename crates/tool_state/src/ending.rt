@@ -7,7 +7,7 @@ ghost use Rattle.tool_state.specs.ToolState.Meanings.{course_of, tool_of};
 
 use crate::tool_state::Tool;
 
-/// Whether no attempt stands.
+/// Whether no attempt is under way.
 fn is_calm(tool: &Tool) -> bool
     ensures { result ≡ is_calm (course_of tool.now) }
 {

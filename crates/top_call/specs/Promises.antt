@@ -112,8 +112,8 @@ pub record PrintsRefusal (words : List (List ℕ)) (source : Taking) (sink : Giv
   pub given : Appends sink.before sink.after (refused_text refusal)
   pub untaken : IsUntaken turns journal
 
--- Status 3: the report says why the migration was reverted, and that cause stands in the journal: a row that didn't fit, tries
--- that failed, or panic.
+-- Status 3: the report says why the migration was reverted, and that cause is in the journal: a row that didn't fit, tries that
+-- failed, or panic.
 pub record PrintsRevert (words : List (List ℕ)) (source : Taking) (sink : Giving) (turns : List Turn) (journal : List Entry) : Type 0 where
   pub told : PlanCommand
   pub command_is : command words ≡ Some (asked told)

@@ -124,7 +124,7 @@ fn doing<R: Threads + Wait + Sync, S: Source, K: Sink, G: Gate + Sync>(
     }
 }
 
-/// The laws that the top call stands on.
+/// The laws on which the top call stands.
 fn laws_stand()
     ensures { Laws }
 {

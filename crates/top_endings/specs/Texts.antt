@@ -8,7 +8,7 @@ use Rattle.plan_reader.specs.Refusals.{refusal_code, refusal_place}
 use Rattle.top_endings.specs.declared.printed.Printed.{Printed}
 use Rattle.top_endings.specs.declared.status.Status.TheVariants as statuses
 
--- where a refusal stands: ` table 1 row 5`
+-- where a refusal is: ` table 1 row 5`
 unfoldable pub place_text : Place → List ℕ
 place_text Nowhere = []
 place_text (Table table) = codes " table " ++ decimal table

@@ -18,7 +18,7 @@ fn push_numbered(into: &mut Text, word: &str, number: u32) -> Result<(), AllocEr
     into.push_number(i128::from(number))
 }
 
-/// Adds where a refusal stands.
+/// Adds where a refusal is.
 #[tactic(auto, unfolding(crate::specs::Texts::place_text))]
 fn push_place(into: &mut Text, place: Place) -> Result<(), AllocError>
     ensures { OnOk result (into.new ≡ into.old ++ place_text place) }

@@ -16,8 +16,8 @@ use Rattle.top_report.specs.Turns.{turns_text}
 abbrev pub where_shown : Bool → List ℕ → List ℕ
 where_shown shown text = if shown then text else []
 
--- *Report*: the verdict; what each client got; the plan's tables but the leftovers as they are left; the names of all
--- tables that stand; the history; and the turns.
+-- *Report*: the verdict; what each client got; the plan's tables but the leftovers as they are left; the names of all tables
+-- that exist; the history; and the turns.
 unfoldable pub report : PlanData → List Entry → Verdict → Database → List ℕ
 report plan journal verdict tables =
     verdict_line verdict

@@ -7,13 +7,13 @@ use Rattle.plan_data.specs.declared.runs.ActorRun.{ActorRun}
 use Rattle.top_report.specs.declared.turns.OpenRun.{OpenRun}
 use Rattle.top_report.specs.Turns.{run_text, runs_of}
 
--- the runs of these turns, where so many of an actor stand before them
+-- the runs of these turns, where so many of an actor come before them
 unfoldable pub runs_after : Actor → ℕ → List Actor → List ActorRun
 runs_after actor times [] = record { actor = actor; times = times } ∷ []
 runs_after actor times (other ∷ actors) =
     if same_actor actor other then runs_after actor (times + 1) actors else record { actor = actor; times = times } ∷ runs_after other 1 actors
 
--- the same, where none may stand before them
+-- the same, where none may come before them
 abbrev pub runs_open : Option OpenRun → List Actor → List ActorRun
 runs_open None actors = runs_of actors
 runs_open (Some run) actors = runs_after run.actor run.times actors

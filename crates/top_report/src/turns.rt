@@ -80,7 +80,7 @@ fn push_before(into: &mut Text, before: Option<OpenRun>, actor: Actor) -> Result
     }
 }
 
-/// The run that a turn is of, where this one stands before it.
+/// The run that a turn is of, where this one comes before it.
 fn run_with(before: Option<OpenRun>, actor: Actor) -> OpenRun
     requires { IfSome before (λ run. run.times < 2 ^ 63) }
     ensures { result ≡ run_with before actor }

@@ -44,6 +44,6 @@ abbrev pub told : Option (Text × List Row) → Option Command
 told None = None
 told (Some matches) = command_told matches.0 (first_of (codes "workers") matches.1) (first_of (codes "number") matches.1)
 
--- the word after which `clap` takes any word as it stands
+-- the word after which `clap` takes any word as it is
 abbrev pub is_escape : Text → Bool
 is_escape word = bytes_eq word (codes "--")

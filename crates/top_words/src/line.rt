@@ -26,7 +26,7 @@ impl Model for Line {
     ghost view = { λ l. map string_bytes l.words.items };
 }
 
-/// Whether a word is `--`, after which `clap` would take any word as it stands.
+/// Whether a word is `--`, after which `clap` would take any word as it is.
 fn has_escape(words: &[String]) -> bool
     ensures { result ≡ list_any (λ word. is_escape (string_bytes word)) words.now }
 {

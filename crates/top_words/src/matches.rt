@@ -20,7 +20,7 @@ const NUMBER: &str = "number";
 /// How many workers a run has where nothing is said.
 const USUAL_WORKERS: u32 = 4;
 
-/// `run`, whose number stands after `--workers`.
+/// `run`, whose number comes after `--workers`.
 fn run_parser<'a>(alloc: Global) -> Result<Parser<'a>, AllocError>
     ensures app { IfOk result (λ parser. app_of parser ≡ run_app) }
     ensures local { IfOk result (λ parser. (out-Command parser).has_globals ≡ false) }
@@ -29,7 +29,7 @@ fn run_parser<'a>(alloc: Global) -> Result<Parser<'a>, AllocError>
     Parser::new(alloc, "run").arg(workers)
 }
 
-/// `generate`, whose number stands alone.
+/// `generate`, whose number is alone.
 fn generate_parser<'a>(alloc: Global) -> Result<Parser<'a>, AllocError>
     ensures app { IfOk result (λ parser. app_of parser ≡ generate_app) }
     ensures local { IfOk result (λ parser. (out-Command parser).has_globals ≡ false) }

@@ -7,7 +7,7 @@ const MULTIPLIER: u64 = 6_364_136_223_846_793_005;
 
 const INCREMENT: u64 = 1_442_695_040_888_963_407;
 
-/// Where the draws stand.
+/// Where the draws are.
 #[derive(Drop)]
 pub(crate) struct Draws {
     pub(crate) state: u64,

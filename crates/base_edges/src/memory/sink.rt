@@ -59,7 +59,7 @@ impl Sink for BytesSink {
 
     ghost faults = { λ s. s.faults };
 
-    /// Takes as much of the piece as stands before the fault, or fails, being out of memory.
+    /// Takes as much of the piece as comes before the fault, or fails, being out of memory.
     fn give(&mut self, piece: &[u8]) -> Gave
         // What every sink says.
         ensures some { IfGiven result (λ n. 0 < length piece.now → 0 < n) }

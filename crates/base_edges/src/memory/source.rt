@@ -56,7 +56,7 @@ impl Source for BytesSource {
 
     ghost faults = { λ s. s.faults };
 
-    /// Gives as many bytes as there is room for, as are left, and as stand before the fault.
+    /// Gives as many bytes as there is room for, as are left, and as come before the fault.
     #[tactic(auto, using(crate::proofs::Buffers::copied_then_rest))]
     fn take(&mut self, into: &mut [u8]) -> Took
         requires { 0 < length into.old }

@@ -14,8 +14,8 @@ is_not_null None = false
 abbrev pub may_cluster : List Column → Index → Bool
 may_cluster columns index = is_none index.name || list_all (λ place. is_not_null (slice_get columns place)) index.places
 
--- The first of these unique keys that may cluster rows of these columns: the PRIMARY KEY, which stands first, else the
--- first whose columns are all NOT NULL.
+-- The first of these unique keys that may cluster rows of these columns: the PRIMARY KEY, which comes first, else the first
+-- whose columns are all NOT NULL.
 unfoldable pub clustered_among : List Column → List Index → Option ℕ
 clustered_among columns uniques = position (may_cluster columns) uniques
 

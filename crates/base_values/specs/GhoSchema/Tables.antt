@@ -18,7 +18,7 @@ IsRow [] [] = Unit {0}
 IsRow (column ∷ columns) (value ∷ values) = (stores value column.kind column.nullable ≡ Ok value) × IsRow columns values
 IsRow columns values = ⊥
 
--- The rows stand in order of the key at these places, and no two have one key (MySQL's manual, "Clustered and Secondary
+-- The rows are in order of the key at these places, and no two have one key (MySQL's manual, "Clustered and Secondary
 -- Indexes").
 abbrev pub Ascends : List ℕ → List (List Value) → Type 0
 Ascends places [] = Unit {0}
@@ -42,8 +42,8 @@ abbrev pub Apart : List Index → List (List Value) → Type 0
 Apart uniques [] = Unit {0}
 Apart uniques (row ∷ rows) = AllByRecursion (λ other. clash uniques row other ≡ false) rows × Apart uniques rows
 
--- *Table*: each row is one of the schema's columns, the rows stand in order of the clustered key, no two with one key,
--- and no two clash.
+-- *Table*: each row is one of the schema's columns, the rows are in order of the clustered key, no two with one key, and no two
+-- clash.
 pub record IsTable (schema : Schema) (rows : List (List Value)) : Type 0 where
   pub rows_fit : AllByRecursion (IsRow schema.columns) rows
   pub ascends : Ascends (key_places schema) rows

@@ -17,7 +17,7 @@ differ_from before (name ∷ names) = not (is_among before name) && differ_from 
 abbrev pub names_differ : List (List ℕ) → Bool
 names_differ names = differ_from [] names
 
--- the first place at which the name stands
+-- the first place at which the name is
 unfoldable pub place_of : List (List ℕ) → List ℕ → Option ℕ
 place_of names name = position (λ known. same_name known name) names
 

@@ -8,7 +8,7 @@ pub enum Clause {
     Add {
         /// The added column.
         column: NewColumn,
-        /// Where it stands.
+        /// Where it is.
         column_position: ColumnPosition,
     },
     /// DROP COLUMN.
@@ -26,7 +26,7 @@ pub enum Clause {
         old: Name,
         /// What it is afterwards.
         column: NewColumn,
-        /// Where it stands.
+        /// Where it is.
         column_position: ColumnPosition,
     },
     /// ADD INDEX.

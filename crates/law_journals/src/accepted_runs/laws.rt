@@ -31,7 +31,7 @@ pub fn accepted_runs_are_serial()
 }
 
 /// Its clients' statements find the migrated table, whenever they are asked: the RENAME takes its name and gives it in one
-/// step. From then on the old table, while it stands, is what it was just before.
+/// step. From then on the old table, while it exists, is what it was just before.
 pub fn accepted_runs_keep_tables()
     ensures found { AcceptedRunsFindTheTable }
     ensures old { AcceptedRunsKeepTheOldTable }
@@ -48,7 +48,7 @@ pub fn accepted_runs_keep_tables()
     read_plans_are_worded();
 }
 
-/// It is online, and goes on until it has ended; and where all was reverted, the cause that the verdict names stands in the
+/// It is online, and goes on until it has ended; and where all was reverted, the cause that the verdict names is in the
 /// journal: a row that didn't fit, tries that failed, or panic.
 pub fn accepted_runs_go_on()
     ensures online { AcceptedRunsAreOnline }

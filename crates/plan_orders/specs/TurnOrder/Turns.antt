@@ -41,7 +41,7 @@ if_among clients (Some run) = if is_among clients run.actor then Some run else N
 abbrev pub run_among : ℕ → List ℕ → Option ActorRun
 run_among clients word = if_among clients (run_of word)
 
--- words count from 1 (and stand still at the greatest number of 32 bits)
+-- words count from 1 (and stay at the greatest number of 32 bits)
 abbrev pub next_word : ℕ → ℕ
 next_word word = min (word + 1) (2 ^ 32 - 1)
 

@@ -17,7 +17,7 @@ value_at column words = do
   value ← result_ok (stores literal.0 column.kind column.nullable)
   Some (value, literal.1)
 
--- a parenthesis stands in front of the first value, and a comma in front of each other
+-- a parenthesis comes before the first value, and a comma in front of each other
 abbrev pub mark : Bool → List ℕ
 mark true = codes "("
 mark false = codes ","

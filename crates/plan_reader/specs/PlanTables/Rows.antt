@@ -23,7 +23,7 @@ abbrev pub or_bad : {A : Type 0} → ℕ → Option A → Result A ℕ
 or_bad row (Some found) = Ok found
 or_bad row None = Err row
 
--- rows and tables count from 1 (and stand still at the greatest number of 32 bits)
+-- rows and tables count from 1 (and stay at the greatest number of 32 bits)
 abbrev pub next_number : ℕ → ℕ
 next_number number = min (number + 1) (2 ^ 32 - 1)
 

@@ -88,7 +88,7 @@ fn put_texts(
     Ok(table)
 }
 
-/// The rows of a table that stands in pages, in one list.
+/// The rows of a table in pages, in one list.
 fn listed_rows(alloc: Global, mut rows: SpanRows<'_>) -> Result<Vec<Row>, AllocError>
     ensures { IfOk result (λ copy. copy.items ≡ rows.entry) }
 {

@@ -47,7 +47,7 @@ pub record IsCopyEnd (now : ToolMoment) : Type 0 where
   pub copied : now.copy ≡ Waiting None
   pub applied : now.position ≡ length now.stored.log
 
--- *Altered*: of both tables as they stand, the new one's rows are the migrated one's, converted, row by row.
+-- *Altered*: of both tables as they are, the new one's rows are the migrated one's, converted, row by row.
 pub record IsAltered (m : Migration) (tables : Database) : Type 0 where
   pub rows : List Row
   pub made : List Row

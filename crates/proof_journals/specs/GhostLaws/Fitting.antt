@@ -8,7 +8,7 @@ use Rattle.server_model.specs.Jobs.{change_table}
 use Rattle.server_model.specs.StatementLaws.Agreeing.{Agree}
 use Rattle.server_model.specs.StatementLaws.Databases.{IsWellFormedDatabase, WhereFound}
 
--- *Each event fits the tables as they then are*: what it takes out stands there, and what it writes is a row that clashes with
+-- *Each event fits the tables as they then are*: what it takes out is there, and what it writes is a row that clashes with
 -- none.
 unfoldable pub EventsFit : Database → List RowEvent → Type 0
 EventsFit tables [] = Unit {0}

@@ -195,7 +195,7 @@ ChunkBegins =
     → ToolInvariant m at rows (Waiting (Some (record { low = low; high = Closed top }))) apply progress ghost copier applier now hold → Besides copier hold holds own → Within (hold copier).locks own.locks → Apart own.locks (hold applier).locks → own.writes ≡ (hold copier).writes → InChunk m at rows now own low high keys
     → ToolInvariant m at rows (Taking low high top keys 0) apply progress ghost copier applier now holds
 
--- *A row stands at each key that was read*, as long as the chunk is open.
+-- *There is a row at each key that was read*, as long as the chunk is open.
 abbrev pub ToldKeysStand : Type 0
 ToldKeysStand =
     (m : Migration) (at : Clustered m.schema) (rows : List Row) (low : Bound) (high top : Row) (keys : List Row) (n : ℕ) (apply : ApplyState) (progress : Progress Row) (ghost : GhostRows) (copier applier : ℕ) (now : Stored) (hold : ℕ → SessionHold) (k : ℕ) (key : Row) → IsPlanned m rows

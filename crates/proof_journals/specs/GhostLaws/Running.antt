@@ -97,7 +97,7 @@ NoRowSeen m now applier key = (seen : List Row) → find_table m.new.name (after
 abbrev pub KeepsNames : SessionHold → SessionHold → Type 0
 KeepsNames before after = (name : List ℕ) → list_any (bytes_eq name) before.names ≡ true → list_any (bytes_eq name) after.names ≡ true
 
--- *A turn* leads from one moment to the next, where the new table's clustered key stands at this place.
+-- *A turn* leads from one moment to the next, where the new table's clustered key is at this place.
 pub data ToolTurn (m : Migration) (at : Clustered m.schema) (rows : List Row) (place copier applier : ℕ) (before after : ToolMoment) : Type 0 where
   -- another session commits what it wrote in its transaction; is granted a single statement, and commits at once; goes on, or is
   -- lost; and other tables are made, dropped or renamed

@@ -112,6 +112,6 @@ start_places position now = record { position = position; reached = position; en
 abbrev pub no_ghost : GhostRows
 no_ghost = record { committed = []; batch = []; chunk = [] }
 
--- a row that stands at this key
+-- a row at this key
 abbrev pub SomeRow : List ℕ → Row → List Row → Type 0
 SomeRow places key all = (row : Row) × (find (is_at places key) all ≡ Some row)

@@ -123,6 +123,6 @@ pub record TellsAlter (plan : PlanData) (journal : List Entry) : Type 0 where
   pub done : list_any is_alter (history plan journal) ≡ true → verdict_of plan journal ≡ verdicts.Done
   pub reverted : list_any is_alter (history plan journal) ≡ false → (cause : Cause) × (verdict_of plan journal ≡ verdicts.Reverted cause)
 
--- *Verdicts tell the ALTER* of a fitting plan whose migrated table stands, once the run has ended.
+-- *Verdicts tell the ALTER* of a fitting plan whose migrated table exists, once the run has ended.
 abbrev pub VerdictsTellTheAlter : Type 0
 VerdictsTellTheAlter = (plan : PlanData) (journal : List Entry) → IsFitting plan → TableStands plan → IsFaithful plan journal → Follows plan journal → has_ended plan journal ≡ true → TellsAlter plan journal

@@ -6,8 +6,8 @@ use Rattle.proof_journals.specs.MachineLaws.Forming.{IsFitting}
 use Rattle.proof_journals.specs.MachineLaws.Tabling.{TableStands}
 use Rattle.proof_journals.specs.MachineLaws.Keying.{IsMapped}
 
--- *Runnable plan*: a fitting one, whose tables are tables with clustered keys, whose migrated table stands among them, and
--- whose map is of that table and of the new one. (What a plan's reader asks of it, and what an ALTER that is taken leaves.)
+-- *Runnable plan*: a fitting one, whose tables are tables with clustered keys, whose migrated table is among them, and whose
+-- map is of that table and of the new one. (What a plan's reader asks of it, and what an ALTER that is taken leaves.)
 pub record IsRunnable (plan : PlanData) : Type 0 where
   pub fitting : IsFitting plan
   pub tables : AllByRecursion IsWellFormedTable plan.tables

@@ -6,7 +6,7 @@ use Rattle.base_script.specs.declared.script.ScriptWord.{ScriptWord}
 use Rattle.base_script.specs.declared.script.ScriptWord.TheVariants as words
 use Rattle.plan_data.specs.PlanData.{PlanData}
 
--- BEGIN stands outside a transaction, COMMIT and ROLLBACK inside
+-- BEGIN is outside a transaction, COMMIT and ROLLBACK inside
 abbrev pub WordFits : Bool → ScriptWord → Type 0
 WordFits inside words.Begin = inside ≡ false
 WordFits inside words.Commit = inside ≡ true

@@ -21,7 +21,7 @@ schema_of name tables = option_map (λ table. table.schema) (find_table name tab
 abbrev pub ghost_schema : PlanData → Schema
 ghost_schema plan = record (new_schema plan) { name = ghost_name plan.table }
 
--- the migrated table is as it was, and the new one stands
+-- the migrated table is as it was, and the new one exists
 pub record TablesStand (plan : PlanData) (tables : Database) : Type 0 where
   pub old : schema_of plan.table tables ≡ Some (old_schema plan)
   pub ghost : schema_of (ghost_name plan.table) tables ≡ Some (ghost_schema plan)
@@ -56,6 +56,6 @@ abbrev pub CourseTables : PlanData → Database → (Actor → Standing) → Cou
 CourseTables plan tables has (SettingUp setup tries) = SetupTables plan tables has setup
 CourseTables plan tables has (Migrating work) = WorkTables plan tables has work
 
--- the plan's migrated table stands
+-- the plan's migrated table exists
 abbrev pub TableStands : PlanData → Type 0
 TableStands plan = schema_of plan.table plan.tables ≡ Some (old_schema plan)

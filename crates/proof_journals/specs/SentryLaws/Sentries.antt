@@ -26,8 +26,8 @@ use Rattle.tool_program.specs.declared.cutover_core.cutover.Hold.{Hold}
 use Rattle.tool_program.specs.declared.cutover_core.cutover.Hold.TheVariants.{Locks, WaitsToLock, WaitsToGuard, Nothing}
 use Rattle.tool_program.specs.declared.cutover_core.cutover.Clearing.TheVariants.{Drops, Looking}
 
--- what of the server bears on the exchange: the tables that stand, the names that are held, the requests that wait for
--- names exclusively, and the log
+-- what of the server bears on the exchange: the tables that exist, the names that are held, the requests that wait for names
+-- exclusively, and the log
 pub record Scene : Type 0 where
   pub tables : Database
   pub held : List HeldName
@@ -87,7 +87,7 @@ pub record MayExchange (table : List ℕ) (scene : Scene) (copier : Copier) (app
   pub alone : IsAlone table scene.held session
   pub drained : IsDrained table scene.log copier applier
 
--- once the sentry is made: it stands
+-- once the sentry is made: it exists
 pub record AfterSentry (table : List ℕ) (scene : Scene) : Type 0 where
   pub sentry : HasSentry table scene
 

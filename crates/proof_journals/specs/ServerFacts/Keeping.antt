@@ -14,12 +14,12 @@ use Rattle.proof_journals.specs.Scenes.{no_hold}
 use Rattle.proof_journals.specs.Holdings.{Face, face_of, OneHolder}
 use Rattle.proof_journals.specs.GhostLaws.Fitting.{IsFitting}
 
--- the table of each event stands
+-- the table of each event exists
 abbrev pub AllStand : Database → List RowEvent → Type 0
 AllStand tables events = AllByRecursion (λ event. is_some (find_table event.table tables) ≡ true) events
 
 -- What a session holds and wrote goes with the tables: outside a transaction it holds nothing but tables that it locked; what
--- it wrote fits, whatever others commit under their own locks; its locks cover that; and its tables stand.
+-- it wrote fits, whatever others commit under their own locks; its locks cover that; and its tables exist.
 pub record OwnFits (tables : Database) (face : Face) : Type 0 where
   pub rests : face.busy ≡ false → face.hold ≡ no_hold
   pub fitting : IsFitting face.hold.names face.hold.locks face.hold.writes tables

@@ -1,4 +1,4 @@
--- What a turn of a session does to names that are held, to requests that wait, to the log and to the tables that stand.
+-- What a turn of a session does to names that are held, to requests that wait, to the log and to the tables that exist.
 use Rattle.std.specs.Prelude.{◌≡◌, ◌⊎◌, ℕ, ◌==◌, Bool, true, false, ◌&&◌, List, [], ◌∷◌, ◌++◌, Option, Some, None, Result, Ok}
 use Rattle.std.specs.List.{AllByRecursion, list_any, flat_map}
 use Rattle.base_values.specs.declared.event.RowEvent.{RowEvent}

@@ -1,2 +1,2 @@
--- That what a verdict names stands in the journal: each function's contract is a law.
+-- That what a verdict names is in the journal: each function's contract is a law.
 pub mod Laws

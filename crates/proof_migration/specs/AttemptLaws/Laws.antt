@@ -17,6 +17,6 @@ pub record IsWaiting (cutover : CutOver) : Type 0 where
   pub guards : cutover.phase ≡ Attempting Guarding → cutover.hold ≡ WaitsToGuard
   pub exchanges : cutover.phase ≡ Attempting Exchanging → cutover.renamer_waits ≡ true
 
--- *Attempts wait*: so does each, after every journal of a fitting plan whose migrated table stands.
+-- *Attempts wait*: so does each, after every journal of a fitting plan whose migrated table exists.
 abbrev pub AttemptsWait : Type 0
 AttemptsWait = (plan : PlanData) (journal : List Entry) (work : Work) → IsFitting plan → TableStands plan → IsFaithful plan journal → Follows plan journal → (moment plan journal).tool.course ≡ Migrating work → IsWaiting work.cutover

@@ -1,2 +1,2 @@
--- A revert's cause stands in the journal: each function's contract is a law.
+-- A revert's cause is in the journal: each function's contract is a law.
 pub mod Laws

@@ -13,7 +13,7 @@ use server_model::{Answer, KeyRange};
 use std::alloc::{AllocError, Global};
 use table_store::paged_tables::Tables;
 
-/// The range of the table of this name; none where it has no row, or doesn't stand.
+/// The range of the table of this name; none where it has no row, or doesn't exist.
 #[tactic(auto, using(crate::proofs::RunTurns::Ranging::range_by_ends))]
 fn range_in(alloc: Global, name: &Name, tables: &Tables) -> Result<Option<KeyRange>, AllocError>
     ensures { IfOk result (λ range. range ≡ range_in name.now (database tables.now)) }

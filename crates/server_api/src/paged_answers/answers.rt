@@ -1,4 +1,4 @@
-//! What is answered of one committed table, or that it doesn't stand.
+//! What is answered of one committed table, or that it doesn't exist.
 
 ghost use Rattle.std.specs.Prelude.{◌≡◌, option_map, IfOk};
 ghost use Rattle.base_values.specs.GhoSchema.Rows.{key_places};
@@ -50,7 +50,7 @@ pub fn end_of_chunk(
     }
 }
 
-/// The keys of a span of the table, so many at most, and where the chunk ends; none where the table doesn't stand.
+/// The keys of a span of the table, so many at most, and where the chunk ends; none where the table doesn't exist.
 pub fn keys_of_span(
     alloc: Global,
     tables: &Tables,
@@ -66,7 +66,7 @@ pub fn keys_of_span(
     }
 }
 
-/// Whether tables of all these names stand.
+/// Whether tables of all these names exist.
 pub fn all_stand(tables: &Tables, names: &[Name]) -> bool
     ensures { result ≡ all_stand names.now (database tables.now) }
 {

@@ -36,7 +36,7 @@ ask_at granted waiting mark = record { session = mark.session; exclusive = mark.
 abbrev pub table_of : List Request → List Waiter → Option Mark → NameTable
 table_of granted waiting last = record { held = all_locks granted; waiting = waiting; last = option_map (ask_at granted waiting) last }
 
--- What stands there once a request was taken from its place, that puts it back without memory.
+-- What is there once a request was taken from its place, that puts it back without memory.
 abbrev pub StepIsRoomy : Step → ℕ → Vec Request Global → Vec Waiter Global → Type 0
 StepIsRoomy (steps.Asked n) before granted waiting = Unit {0}
 StepIsRoomy (steps.Polled place) before granted waiting = (before + 1 ≡ vec_len granted) × (place ≤ vec_len waiting) × (vec_len waiting < vec_capacity waiting)

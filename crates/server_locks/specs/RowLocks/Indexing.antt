@@ -78,7 +78,7 @@ abbrev pub Rises : (ℕ → ℕ → Ordering) → List ℕ → Type 0
 Rises cmp [] = Unit {0}
 Rises cmp (place ∷ places) = AllByRecursion (λ other. is_gt (cmp place other) ≡ false) places × Rises cmp places
 
--- the locks at these places have spans of one key, and stand in order
+-- the locks at these places have spans of one key, and are in order
 pub record ArePoints (locks : List Lock) (places : List ℕ) : Type 0 where
   pub are : AllByRecursion (λ place. is_point_lock (slice_get locks place) ≡ true) places
   pub rises : Rises (compare_at locks) places

@@ -174,7 +174,7 @@ impl MetaLocks {
         }
     }
 
-    /// Asks again for the session's request, which stands at this place.
+    /// Asks again for the session's request, which is at this place.
     fn poll_at(&mut self, session: u32, place: usize) -> LockAnswer
         requires { IsAt session self.old.waiting place }
         ensures answer { result ≡ answer_by (blocker_of_poll self.old session) }
@@ -190,7 +190,7 @@ impl MetaLocks {
         }
     }
 
-    /// Grants the session's request, which stands at this place, and for which `ask` has made the room.
+    /// Grants the session's request, which is at this place, and for which `ask` has made the room.
     fn grant_waiter(&mut self, session: u32, place: usize)
         requires { IsAt session self.old.waiting place }
         ensures { (past : Waiter) → self.new ≡ polled_by None self.old session (round self.old.waiting place past) }

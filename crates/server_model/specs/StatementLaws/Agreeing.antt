@@ -20,7 +20,7 @@ is_under schema locks row = list_any (covers schema row) locks
 abbrev pub SameWhere : (List Value → Bool) → List (List Value) → List (List Value) → Type 0
 SameWhere test a b = (row : List Value) → test row ≡ true → stands row a ≡ stands row b
 
--- two tables of one name have one schema, and the same rows under the locks; or neither stands
+-- two tables of one name have one schema, and the same rows under the locks; or neither exists
 abbrev pub TablesAgree : List Lock → Option TableRows → Option TableRows → Type 0
 TablesAgree locks None None = Unit {0}
 TablesAgree locks (Some a) (Some b) = (a.schema ≡ b.schema) × SameWhere (is_under a.schema locks) a.rows b.rows

@@ -296,7 +296,7 @@ impl Sessions {
         self.log.after(position, limit, tables)
     }
 
-    /// How many events of these tables stand at the position or after it.
+    /// How many events of these tables are at the position or after it.
     #[tactic(auto, unfolding(server_model::specs::States::unread))]
     pub fn unread(&self, position: u64, tables: &Names) -> u64
         ensures { result ≡ unread self.now position tables.now }

@@ -20,7 +20,7 @@ pub record IsKept (tables : List StoredTable) (txns : List OpenTxn) : Type 0 whe
   pub events : AllByRecursion (λ one. HasEvents one.txn) txns
   pub room : (name : List ℕ) → puts_open name txns ≤ spare_in name tables
 
--- *Ready*: the session's open transaction takes the writes, their table stands with their schema, something is written, and the
+-- *Ready*: the session's open transaction takes the writes, their table exists with their schema, something is written, and the
 -- table has room for them beside what all open commits put.
 pub record IsReadyWrites (tables : List StoredTable) (txns : List OpenTxn) (number : ℕ) (writes : TableChanges) : Type 0 where
   pub takes : IsSomeAnd (txn_of number txns) (λ one. Takes writes one.txn)

@@ -35,7 +35,7 @@ abbrev pub MakingRoomKeeps : Type 0
 MakingRoomKeeps =
     (name : List ℕ) (was now : List StoredTable) (txns : List OpenTxn) → IsKept was txns → database now ≡ database was → spare_in name was ≤ spare_in name now → other_tables name now ≡ other_tables name was → IsKept now txns
 
--- *Room makes ready*: writes are ready, where the session's transaction has room for them, their table stands with their
+-- *Room makes ready*: writes are ready, where the session's transaction has room for them, their table exists with their
 -- schema, something is written, and the table has room for so many rows more than all open commits put.
 abbrev pub RoomMakesReady : Type 0
 RoomMakesReady =

@@ -16,7 +16,7 @@ pub struct OpenTxn {
     pub txn: Txn,
 }
 
-/// How many open transactions stand before that of the session of this number.
+/// How many open transactions come before that of the session of this number.
 pub fn place_of(txns: &[OpenTxn], session: u32) -> usize
     ensures { result ≡ position_or_len (λ one. one.session == session) txns.now }
 {

@@ -1,4 +1,4 @@
--- *Events that fit*: what they take out stands, and what they put has a key of its own, each on the tables as they then are.
+-- *Events that fit*: what they take out exists, and what they put has a key of its own, each on the tables as they then are.
 -- (MySQL's manual, "Replication and Row-Based Logging": a row event applies where the row that it names is there, and fails
 -- where a row has its key.)
 use Rattle.std.specs.Prelude.{◌≡◌, ℕ, false, List, [], ◌∷◌, Option, Some, None}
@@ -11,7 +11,7 @@ use Rattle.table_store.specs.Databases.{TableRows, Database, find_table, with_ch
 use Rattle.server_model.specs.Jobs.{change_table}
 use Rattle.server_seen.specs.Fitting.{FitsRows}
 
--- its table stands, and the change fits its rows
+-- its table exists, and the change fits its rows
 abbrev pub FitsIn : Change → Option TableRows → Type 0
 FitsIn change None = ⊥
 FitsIn change (Some table) = FitsRows (key_places table.schema) table.rows change

@@ -15,11 +15,11 @@ pub record NamedValues (T : Type 0) : Type 0 where
 abbrev pub named_values : {A T : Type 0} → List (String A × T) → ℕ → NamedValues T
 named_values entries spare = record { names = map string_bytes (keys_of entries); values = values_of entries; spare = spare }
 
--- how many names stand before this one; where it doesn't stand, how many there are
+-- how many names come before this one; where it isn't there, how many there are
 abbrev pub names_before : List ℕ → List (List ℕ) → ℕ
 names_before name names = prefix_len (λ other. not (bytes_eq other name)) names
 
--- whether the name stands
+-- whether the name is there
 abbrev pub has_name : List ℕ → List (List ℕ) → Bool
 has_name name names = list_any (λ other. bytes_eq other name) names
 

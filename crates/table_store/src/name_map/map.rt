@@ -44,7 +44,7 @@ impl<T> NameMap<T> {
         self.entries.len()
     }
 
-    /// How many names stand before this one; where it doesn't stand, how many there are.
+    /// How many names come before this one; where it isn't there, how many there are.
     pub fn place_of(&self, name: &str) -> usize
         ensures { result ≡ names_before name.now self.now.names }
     {

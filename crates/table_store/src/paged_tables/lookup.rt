@@ -9,7 +9,7 @@ use crate::name_map::NameMap;
 use crate::paged_tables::row_pages::Table;
 use base_values::Name;
 
-/// How many tables stand before the one of this name.
+/// How many tables come before the one of this name.
 pub fn place_of(name: &Name, tables: &NameMap<Table>) -> usize
     requires { AreNamed tables.now }
     ensures { result ≡ prefix_len (λ paged. not (is_named name.now paged.table)) tables.now.values }

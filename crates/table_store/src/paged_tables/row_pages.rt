@@ -1,4 +1,4 @@
-//! A table whose rows stand in pages: a look-up, a put and a removal look at few of them.
+//! A table whose rows are in pages: a look-up, a put and a removal look at few of them.
 
 mod by_key;
 mod clashes;

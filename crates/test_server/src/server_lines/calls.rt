@@ -29,7 +29,7 @@ fn say_table<V: Serve>(
     Ok(())
 }
 
-/// Says how many events stand at a position or after it, as `0 t` asks.
+/// Says how many events are at a position or after it, as `0 t` asks.
 fn say_unread<V: Serve>(
     alloc: Global,
     server: &V,

@@ -15,7 +15,7 @@ fn told_words(alloc: Global, words: &Words<'_>) -> Result<Text, CallFault> {
     Ok(told)
 }
 
-/// A fault, and where it stands.
+/// A fault, and where it is.
 fn told_fault(alloc: Global, fault: &WordFault) -> Result<Text, CallFault> {
     let (word, place) = match fault {
         WordFault::Unclosed { place } => ("unclosed at ", *place),
@@ -54,7 +54,7 @@ fn value(alloc: Global, word: &Word<'_>) -> Result<Text, CallFault> {
     Ok(told)
 }
 
-/// What stands between the word's quotes, and the name that it is.
+/// What is between the word's quotes, and the name that it is.
 fn written(alloc: Global, word: &Word<'_>) -> Result<Text, CallFault> {
     let mut told = Text::new(alloc);
     for (what, text) in [

@@ -2,7 +2,7 @@
 -- through its stages in one order: the locker makes the sentry and locks the table and the sentry's name; the inspector writes
 -- the hint row; once the applier has passed it the renamer asks for the RENAME, which waits; the inspector sees it wait; the
 -- locker drops the sentry and unlocks; and the RENAME runs. An attempt that doesn't succeed ends: the locker unlocks, the
--- RENAME is polled to its answer, and the inspector looks at the tables and drops the sentry where it stands. After the RENAME
+-- RENAME is polled to its answer, and the inspector looks at the tables and drops the sentry where it exists. After the RENAME
 -- the inspector looks, and drops the changelog and, where that is wanted, the old table. (gh-ost, "Cut-over", with its sentry
 -- table and its lock on both names; the exact steps are this project's rule.)
 use Rattle.std.specs.Prelude.{ℕ, Bool, false, ◌&&◌, not, if◌then◌else◌, List, [], ◌∷◌, Option, Some, None}

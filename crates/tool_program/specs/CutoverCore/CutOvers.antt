@@ -182,7 +182,7 @@ stands (Attempting stage) = true
 stands (Ending clearing) = true
 stands phase = false
 
--- the attempt that stands may yet succeed
+-- the attempt that is under way may yet succeed
 abbrev pub may_succeed : Phase → Bool
 may_succeed (Attempting stage) = true
 may_succeed phase = false
@@ -209,14 +209,14 @@ applier_turn hint cutover = record cutover { phase = drained cutover hint cutove
 
 -- THE REVERT
 
--- an attempt that stands ends, unless the sentry is dropped already
+-- an attempt that is under way ends, unless the sentry is dropped already
 abbrev pub ended : Phase → Phase
 ended (Attempting Unlocking) = Attempting Unlocking
 ended (Attempting Exchanging) = Attempting Exchanging
 ended (Attempting stage) = Ending Looking
 ended phase = phase
 
--- *Reverted*: an attempt that stands is ended, and no other begins.
+-- *Reverted*: an attempt that is under way is ended, and no other begins.
 unfoldable pub reverted : CutOver → CutOver
 reverted cutover = record cutover { phase = ended cutover.phase; is_stopped = true }
 

@@ -34,7 +34,7 @@ abbrev pub Serial : PlanData → Database → List HistoryItem → Database → 
 Serial plan before [] after = after ≡ before
 Serial plan before (item ∷ items) after = (between : Database) × Leads plan item before between × Serial plan between items after
 
--- *Tables left*: the plan's tables but the leftovers, as they stand, in the plan's order
+-- *Tables left*: the plan's tables but the leftovers, as they are, in the plan's order
 unfoldable pub tables_left : PlanData → Database → Database
 tables_left plan tables = flat_map (λ table. option_to_list (find_table table.schema.name tables)) (filter (λ table. not (is_tool_name plan.table table.schema.name)) plan.tables)
 

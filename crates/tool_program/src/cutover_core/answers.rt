@@ -155,7 +155,7 @@ impl CutOver {
         }
     }
 
-    /// From here on an attempt that stands ends, unless the sentry is dropped already, and no other begins.
+    /// From here on an attempt that is under way ends, unless the sentry is dropped already, and no other begins.
     #[tactic(auto, unfolding(crate::specs::CutoverCore::CutOvers::reverted))]
     pub fn revert(&mut self)
         ensures { self.new ≡ reverted self.old }

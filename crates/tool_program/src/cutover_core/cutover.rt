@@ -5,7 +5,7 @@ use base_values::Name;
 /// Which of the tool's three takes part.
 #[derive(Clone, Copy)]
 pub enum Role {
-    /// It writes the hint row, looks at what waits and what stands, and clears up.
+    /// It writes the hint row, looks at what waits and what exists, and clears up.
     Inspector,
     /// It makes the sentry and locks the tables.
     Locker,
@@ -59,7 +59,7 @@ pub enum Clearing {
 /// How far the cut-over is with its attempts.
 #[derive(Clone, Copy)]
 pub enum Phase {
-    /// No attempt stands.
+    /// No attempt is under way.
     Resting,
     /// An attempt stands and may succeed.
     Attempting(Stage),
@@ -101,7 +101,7 @@ pub struct CutOver {
     pub hold: Hold,
     /// Whether the RENAME waits.
     pub renamer_waits: bool,
-    /// Whether the RENAME was asked for in the attempt that stands.
+    /// Whether the RENAME was asked for in the attempt that is under way.
     pub is_asked: bool,
     /// Whether no attempt begins any more.
     pub is_stopped: bool,

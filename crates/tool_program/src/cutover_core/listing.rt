@@ -1,4 +1,4 @@
-//! Which of the tool's tables stand, and which of them are still to be dropped.
+//! Which of the tool's tables exist, and which of them are still to be dropped.
 
 ghost use Rattle.std.specs.Prelude.{◌≡◌, IfOk};
 ghost use Rattle.base_values.specs.ToolNames.{ghost_name, log_name, old_name};

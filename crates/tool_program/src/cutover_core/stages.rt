@@ -154,7 +154,7 @@ impl Phase {
         matches!(self, Phase::Attempting(_) | Phase::Ending(_))
     }
 
-    /// Whether the attempt that stands may yet succeed.
+    /// Whether the attempt that is under way may yet succeed.
     pub fn may_succeed(self) -> bool
         ensures { result ≡ may_succeed self }
     {
@@ -168,7 +168,7 @@ impl Phase {
         matches!(self, Phase::Finishing(_) | Phase::Finished)
     }
 
-    /// Whether no attempt stands, and none succeeded.
+    /// Whether no attempt is under way, and none succeeded.
     pub fn is_resting(self) -> bool
         ensures { result ≡ is_resting self }
     {

@@ -18,19 +18,19 @@ use Rattle.proof_plans.specs.AcceptedLaws.Laws.{WasRead}
 use Rattle.proof_plans.specs.Tables.{FindsTable, KeepsOldTable}
 use Rattle.run_turns.specs.Runs.{Stops}
 
--- *Finds the altered table*: where the RENAME is done in some turn of the journal, the new table is then what the plan's
--- ALTER makes of the migrated one as it stands.
+-- *Finds the altered table*: where the RENAME is done in some turn of the journal, the new table is then what the plan's ALTER
+-- makes of the migrated one as it is.
 abbrev pub FindsAltered : PlanData → List Entry → Type 0
 FindsAltered plan journal =
     (before : List Entry) (entry : Entry) (behind : List Entry) (table : TableRows) (new : Altered) → journal ≡ before ++ entry ∷ behind → IsRename plan before entry → find_table plan.table plan.tables ≡ Some table → altered_by plan table.schema ≡ Some new
     → IsAltered (migration_of table.schema new) (state_at plan before).tables
 
--- *Sound run*. Each answer is the plain server's; clients take the lines of their scripts in order, and sessions are lost
--- where the plan says; each turn asks what was given, in its actor's session. There are no more turns than the plan allows, and
--- none is taken of a run that is over. What clients got and the tables that are left are those of their ended transactions, one
--- at a time, with the ALTER at one instant or not at all. The RENAME finds the altered table; what names the migrated one alone
+-- *Sound run*. Each answer is the plain server's; clients take the lines of their scripts in order, and sessions are lost where
+-- the plan says; each turn asks what was given, in its actor's session. There are no more turns than the plan allows, and none
+-- is taken of a run that is over. What clients got and the tables that are left are those of their ended transactions, one at a
+-- time, with the ALTER at one instant or not at all. The RENAME finds the altered table; what names the migrated one alone
 -- finds it, and the old one is kept as it was. The migrated one is used while the migration goes on. Where the verdict is a
--- revert, the cause stands in the journal.
+-- revert, the cause is in the journal.
 pub record IsSoundRun (plan : PlanData) (journal : List Entry) : Type 0 where
   pub kept : IsKept plan journal
   pub bound : length journal ≤ plan.options.turn_limit

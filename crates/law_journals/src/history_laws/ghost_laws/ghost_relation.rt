@@ -13,7 +13,7 @@ pub fn logs_grow<K, R, M>()
     ensures { LogsGrow K R M }
 {}
 
-/// A chunk of keys is begun; each of its rows is copied, or a row that clashes with its converted row stands already.
+/// A chunk of keys is begun; each of its rows is copied, or a row that clashes with its converted row exists already.
 pub fn rows_are_copied<K, R, M>()
     ensures begun { ChunksBegin K R M }
     ensures copied { RowsAreCopied K R M }

@@ -35,8 +35,8 @@ pub fn given_polls_may_be_made()
     ensures { GivenPollsMayBeMade }
 {}
 
-/// Until all rows are copied the migrated table stands with its schema, and the new one from its making on; and no
-/// attempt was begun.
+/// Until all rows are copied the migrated table exists with its schema, and the new one from its making on; and no attempt was
+/// begun.
 pub fn tables_stand_uncopied()
     ensures { TablesStandUncopied }
 {}

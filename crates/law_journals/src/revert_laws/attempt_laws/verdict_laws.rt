@@ -1,4 +1,4 @@
-//! A revert's cause stands in the journal: each function's contract is a law.
+//! A revert's cause is in the journal: each function's contract is a law.
 
 ghost use Rattle.proof_migration.specs.AttemptLaws.VerdictLaws.Laws.{PanicsStand, SpentTasksStand, SpentAttemptsStand};
 

@@ -15,7 +15,7 @@ pub record Displaced {M : Type 0} (clash : M → M → Bool) (made : M) (before 
   pub clashes : clash was made ≡ true
   pub gone : after ≡ None
 
--- *REPLACE* of the row of a key: it stands, and what clashed with it is gone
+-- *REPLACE* of the row of a key: it exists, and what clashed with it is gone
 pub record Replaced {K M : Type 0} (clash : M → M → Bool) (key : K) (made : M) (before after : K → Option M) : Type 0 where
   pub here : after key ≡ Some made
   pub others : (other : K) → (key ≡ other → ⊥) → (after other ≡ before other) ⊎ Displaced clash made (before other) (after other)

@@ -19,7 +19,7 @@ LogsGrow K R M =
     (timeline longer : Timeline K R M) (done half : K → Bool) (progress : Progress K) (views : Views K M) (end : ℕ) → AreAlike timeline longer progress.end → IsTimeline longer end → progress.end ≤ end
     → GhostFollows timeline done half progress views → GhostFollows longer done half (record progress { end = end }) views
 
--- *A chunk begins*: those of its keys at which no row stands are done at once.
+-- *A chunk begins*: those of its keys at which there is no row are done at once.
 abbrev pub ChunksBegin : (K R M : Type 0) → Type 0
 ChunksBegin K R M =
     (timeline : Timeline K R M) (done next half : K → Bool) (progress : Progress K) (views : Views K M) → ((key : K) (row : R) → next key ≡ true → timeline.row_at progress.end key ≡ Some row → done key ≡ true)

@@ -15,12 +15,12 @@ use Rattle.proof_journals.specs.GhostLaws.GhostRows.Moments.{Row}
 abbrev pub replacing : Schema → Row → List Row → List Change
 replacing schema row rows = map Delete (displaced schema row rows) ++ (Write row ∷ [])
 
--- DELETE of the row that stands at a key
+-- DELETE of the row at a key
 abbrev pub deleting : Option Row → List Change
 deleting None = []
 deleting (Some row) = Delete row ∷ []
 
--- UPDATE of the row that stands at a key, not refused
+-- UPDATE of the row at a key, not refused
 abbrev pub updating : Row → Option Row → List Change
 updating new None = []
 updating new (Some row) = Update row new ∷ []

@@ -45,7 +45,7 @@ rows_at name places rows (event ∷ log) (suc i) = rows_at name places (rows_the
 abbrev pub NoneClashes : List Index → Row → List Row → Type 0
 NoneClashes uniques row rows = AllByRecursion (λ other. clash uniques row other ≡ false) rows
 
--- *The change fits the rows*: what it takes out stands there, and what it writes is a row that clashes with none.
+-- *The change fits the rows*: what it takes out is there, and what it writes is a row that clashes with none.
 abbrev pub Fits : Schema → List Row → Change → Type 0
 Fits schema rows (Write row) = IsRow schema.columns row × NoneClashes schema.uniques row rows
 Fits schema rows (Update before after) =

@@ -1,4 +1,4 @@
--- Which causes of a verdict stand in the journal of a fitting plan.
+-- Which causes of a verdict are in the journal of a fitting plan.
 use Rattle.std.specs.Prelude.{◌≡◌, ◌<◌, ℕ, List}
 use Rattle.server_model.specs.declared.entry.Entry.{Entry}
 use Rattle.server_model.specs.declared.outcome.Cause.TheVariants as causes

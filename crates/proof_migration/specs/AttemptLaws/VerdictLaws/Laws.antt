@@ -1,4 +1,4 @@
--- Which causes of a verdict stand in the journal.
+-- Which causes of a verdict are in the journal.
 use Rattle.std.specs.Prelude.{◌≡◌, ◌≢◌, ◌⊎◌, ◌<◌, ℕ, Bool, true, false, List, length, Option, AllPairs}
 use Rattle.std.specs.List.{AllByRecursion}
 use Rattle.base_script.specs.declared.actor.Actor.TheVariants.{Lock}

@@ -40,8 +40,8 @@ abbrev pub IsStuck : PlanData → Moment → Course → Type 0
 IsStuck plan now (SettingUp setup tries) = ⊥
 IsStuck plan now (Migrating work) = IsStuckAt plan now work work.cutover.phase
 
--- *Someone is ready*: while a run of a fitting plan with such scripts, whose migrated table stands, hasn't ended some actor
--- is, or the attempt is stuck.
+-- *Someone is ready*: while a run of a fitting plan with such scripts, whose migrated table exists, hasn't ended some actor is,
+-- or the attempt is stuck.
 abbrev pub SomeoneIsReady : Type 0
 SomeoneIsReady =
     (plan : PlanData) (journal : List Entry) → IsFitting plan → TableStands plan → ScriptsEnd plan → IsFaithful plan journal → Follows plan journal → has_ended plan journal ≡ false

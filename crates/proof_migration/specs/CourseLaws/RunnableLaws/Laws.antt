@@ -26,8 +26,8 @@ pub record IsWorded (plan : PlanData) : Type 0 where
   pub batch : 1 ≤ plan.options.dml_batch_size
   pub clauses : AllByRecursion IsClause plan.alter
 
--- *Alterable plan*: its tables, one or several, are tables with clustered keys; the migrated one, of a valid schema, stands
--- among them; and its ALTER is taken and keeps the keys of its rows. (What a plan's reader leaves of a plan.)
+-- *Alterable plan*: its tables, one or several, are tables with clustered keys; the migrated one, of a valid schema, is among
+-- them; and its ALTER is taken and keeps the keys of its rows. (What a plan's reader leaves of a plan.)
 pub record IsAlterable (plan : PlanData) : Type 0 where
   pub tables : AllByRecursion IsWellFormedTable plan.tables
   pub table : TableRows

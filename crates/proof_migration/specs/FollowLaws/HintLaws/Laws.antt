@@ -15,7 +15,7 @@ use Rattle.proof_journals.specs.MachineLaws.Runnable.{IsRunnable}
 use Rattle.proof_journals.specs.SentryLaws.Sentries.{IsDraining, KnowsHint}
 use Rattle.proof_migration.specs.CourseLaws.UnalteredLaws.Laws.{IsUnaltered}
 
--- the attempt that stands hasn't written its hint row yet
+-- the attempt that is under way hasn't written its hint row yet
 abbrev pub is_unhinted : Phase → Bool
 is_unhinted (Attempting Guarding) = true
 is_unhinted (Attempting Locking) = true

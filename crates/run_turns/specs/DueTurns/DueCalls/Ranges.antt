@@ -25,7 +25,7 @@ abbrev pub range_of_table : Option TableRows → Option KeyRange
 range_of_table None = None
 range_of_table (Some table) = range_of (keys_in table)
 
--- the range of the keys of the table of this name; none where it has no row, or doesn't stand
+-- the range of the keys of the table of this name; none where it has no row, or doesn't exist
 abbrev pub range_in : List ℕ → Database → Option KeyRange
 range_in name tables = range_of_table (find_table name tables)
 

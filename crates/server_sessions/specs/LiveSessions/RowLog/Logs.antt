@@ -1,5 +1,5 @@
--- *Log*: the events of the committed transactions, in the order of the commits; and how many events of some tables stand
--- before each of them.
+-- *Log*: the events of the committed transactions, in the order of the commits; and how many events of some tables come before
+-- each of them.
 use Rattle.std.specs.Prelude.{◌≡◌, ℕ, List, length, ◌<◌, take, count_by, slice_index}
 use Rattle.base_values.specs.declared.event.RowEvent.{RowEvent}
 use Rattle.server_model.specs.States.{is_of}
@@ -9,7 +9,7 @@ pub record StoredLog : Type 0 where
   pub events : List RowEvent
   pub spare : ℕ
 
--- what is counted beside it: of each event how many of the watched tables stand before it, how many there are in all, and for
+-- what is counted beside it: of each event how many of the watched tables come before it, how many there are in all, and for
 -- how many more events there is room
 pub record StoredCounts : Type 0 where
   pub watched : List (List ℕ)

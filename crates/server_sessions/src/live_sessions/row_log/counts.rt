@@ -1,4 +1,4 @@
-//! How many events of some tables stand before each place of a log.
+//! How many events of some tables come before each place of a log.
 
 ghost use Rattle.std.specs.Prelude.{◌≡◌, ◌≤◌, ◌+◌, ◌∷◌, ◌++◌, [], true, drop, count_by, List, OnOk};
 ghost use Rattle.base_values.specs.declared.event.RowEvent.{RowEvent as Event};
@@ -10,8 +10,8 @@ use base_values::{Names, RowEvent};
 use std::alloc::{AllocError, Global};
 use std::marker::Model;
 
-/// How many events of the watched tables stand before each event of a log, and how many there are in all. Contracts see
-/// besides for how many more events there is room.
+/// How many events of the watched tables come before each event of a log, and how many there are in all. Contracts see besides
+/// for how many more events there is room.
 #[derive(Drop)]
 pub(crate) struct Counts {
     watched: Names,
@@ -75,7 +75,7 @@ impl Counts {
         self.watched == *tables
     }
 
-    /// How many events of the watched tables stand at the place or after it.
+    /// How many events of the watched tables are at the place or after it.
     #[tactic(auto, using(crate::proofs::LiveSessions::RowLog::WatchedCounts::steps))]
     pub(crate) fn behind(&self, place: usize) -> u64
         ensures { (events : List Event) → IsCounted events self.now → result ≡ count_by (is_of self.now.watched) (drop place events) }

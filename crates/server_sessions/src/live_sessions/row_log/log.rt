@@ -94,7 +94,7 @@ impl Log {
         read_after(alloc, self.events.as_slice(), position, limit, tables)
     }
 
-    /// How many events of these tables stand at the position or after it. It takes no memory, and where the log watches these
+    /// How many events of these tables are at the position or after it. It takes no memory, and where the log watches these
     /// tables, it looks at none of the events.
     pub fn unread(&self, position: u64, tables: &Names) -> u64
         ensures { result ≡ count_by (is_of tables.now) (drop position self.now.events) }

@@ -18,7 +18,7 @@ use Rattle.server_transaction.specs.Stored.{StoredTxn, schemas, schemas_with}
 abbrev pub TransactionsBegin : Type 0
 TransactionsBegin = (tables : Database) (txn : StoredTxn) → txn.events ≡ [] → txn.tables ≡ [] → IsWellFormedDatabase tables → IsOf tables txn
 
--- *Transactions grow*: one of a database stays so, where what it writes to a table that stands fits the tables as it sees them
+-- *Transactions grow*: one of a database stays so, where what it writes to a table that exists fits the tables as it sees them
 -- and leaves them well formed.
 abbrev pub TransactionsGrow : Type 0
 TransactionsGrow =

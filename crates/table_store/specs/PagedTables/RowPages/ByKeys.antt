@@ -20,8 +20,8 @@ abbrev pub HasRow : List (List Value) → List Value → Type 0
 HasRow [] row = ⊥
 HasRow (first ∷ rows) row = (first ≡ row) ⊎ HasRow rows row
 
--- The rows are those of the table whose values at these places lie in the span. They stand in order of these, and where
--- two tie, of the clustered key (MySQL's manual, "Clustered and Secondary Indexes").
+-- The rows are those of the table whose values at these places lie in the span. They are in order of these, and where two tie,
+-- of the clustered key (MySQL's manual, "Clustered and Secondary Indexes").
 pub record AreInSpan (table : TableRows) (places : List ℕ) (span : Span) (rows : List (List Value)) : Type 0 where
   pub ascend : Ascending (compare_by places (key_places table.schema)) rows
   pub here : (row : List Value) → HasRow rows row → HasRow table.rows row × (has span (key_of places row) ≡ true)

@@ -22,7 +22,7 @@ other_keys schema = map (λ unique. unique.places) (all_but (clustered_place sch
 abbrev pub keys_of : List KeyIndex → List (List ℕ)
 keys_of indexes = map (λ index. index.places) indexes
 
--- the index stands in order of its own key and then of the clustered one
+-- the index is in order of its own key and then of the clustered one
 abbrev pub IsOwnListed : List ℕ → Slab (List Value) → KeyIndex → Type 0
 IsOwnListed clustered slab index = IsListed index.places clustered slab (flat index.entries.pages)
 
@@ -38,7 +38,7 @@ abbrev pub room_in : List KeyIndex → ℕ → ℕ
 room_in [] room = room
 room_in (index ∷ indexes) room = min index.entries.spare (room_in indexes room)
 
--- the index stands in order, and has room for one more entry
+-- the index is in order, and has room for one more entry
 pub record IsReady (slab : Slab (List Value)) (clustered : List ℕ) (index : KeyIndex) : Type 0 where
   pub ascends : Ascending (compare_by index.places clustered) (rows_of slab (flat index.entries.pages))
   pub room : 0 < index.entries.spare
@@ -49,7 +49,7 @@ pub record IsAdded (slab : Slab (List Value)) (clustered : List ℕ) (entry : �
   pub entries : flat new.entries.pages ≡ insert (flat old.entries.pages) (place_by old.places clustered (row_of slab entry) (rows_of slab (flat old.entries.pages))) entry
   pub spare : new.entries.spare + 1 ≡ old.entries.spare
 
--- the index stands in order, and has the entry
+-- the index is in order, and has the entry
 pub record IsHolding (slab : Slab (List Value)) (clustered : List ℕ) (entry : ℕ) (index : KeyIndex) : Type 0 where
   pub ascends : Ascending (compare_by index.places clustered) (rows_of slab (flat index.entries.pages))
   pub has : Has (flat index.entries.pages) entry

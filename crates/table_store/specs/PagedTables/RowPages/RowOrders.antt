@@ -50,8 +50,8 @@ is_tied Greater = false
 abbrev pub IsNew : List ℕ → List Value → List (List Value) → Type 0
 IsNew clustered row rows = AllByRecursion (λ other. is_tied (compare_by clustered [] row other) ≡ false) rows
 
--- Each entry has a row, there are as many entries as rows, and the rows stand in order by their values at the first
--- places, and where these tie, at the second.
+-- Each entry has a row, there are as many entries as rows, and the rows are in order by their values at the first places, and
+-- where these tie, at the second.
 pub record IsListed (first second : List ℕ) (slab : Slab (List Value)) (entries : List ℕ) : Type 0 where
   pub stored : AllByRecursion (λ entry. IsSome (get slab entry)) entries
   pub ascends : Ascending (compare_by first second) (rows_of slab entries)

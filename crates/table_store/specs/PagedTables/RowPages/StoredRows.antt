@@ -11,8 +11,8 @@ use Rattle.table_store.specs.PagedTables.RowPages.RowOrders.{IsListed}
 use Rattle.table_store.specs.PagedTables.RowPages.Indexes.{other_keys, keys_of, room_in, IsIndexed}
 use Rattle.table_store.specs.declared.paged_tables.row_pages.indexes.KeyIndex.{KeyIndex}
 
--- Each entry has a row, and the rows stand in order of the clustered key. Once there is room for a row, each other unique
--- key has its index.
+-- Each entry has a row, and the rows are in order of the clustered key. Once there is room for a row, each other unique key has
+-- its index.
 pub record IsStored (schema : Schema) (slab : Slab (List Value)) (order : List ℕ) (indexes : List KeyIndex) : Type 0 where
   pub listed : IsListed (key_places schema) [] slab order
   pub held : slab_len slab ≤ slab.capacity

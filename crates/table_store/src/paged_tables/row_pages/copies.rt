@@ -1,4 +1,4 @@
-//! Tables made of rows that stand in order.
+//! Tables made of rows in order.
 
 ghost use Rattle.std.specs.Prelude.{◌≡◌, ◌<◌, ◌+◌, ◌++◌, ◌∷◌, [], IfOk};
 ghost use Rattle.base_values.specs.GhoSchema.Rows.{key_places};
@@ -20,7 +20,7 @@ fn put_last(table: &mut Table, row: Row)
     table.put(row)
 }
 
-/// The table of rows that stand in order of the clustered key.
+/// The table of rows in order of the clustered key.
 pub fn table_of(alloc: Global, schema: Schema, rows: &[Row]) -> Result<Table, AllocError>
     requires { Ascends (key_places schema) rows.now }
     ensures schema { IfOk result (λ table. table.table.schema ≡ schema) }

@@ -112,7 +112,7 @@ fn place_of_key(rows: &Slab<Row>, order: &PagedList, places: &[usize], sought: W
     })
 }
 
-/// The first entry whose row has this key, and where it stands.
+/// The first entry whose row has this key, and where it is.
 pub fn found(
     rows: &Slab<Row>,
     order: &PagedList,

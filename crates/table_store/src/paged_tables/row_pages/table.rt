@@ -79,7 +79,7 @@ impl Table {
         }
     }
 
-    /// The table of rows that stand in order of the clustered key.
+    /// The table of rows in order of the clustered key.
     pub fn from_rows(alloc: Global, schema: Schema, rows: &[Row]) -> Result<Table, AllocError>
         requires { Ascends (key_places schema) rows.now }
         ensures schema { IfOk result (λ table. table.table.schema ≡ schema) }
@@ -95,7 +95,7 @@ impl Table {
         copied_table(alloc, self)
     }
 
-    /// What its columns and keys are. The rows stand in order of the clustered key.
+    /// What its columns and keys are. The rows are in order of the clustered key.
     pub fn schema(&self) -> &Schema
         ensures schema { result.now ≡ self.now.table.schema }
         ensures ascends { Ascends (key_places self.now.table.schema) self.now.table.rows }
