@@ -14,12 +14,12 @@ pub record BytesHeld : Type 0 where
   pub until_fault : Option ℕ
   pub faults : ℕ
 
--- How many of so many bytes pass before the fault. This project's rule.
+-- How many of this many bytes pass before the fault. This project's rule.
 abbrev pub before_fault : Option ℕ → ℕ → ℕ
 before_fault None len = len
 before_fault (Some bytes) len = min bytes len
 
--- How many bytes still pass before the fault, once so many have passed. This project's rule.
+-- How many bytes still pass before the fault, once this many have passed. This project's rule.
 abbrev pub nearer_fault : Option ℕ → ℕ → Option ℕ
 nearer_fault until_fault len = option_map (λ bytes. bytes - len) until_fault
 

@@ -4,7 +4,7 @@ ghost use Rattle.std.specs.Prelude.{◌≡◌, ◌≤◌};
 ghost use Rattle.base_edges.specs.Edges.{Rose};
 ghost use Rattle.base_edges.specs.Memory.{before_fault, nearer_fault, one_more};
 
-/// One more fault than so many, where the count isn't at its last value.
+/// One more fault than `faults`, where the count isn't at its last value.
 pub(crate) fn risen(faults: u64) -> u64
     ensures value { result ≡ one_more faults }
     ensures rose { Rose faults result }

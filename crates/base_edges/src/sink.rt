@@ -7,7 +7,7 @@ ghost use Rattle.base_edges.specs.Edges.{IfGiven, OnSinkFault, Rose};
 /// What one call of a sink took.
 #[derive(Clone, Copy, Debug, PartialEq, Eq)]
 pub enum Gave {
-    /// So many bytes from the front of the piece.
+    /// This many bytes from the front of the piece.
     Some(usize),
     /// None, by a fault of the sink.
     Failed,

@@ -7,7 +7,7 @@ ghost use Rattle.base_edges.specs.Edges.{IfTaken, OnEnd, OnSourceFault, Rose};
 /// What one call of a source gave.
 #[derive(Clone, Copy, Debug, PartialEq, Eq)]
 pub enum Took {
-    /// So many bytes, now in front of the buffer. There may be more.
+    /// This many bytes, now in front of the buffer. There may be more.
     Some(usize),
     /// None, and there are no more.
     End,

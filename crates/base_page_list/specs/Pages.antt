@@ -54,12 +54,12 @@ pub record InPages : Type 0 where
   pub pages : List (List ℕ)
   pub spare : ℕ
 
--- For how many more entries there is room, where memory for so many pages is had. Two neighbouring pages have at least 33
+-- For how many more entries there is room, where memory for this many pages is had. Two neighbouring pages have at least 33
 -- entries, so these are never too few.
 abbrev pub room_of : ℕ → ℕ → ℕ
 room_of pages entries = 33 * pages / 2 - entries
 
--- The pages have their sizes, and memory for so many pages has room for the entries however they come to lie.
+-- The pages have their sizes, and memory for this many pages has room for the entries however they come to lie.
 pub record IsPagedList (pages : List (List ℕ)) (capacity : ℕ) : Type 0 where
   pub are : ArePages pages
   pub fits : length (flat pages) ≤ 33 * capacity / 2

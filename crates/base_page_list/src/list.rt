@@ -237,7 +237,7 @@ impl PagedList {
         entry_behind(self.pages.as_slice(), place)
     }
 
-    /// Makes room for so many entries in all, however they come to lie in pages.
+    /// Makes room for `total` entries in all, however they come to lie in pages.
     pub fn reserve(&mut self, total: usize) -> Result<(), AllocError>
         ensures pages { self.new.pages ≡ self.old.pages }
         ensures ok { OnOk result (total ≤ length (flat self.new.pages) + self.new.spare) }

@@ -9,7 +9,7 @@ pub enum OperatorWord {
     Throttle,
     /// Copy rows again.
     NoThrottle,
-    /// Copy so many rows a chunk from now on.
+    /// Copy this many rows a chunk from now on.
     ChunkSize(u32),
     /// Cut over as soon as all is copied and applied.
     Unpostpone,

@@ -10,8 +10,8 @@ pub enum Kind {
         /// Whether the numbers begin at 0.
         unsigned: bool,
     },
-    /// VARCHAR: texts of at most so many characters.
+    /// VARCHAR: texts of at most this many characters.
     VarChar(u16),
-    /// VARBINARY: at most so many bytes.
+    /// VARBINARY: at most this many bytes.
     VarBinary(u16),
 }

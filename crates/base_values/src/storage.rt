@@ -135,7 +135,7 @@ fn highest(bytes: u8, unsigned: bool) -> i128
     i128::from(if unsigned { half - 1 + half } else { half - 1 })
 }
 
-/// How many numbers a signed kind of so many bytes has below 0.
+/// How many numbers a signed kind of `bytes` bytes has below 0.
 #[tactic(auto, unfolding(crate::specs::Storing::half))]
 fn half(bytes: u8) -> u64
     ensures value { result ≡ half bytes }

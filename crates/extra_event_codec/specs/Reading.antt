@@ -32,7 +32,7 @@ abbrev pub Reads : {A B : Type 0} → (A → B) → Result A DecodeFault → Res
 Reads view (Ok x) read = read ≡ Ok (view x)
 Reads view (Err fault) read = Fails fault read
 
--- The first so many bytes and those after them, or the fault where there are fewer.
+-- This many bytes from the front and those after them, or the fault where there are fewer.
 unfoldable pub taken : DecodeFault → ℕ → List ℕ → Result (List ℕ × List ℕ) DecodeFault
 taken fault n bytes = if nat_le n (length bytes) then Ok (take n bytes, drop n bytes) else Err fault
 
@@ -77,7 +77,7 @@ abbrev pub with_value : Option (List Value) → Option Value → Option (List Va
 with_value (Some values) (Some value) = Some (values ++ value ∷ [])
 with_value values value = None
 
--- So many values after those so far, and what follows them.
+-- This many values after those so far, and what follows them.
 unfoldable pub values_at : Option (List Value) → ℕ → List ℕ → Result (Option (List Value) × List ℕ) DecodeFault
 values_at values zero bytes = Ok (values, bytes)
 values_at values (suc n) bytes = do
@@ -110,7 +110,7 @@ abbrev pub two_rows : Option (List Value) → Option (List Value) → Option Cha
 two_rows (Some before) (Some after) = Some (Update before after)
 two_rows before after = None
 
--- The change of a tag, with so many columns, and what follows it.
+-- The change of a tag, with this many columns, and what follows it.
 unfoldable pub change_at : ℕ → ℕ → List ℕ → Result (Option Change × List ℕ) DecodeFault
 change_at tag count bytes = do
   first ← values_at (Some []) count bytes

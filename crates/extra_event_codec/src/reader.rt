@@ -8,7 +8,7 @@ use crate::fault::DecodeFault;
 use base_values::{Change, Chars, Name, Row, RowEvent, Sequence, Value, character_count};
 use std::alloc::{AllocError, Global};
 
-/// The first so many bytes and those after them, or the fault where there are fewer.
+/// The first `n` bytes and those after them, or the fault where there are fewer.
 #[tactic(auto, unfolding(crate::specs::Reading::taken))]
 fn taken(fault: DecodeFault, n: usize, bytes: &[u8]) -> Result<(&[u8], &[u8]), DecodeFault>
     ensures { Reads (λ parts. (parts.0.now, parts.1.now)) result (taken fault n bytes.now) }
@@ -120,7 +120,7 @@ fn with_value(values: Option<Row>, value: Option<Value>) -> Result<Option<Row>, 
     }
 }
 
-/// So many values, and what follows them.
+/// `count` values, and what follows them.
 #[tactic(auto, using(crate::proofs::ReadValues::steps))]
 fn values_at(alloc: Global, count: u8, bytes: &[u8]) -> Result<(Option<Row>, &[u8]), DecodeFault>
     ensures { Reads (λ values. (values.0, values.1.now)) result (values_at (Some []) count bytes.now) }
@@ -201,7 +201,7 @@ fn two_rows(before: Option<Row>, after: Option<Row>) -> Option<Change>
     }
 }
 
-/// The change of a tag, with so many columns, and what follows it.
+/// The change of a tag, with this many columns, and what follows it.
 #[tactic(auto, unfolding(crate::specs::Reading::change_at))]
 fn change_at(
     alloc: Global,

@@ -32,7 +32,7 @@ fn have_more(limit: usize, tables: &[TableKeys<'_>]) -> bool
     false
 }
 
-/// Whether tables have more than so many rows together.
+/// Whether tables have more than `limit` rows together.
 fn have_more_rows(limit: usize, tables: &[TableKeys<'_>]) -> bool
     ensures { result ≡ nat_lt limit (row_count (map table_data tables.now)) }
 {

@@ -12,7 +12,7 @@ abbrev pub client_of : List ℕ → Option Actor
 client_of [] = None
 client_of (letter ∷ number) = if letter == 99 then option_map Client (number_of number) else None
 
--- the actor whose word this is, whether or not the plan has so many clients
+-- the actor whose word this is, whether or not the plan has this many clients
 unfoldable pub actor_of : List ℕ → Option Actor
 actor_of word =
     if bytes_eq word (codes "op") then Some Op
@@ -23,7 +23,7 @@ actor_of word =
     else if bytes_eq word (codes "ren") then Some Ren
     else client_of word
 
--- a plan with so many clients has the actor
+-- a plan with this many clients has the actor
 abbrev pub is_among : ℕ → Actor → Bool
 is_among clients (Client number) = not (nat_lt clients number)
 is_among clients actor = true
@@ -31,6 +31,6 @@ is_among clients actor = true
 abbrev pub if_among : ℕ → Actor → Option Actor
 if_among clients actor = if is_among clients actor then Some actor else None
 
--- the actor of a plan with so many clients whose word this is
+-- the actor of a plan with this many clients whose word this is
 abbrev pub actor_among : ℕ → List ℕ → Option Actor
 actor_among clients word = actor_of word >>= if_among clients

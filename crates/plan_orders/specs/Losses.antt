@@ -40,7 +40,7 @@ loss_at_call clients actor n side = do
   actor ← lost_actor clients actor
   Ok (Nth actor n side)
 
--- the loss of a plan with so many clients that three words are
+-- the loss of a plan with this many clients that three words are
 abbrev pub loss_of_words : ℕ → List (List ℕ) → Result Loss OrderRefusal
 loss_of_words clients [] = Err refusals.Loss
 loss_of_words clients (first ∷ []) = Err refusals.Loss

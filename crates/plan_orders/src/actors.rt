@@ -24,7 +24,7 @@ fn client_of(word: &[u8]) -> Option<Actor>
     }
 }
 
-/// The actor whose word this is, whether or not the plan has so many clients.
+/// The actor whose word this is, whether or not the plan has this many clients.
 #[tactic(auto, unfolding(crate::specs::Actors::actor_of))]
 pub fn actor_of(word: &[u8]) -> Option<Actor>
     ensures { result ≡ actor_of word.now }
@@ -46,7 +46,7 @@ pub fn actor_of(word: &[u8]) -> Option<Actor>
     }
 }
 
-/// Whether a plan with so many clients has the actor.
+/// Whether a plan with `clients` clients has the actor.
 pub fn is_among(clients: u32, actor: Actor) -> bool
     ensures { result ≡ is_among clients actor }
 {
@@ -61,7 +61,7 @@ pub fn is_among(clients: u32, actor: Actor) -> bool
     }
 }
 
-/// The actor of a plan with so many clients whose word this is.
+/// The actor of a plan with `clients` clients whose word this is.
 pub fn actor_among(clients: u32, word: &[u8]) -> Option<Actor>
     ensures { result ≡ actor_among clients word.now }
 {

@@ -80,7 +80,7 @@ fn loss_of_words(clients: u32, words: &[&[u8]]) -> Result<Loss, OrderFault>
     }
 }
 
-/// Reads a loss of a session of a plan with so many clients.
+/// Reads a loss of a session of a plan with `clients` clients.
 pub fn read_fault(alloc: Global, text: &str, clients: u32) -> Result<Loss, OrderFault>
     ensures { Answers (λ loss. loss) result (loss_of clients text.now) }
 {

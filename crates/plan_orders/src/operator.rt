@@ -143,7 +143,7 @@ fn have_more_commands(alloc: Global, limit: u64, texts: &[&str]) -> Result<bool,
     Ok(false)
 }
 
-/// Whether an operator's text has more lines with a word than so many.
+/// Whether an operator's text has more lines with a word than `limit`.
 pub fn has_more_commands(alloc: Global, limit: u64, text: &str) -> Result<bool, AllocError>
     ensures { IfOk result (λ more. more ≡ nat_lt limit (command_count text.now)) }
 {

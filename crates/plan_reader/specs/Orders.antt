@@ -33,14 +33,14 @@ has_many_orders texts = nat_lt COMMAND_LIMIT (command_count texts.operator) || n
 abbrev pub few_orders : KeyData → Result KeyData PlanRefusal
 few_orders keys = if has_many_orders keys.texts then Err (Keys TooMany) else Ok keys
 
--- the loss of this number of a plan with so many clients
+-- the loss of this number of a plan with this many clients
 abbrev pub numbered_loss : ℕ → ℕ → List ℕ → Result Loss PlanRefusal
 numbered_loss clients fault text = of_fault fault (loss_of clients text)
 
 abbrev pub faults_of : ℕ → List (List ℕ) → Result (List Loss) PlanRefusal
 faults_of clients texts = each_from (numbered_loss clients) 1 texts
 
--- *Orders* of a plan with so many clients: the operator's lines come first, then the losses, then the words of the turns.
+-- *Orders* of a plan with this many clients: the operator's lines come first, then the losses, then the words of the turns.
 unfoldable pub orders_of : ℕ → TextData → Result OrderData PlanRefusal
 orders_of clients texts = do
   operator ← of_operator (operator_of texts.operator)

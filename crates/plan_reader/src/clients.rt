@@ -100,7 +100,7 @@ fn open_selects_in(script: &[ScriptLine]) -> usize
     count
 }
 
-/// Whether scripts have more statements together than so many.
+/// Whether scripts have more statements together than `limit`.
 fn have_more_statements(limit: usize, scripts: &[Script]) -> bool
     ensures { result ≡ nat_lt limit (line_count is_statement scripts.now) }
 {
@@ -115,7 +115,7 @@ fn have_more_statements(limit: usize, scripts: &[Script]) -> bool
     false
 }
 
-/// Whether scripts have more SELECTs that may show many rows together than so many.
+/// Whether scripts have more SELECTs that may show many rows together than `limit`.
 fn have_more_open_selects(limit: usize, scripts: &[Script]) -> bool
     ensures { result ≡ nat_lt limit (line_count is_open_select scripts.now) }
 {

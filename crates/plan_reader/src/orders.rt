@@ -87,7 +87,7 @@ fn turns_of(alloc: Global, clients: u32, text: &str) -> Result<ActorRuns, PlanFa
     because(read_turns(alloc, text, clients), PlanRefusal::Turn)
 }
 
-/// The orders of a plan with so many clients.
+/// The orders of a plan with `clients` clients.
 #[tactic(auto, unfolding(crate::specs::Orders::orders_of))]
 pub fn orders_of(alloc: Global, clients: u32, texts: &PlanTexts<'_>) -> Result<Orders, PlanFault>
     ensures { Answers order_data result (orders_of clients (text_data texts.now)) }

@@ -30,7 +30,7 @@ pub struct Ran<'a, V: Serve> {
     pub ending: Ending,
 }
 
-/// Lets so many workers take the turns of a run, each in a thread of its own, until it is over or there is no memory for a
+/// Lets `workers` workers take the turns of a run, each in a thread of its own, until it is over or there is no memory for a
 /// turn; what is left is the run, and the worker of each of its turns. Workers wait for each other's turns in the turn queue.
 pub fn run_by_workers<'a, V: Serve + Send, R: Threads + Wait + Sync, G: Gate + Sync>(
     rt: &R,

@@ -172,7 +172,7 @@ impl HeldNames {
         held
     }
 
-    /// Lets go of all but the first so many.
+    /// Lets go of all but the first `len`.
     pub fn cut(&mut self, len: usize)
         ensures { self.new ≡ take len self.old }
     {

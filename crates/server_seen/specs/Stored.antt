@@ -14,7 +14,7 @@ pub record StoredKeys : Type 0 where
   pub width : ℕ
   pub spare : ℕ
 
--- so many numbers from this one on
+-- this many numbers from this one on
 abbrev pub counted : ℕ → ℕ → List ℕ
 counted from zero = []
 counted from (suc n) = from ∷ counted (suc from) n

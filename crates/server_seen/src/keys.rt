@@ -79,7 +79,7 @@ fn copies_of(alloc: Global, mut keys: SpanRows<'_>) -> Result<Keys, AllocError>
 }
 
 impl KeySet {
-    /// No keys, of at most so many values.
+    /// No keys, of at most `width` values.
     pub fn new(alloc: Global, width: usize) -> Result<KeySet, AllocError>
         ensures keys { IfOk result (λ set. set.keys ≡ []) }
         ensures width { IfOk result (λ set. set.width ≡ width) }
@@ -118,7 +118,7 @@ impl KeySet {
         copies_of(alloc, self.table.rows())
     }
 
-    /// Makes room for so many more keys.
+    /// Makes room for `n` more keys.
     pub fn reserve(&mut self, n: usize) -> Result<(), AllocError>
         ensures keys { self.new.keys ≡ self.old.keys }
         ensures width { self.new.width ≡ self.old.width }

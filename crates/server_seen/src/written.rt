@@ -91,7 +91,7 @@ impl WrittenRows {
         self.rows.schema()
     }
 
-    /// Makes room for so many more rows and keys.
+    /// Makes room for `n` more rows and keys.
     pub fn reserve(&mut self, n: usize) -> Result<(), AllocError>
         ensures schema { self.new.schema ≡ self.old.schema }
         ensures written { self.new.written ≡ self.old.written }

@@ -60,7 +60,7 @@ pub record IsTxn (tables : List StoredWrites) (events : List KeyedEvent) : Type 
 
 -- WHAT IT HAS ROOM FOR
 
--- for so many rows and keys, in what was written to a table before; for one table more, where nothing was
+-- for this many rows and keys, in what was written to a table before; for one table more, where nothing was
 abbrev pub HasRoomFor : ℕ → Option StoredWrites → ℕ → Type 0
 HasRoomFor n None tables = 1 ≤ tables
 HasRoomFor n (Some writes) tables = n ≤ writes.spare

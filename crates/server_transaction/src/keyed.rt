@@ -66,7 +66,7 @@ pub fn keyed_events(
     Ok(all)
 }
 
-/// Makes room for so many more events.
+/// Makes room for `n` more events.
 pub fn reserve_events(events: &mut Vec<KeyedEvent>, n: usize) -> Result<(), AllocError>
     ensures items { events.new.items ≡ events.old.items }
     ensures room { OnOk result (n ≤ vec_capacity events.new - vec_len events.new) }

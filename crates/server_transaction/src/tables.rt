@@ -41,7 +41,7 @@ fn reserve_one(tables: &mut Vec<WrittenRows>) -> Result<(), AllocError>
     tables.reserve(1)
 }
 
-/// Makes room for so many rows and keys in what was written to the table of this name, or for that table.
+/// Makes room for `n` rows and keys in what was written to the table of this name, or for that table.
 pub fn reserve_for(tables: &mut Vec<WrittenRows>, name: &Name, n: usize) -> Result<(), AllocError>
     ensures plain { map plain tables.new.items ≡ map plain tables.old.items }
     ensures room { OnOk result (HasRoomFor n (find_writes name.now tables.new.items) (vec_capacity tables.new - vec_len tables.new)) }

@@ -33,11 +33,11 @@ keys_after change indexes = map (index_after change) indexes
 abbrev pub indexes_after : PlaceChange → List Index → List Index
 indexes_after change indexes = filter has_places (keys_after change indexes)
 
--- the places of the keys are places of so many columns
+-- the places of the keys are places of this many columns
 abbrev pub ArePlaces : ℕ → List Index → Type 0
 ArePlaces count indexes = AllByRecursion (λ index. AllByRecursion (λ place. place < count) index.places) indexes
 
--- the change is one of so many columns
+-- the change is one of this many columns
 abbrev pub IsChangeOf : ℕ → PlaceChange → Type 0
 IsChangeOf count (Added at) = Unit {0}
 IsChangeOf count (Dropped at) = at < count

@@ -11,7 +11,8 @@ with_others others first (Some rest) = do
   more ← others rest
   Ok (first.0 ∷ more.0, more.1)
 
--- At least one item, and at most so many: since each has a word, a text has no more than it has words. Where there is none it is refused as ended.
+-- At least one item, and at most this many: since each has a word, a text has no more than it has words. Where there is none it
+-- is refused as ended.
 unfoldable pub listed : {A C : Type 0} → (List Token → Result (A × List Token) C) → C → ℕ → List Token → Result (List A × List Token) C
 listed item ended zero words = Err ended
 listed item ended (suc most) words = do
@@ -23,7 +24,7 @@ abbrev pub with_more : {S X C : Type 0} → (S → List Token → Result (S × L
 with_more others add so_far words None = Ok (so_far, words)
 with_more others add so_far words (Some read) = others (add so_far read.0) read.1
 
--- Items one after the other, as long as one begins at the front, and at most so many: what they make of a start one by one.
+-- Items one after the other, as long as one begins at the front, and at most this many: what they make of a start one by one.
 unfoldable pub gathered : {S X C : Type 0} → (List Token → Result (Option (X × List Token)) C) → (S → X → S) → ℕ → S → List Token → Result (S × List Token) C
 gathered item add zero so_far words = Ok (so_far, words)
 gathered item add (suc most) so_far words = do

@@ -14,7 +14,7 @@ use base_values::Kind;
 /// The word that a kind begins with.
 #[derive(Clone, Copy)]
 pub enum KindWord {
-    /// An integer kind of so many bytes.
+    /// An integer kind of this many bytes.
     Integer(u8),
     /// VARCHAR.
     VarChar,

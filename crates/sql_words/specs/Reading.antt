@@ -26,7 +26,7 @@ abbrev pub with_word : Reading → Result (List Reading) WordFault → Result (L
 with_word w (Ok others) = Ok (w ∷ others)
 with_word w (Err fault) = Err fault
 
--- the words from this place on, given what is at the front and the words that follow so many bytes
+-- the words from this place on, given what is at the front and the words that follow this many bytes
 abbrev pub read_on : ℕ → List ℕ → Result Front WordFault → (ℕ → Result (List Reading) WordFault) → Result (List Reading) WordFault
 read_on place bytes (Err fault) others = Err fault
 read_on place bytes (Ok (Gap n)) others = others n

@@ -16,9 +16,9 @@ use crate::word::{WordClass, WordFault};
 /// What is at the front of a rest of a text.
 #[derive(Clone, Copy)]
 pub enum Front {
-    /// White space or a comment, of so many bytes.
+    /// White space or a comment, of this many bytes.
     Gap(usize),
-    /// A word, of so many bytes.
+    /// A word, of this many bytes.
     Found(WordClass, usize),
 }
 

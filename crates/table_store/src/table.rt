@@ -159,7 +159,7 @@ impl Table {
         mem::replace(&mut self.schema.name, name)
     }
 
-    /// Makes room for so many more rows.
+    /// Makes room for `n` more rows.
     pub fn reserve(&mut self, n: usize) -> Result<(), AllocError>
         ensures table { self.new.table ≡ self.old.table }
         ensures ok { OnOk result (n ≤ self.new.spare) }

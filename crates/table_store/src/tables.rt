@@ -146,7 +146,7 @@ impl Tables {
         }
     }
 
-    /// Makes room for so many more rows in the table of this name.
+    /// Makes room for `n` more rows in the table of this name.
     pub fn reserve_in(&mut self, name: &Name, n: usize) -> Result<(), AllocError>
         requires { IsSome (find_table name.now (database self.old)) }
         ensures tables { database self.new ≡ database self.old }

@@ -64,7 +64,7 @@ fn a_source_of_single_bytes_is_read_whole(rt: HostRuntime) -> Result<(), Fail> {
     Ok(())
 }
 
-/// How many bytes are read of a source of so many, and what it gives next.
+/// How many bytes are read of a source of `len`, and what it gives next.
 fn read_of(alloc: Global, len: usize) -> Result<(usize, Took), ReadFault> {
     let mut source = BytesSource::new(vec![in alloc; 7u8; len]?, None);
     let read = read_whole(alloc, &mut source, LIMIT)?.len();

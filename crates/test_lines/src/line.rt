@@ -40,7 +40,7 @@ impl<'a> Line<'a> {
     }
 }
 
-/// Adds a text so many times, each with its number at the sign.
+/// Adds a text `times` times, each with its number at the sign.
 fn push_times(into: &mut Text, times: u32, piece: &str) -> Result<(), AllocError> {
     for number in 0..times {
         match piece.split_once('#') {

@@ -59,7 +59,7 @@ fn run_by(alloc: Global, program: &Program, plan: &str, workers: &str) -> Result
     run(alloc, program, words.as_str(), plan.as_bytes())
 }
 
-/// Whether a plan's run by so many workers is as one at a time, and has the report of its replay in the order that it prints.
+/// Whether a plan's run by this many workers is as one at a time, and has the report of its replay in the order that it prints.
 fn is_replayed(
     alloc: Global,
     program: &Program,

@@ -26,7 +26,7 @@ fn ends_at_source(
     Ok(ran.ended.status == 4 && ran.source.faults() == 1 && is_told)
 }
 
-/// Whether a sink that fails after so many bytes ends the call with the write fault, and holds just those bytes.
+/// Whether a sink that fails after `fail_at` bytes ends the call with the write fault, and holds just those bytes.
 fn ends_at_sink(
     alloc: Global,
     program: &Program,

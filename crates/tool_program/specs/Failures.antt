@@ -62,7 +62,7 @@ abbrev pub is_poll : Asked → Bool
 is_poll Poll = true
 is_poll asked = false
 
--- so many polls answered Waits, and before them a call that was: read from the last entry back
+-- this many polls answered Waits, and before them a call that was: read from the last entry back
 unfoldable pub waited_for : ℕ → List Entry → Bool
 waited_for polls [] = false
 waited_for zero (entry ∷ earlier) = is_call entry.asked && is_wait entry.answer

@@ -38,7 +38,7 @@ abbrev pub worker_turns : List Turn → List WorkerTurn
 worker_turns turns = map (λ turn. record { worker = turn.worker; actor = turn.actor }) turns
 
 -- *Takes*: what holds of the turns that a command takes of a plan: they are those of its whole replay, or of its whole run by
--- so many workers; `check` takes none
+-- this many workers; `check` takes none
 abbrev pub Takes : PlanCommand → PlanData → List Turn → List Entry → Type 0
 Takes Check plan turns journal = ⊥
 Takes Replay plan turns journal = IsWholeReplay plan journal × (turns ≡ turns_of journal)
@@ -60,7 +60,7 @@ pub record IsReport (plan : PlanData) (journal : List Entry) (printed : Printed)
   pub status_is : printed.status ≡ status_of (verdict_of plan journal)
   pub text_is : printed.text ≡ report plan journal (verdict_of plan journal) (state_at plan journal).tables
 
--- These are the turns of the plan's whole replay, or of its whole run by so many workers; its report is printed, or nothing
+-- These are the turns of the plan's whole replay, or of its whole run by this many workers; its report is printed, or nothing
 -- where memory ran out, and then the turns are those that were taken until then.
 pub record IsTaken (told : PlanCommand) (plan : PlanData) (printed : Option Printed) (turns : List Turn) (journal : List Entry) : Type 0 where
   pub was_read : WasRead plan

@@ -38,8 +38,8 @@ use Rattle.top_call.specs.Outcomes.{IsUntaken, Takes}
 abbrev pub Completes : PlanData → List Entry → Type 0
 Completes plan journal = IsQuiet plan → RowsHaveConvertedRows plan → IsWithinLimits plan journal → has_ended plan journal ≡ true → verdict_of plan journal ≡ verdicts.Done
 
--- *The headline*, of the turns that a call leaves: the source was read whole, its bytes are an accepted plan, and the turns
--- are those of the plan's whole replay, or of its whole run by so many workers, as the command says.
+-- *The headline*, of the turns that a call leaves: the source was read whole, its bytes are an accepted plan, and the turns are
+-- those of the plan's whole replay, or of its whole run by this many workers, as the command says.
 pub record Runs (told : PlanCommand) (source : Taking) (turns : List Turn) (journal : List Entry) : Type 0 where
   pub bytes : List ℕ
   pub whole : ReadsWhole PLAN_LIMIT source.before source.after bytes

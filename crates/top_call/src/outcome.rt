@@ -84,7 +84,7 @@ fn plan_replayed(alloc: Global, plan: &Plan) -> Result<Outcome, AllocError>
     })
 }
 
-/// What comes of the run of a plan by so many workers. Where there is no memory for the list of turns, for the server or for
+/// What comes of the run of a plan by `workers` workers. Where there is no memory for the list of turns, for the server or for
 /// the turn queue, no turn is taken.
 #[tactic(auto, using(crate::proofs::Worked::few_turns, crate::proofs::Worked::taken_by))]
 fn plan_worked<R: Threads + Wait + Sync, G: Gate + Sync>(

@@ -7,6 +7,6 @@ pub enum PlanCommand {
     Check,
     /// `replay`: it is run on one thread.
     Replay,
-    /// `run`: it is run by so many worker threads, 1 to 16.
+    /// `run`: it is run by this many worker threads, 1 to 16.
     Run(u32),
 }

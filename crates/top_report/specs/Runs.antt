@@ -7,7 +7,7 @@ use Rattle.plan_data.specs.declared.runs.ActorRun.{ActorRun}
 use Rattle.top_report.specs.declared.turns.OpenRun.{OpenRun}
 use Rattle.top_report.specs.Turns.{run_text, runs_of}
 
--- the runs of these turns, where so many of an actor come before them
+-- the runs of these turns, where this many of an actor come before them
 unfoldable pub runs_after : Actor → ℕ → List Actor → List ActorRun
 runs_after actor times [] = record { actor = actor; times = times } ∷ []
 runs_after actor times (other ∷ actors) =

@@ -22,7 +22,7 @@ actor_word (Client number) = codes "c" ++ decimal number
 unfoldable pub turns_taken : List Entry → List Actor
 turns_taken journal = map (λ entry. entry.actor) (filter (λ entry. not (is_cut entry.asked)) journal)
 
--- so many turns of an actor, and then these
+-- this many turns of an actor, and then these
 unfoldable pub joined : Actor → ℕ → List ActorRun → List ActorRun
 joined actor times [] = record { actor = actor; times = times } ∷ []
 joined actor times (run ∷ runs) =

@@ -7,7 +7,7 @@ pub enum Command {
     Check,
     /// `replay`: a plan's run, on one thread.
     Replay,
-    /// `run`: a plan's run on so many threads, 1 to 16.
+    /// `run`: a plan's run on this many threads, 1 to 16.
     Run(u32),
     /// `generate`: the plan of a number. Nothing is read.
     Generate(u64),

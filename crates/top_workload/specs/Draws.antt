@@ -11,7 +11,7 @@ next_state state = (state * 6364136223846793005 + 1442695040888963407) % 2 ^ 64
 abbrev pub drawn : ℕ → ℕ
 drawn state = next_state state / 2 ^ 33
 
--- the state after so many draws
+-- the state after this many draws
 unfoldable pub state_after : ℕ → ℕ → ℕ
 state_after state zero = state
 state_after state (suc count) = next_state (state_after state count)

@@ -19,7 +19,7 @@ client_count number = 1 + number % 32
 unfoldable pub row_line : ℕ → ℕ → List ℕ
 row_line key value = codes "\"(" ++ decimal key ++ codes ", 'u" ++ decimal key ++ codes "', " ++ decimal value ++ codes ")\",\n"
 
--- the row after so many others; each takes one draw
+-- the row after this many others; each takes one draw
 abbrev pub row_text : ℕ → ℕ → List ℕ
 row_text number place = row_line (2 * (place + 1)) (drawn (state_after number place) % 1000)
 
@@ -58,7 +58,7 @@ statement_text rows state = statement_line (drawn state) (1 + drawn (state_after
 
 -- ---- clients
 
--- the statement after so many others of its client, whose draws begin at the state; each takes two draws
+-- the statement after this many others of its client, whose draws begin at the state; each takes two draws
 abbrev pub client_line : ℕ → ℕ → ℕ → List ℕ
 client_line rows state line = statement_text rows (state_after state (2 * line))
 
@@ -66,7 +66,7 @@ client_line rows state line = statement_text rows (state_after state (2 * line))
 unfoldable pub client_text : ℕ → ℕ → List ℕ
 client_text rows state = codes "\"\"\"\n" ++ flat_map (client_line rows state) (range_with_len 0 30) ++ codes "\"\"\",\n"
 
--- the client after so many others; the clients' draws begin after those of the rows
+-- the client after this many others; the clients' draws begin after those of the rows
 abbrev pub client_at : ℕ → ℕ → List ℕ
 client_at number client = client_text (row_count number) (state_after number (row_count number + 60 * client))
 

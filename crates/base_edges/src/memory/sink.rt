@@ -10,7 +10,7 @@ use crate::sink::{Gave, Sink};
 use std::alloc::Global;
 use std::marker::Model;
 
-/// Holds what it was given, and fails once it has taken so many bytes.
+/// Holds what it was given, and fails once it has taken this many bytes.
 #[derive(Drop)]
 pub struct BytesSink {
     held: Vec<u8>,

@@ -99,7 +99,7 @@ impl Source for BytesSource {
     }
 }
 
-/// Copies so many bytes from the front of one slice to the front of the other.
+/// Copies `len` bytes from the front of one slice to the front of the other.
 fn copy_front(from: &[u8], into: &mut [u8], len: usize)
     requires there { len ≤ length from.now }
     requires room { len ≤ length into.old }

@@ -3,7 +3,7 @@ use Rattle.std.specs.Prelude.{ℕ, Bool, not, ◌&&◌, nat_le, if◌then◌else
 use Rattle.base_values.specs.Storing.{character_count}
 use Rattle.base_values.specs.GhoSchema.Names.{is_kept}
 
--- the name has 1 to so many characters
+-- the name has 1 to this many characters
 unfoldable pub is_name_length : ℕ → List ℕ → Bool
 is_name_length limit name = nat_le 1 (character_count name) && nat_le (character_count name) limit
 

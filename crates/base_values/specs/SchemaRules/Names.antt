@@ -33,7 +33,7 @@ spelled names name = unwrap_or (find (λ known. same_name known name) names) nam
 unfoldable pub numbered : List ℕ → ℕ → List ℕ
 numbered base number = if number == 1 then base else base ++ codes "_" ++ decimal number
 
--- the first numbered name that isn't among the others, of so many more
+-- the first numbered name that isn't among the others, of this many more
 unfoldable pub first_free : List (List ℕ) → List ℕ → ℕ → ℕ → List ℕ
 first_free taken base zero number = numbered base number
 first_free taken base (suc most) number = if is_among taken (numbered base number) then first_free taken base most (number + 1) else numbered base number

@@ -27,7 +27,7 @@ pub record IsColumn (column : Column) : Type 0 where
   pub kind : is_kind column.kind ≡ true
   pub default : StoresDefault column column.default
 
--- a key of so many columns has at least one place, and its places are theirs
+-- a key of this many columns has at least one place, and its places are theirs
 pub record IsKey (count : ℕ) (index : Index) : Type 0 where
   pub some : 0 < length index.places
   pub within : AllByRecursion (λ place. place < count) index.places

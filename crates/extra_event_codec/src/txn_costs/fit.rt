@@ -86,7 +86,7 @@ fn size_of_value(value: &Value) -> Option<u64>
     }
 }
 
-/// In how many bytes the values are encoded, after so many others; none where that is more than four bytes tell.
+/// In how many bytes the values are encoded, after `others` others; none where that is more than four bytes tell.
 #[tactic(auto, using(crate::proofs::Sizes::of_values))]
 fn size_after(others: u64, row: &[Value]) -> Option<u64>
     ensures some { IfSome result (λ size. size ≡ others + length (values_bytes row.now)) }
@@ -99,7 +99,7 @@ fn size_after(others: u64, row: &[Value]) -> Option<u64>
     Some(size)
 }
 
-/// In how many bytes the values of the change are encoded, after so many others.
+/// In how many bytes the values of the change are encoded, after `others` others.
 #[tactic(auto, using(crate::proofs::Sizes::of_changes))]
 fn size_of_change(others: u64, change: &Change) -> Option<u64>
     ensures some { IfSome result (λ size. size ≡ others + length (values_bytes (values_of change.now))) }

@@ -7,7 +7,7 @@ use Rattle.plan_data.specs.PlanData.{turns_in}
 use Rattle.top_report.specs.Turns.{order_text, runs_of}
 use Rattle.plan_orders.specs.TurnOrder.Turns.{turns_of}
 
--- a plan with so many clients has the actor; clients are numbered from 1
+-- a plan with this many clients has the actor; clients are numbered from 1
 abbrev pub IsOf : ℕ → Actor → Type 0
 IsOf clients (Client number) = (0 < number) × (number ≤ clients)
 IsOf clients actor = Unit {0}

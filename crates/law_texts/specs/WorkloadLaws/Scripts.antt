@@ -39,7 +39,7 @@ asked_of what key =
 
 -- ---- clients
 
--- the statement after so many others of a client, whose draws begin at the state; each takes two draws
+-- the statement after this many others of a client, whose draws begin at the state; each takes two draws
 abbrev pub asked_at : ℕ → ℕ → ℕ → Statement
 asked_at rows state line = asked_of (drawn (state_after state (2 * line))) (1 + drawn (state_after (state_after state (2 * line)) 1) % (2 * rows))
 

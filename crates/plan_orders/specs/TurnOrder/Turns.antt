@@ -15,12 +15,12 @@ run_with None times = None
 run_with (Some actor) None = None
 run_with (Some actor) (Some times) = Some (record { actor = actor; times = times })
 
--- an actor's word alone is one turn; `*` and a number from 1 on after it ask for so many
+-- an actor's word alone is one turn; `*` and a number from 1 on after it ask for this many
 abbrev pub run_in : List ℕ → Option (List ℕ × List ℕ) → Option ActorRun
 run_in word None = run_with (actor_of word) (Some 1)
 run_in word (Some parts) = run_with (actor_of parts.0) (number_of parts.1)
 
--- the turns that a word asks for, whether or not the plan has so many clients: `copy*3`
+-- the turns that a word asks for, whether or not the plan has this many clients: `copy*3`
 unfoldable pub run_of : List ℕ → Option ActorRun
 run_of word = run_in word (parts_at 42 word)
 
@@ -37,7 +37,7 @@ abbrev pub if_among : ℕ → Option ActorRun → Option ActorRun
 if_among clients None = None
 if_among clients (Some run) = if is_among clients run.actor then Some run else None
 
--- the turns of an actor of a plan with so many clients that a word asks for
+-- the turns of an actor of a plan with this many clients that a word asks for
 abbrev pub run_among : ℕ → List ℕ → Option ActorRun
 run_among clients word = if_among clients (run_of word)
 

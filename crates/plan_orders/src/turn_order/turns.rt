@@ -21,7 +21,7 @@ fn run_with(actor: Option<Actor>, times: Option<u32>) -> Option<ActorRun>
     Some(ActorRun { actor, times })
 }
 
-/// The turns that a word asks for, whether or not the plan has so many clients.
+/// The turns that a word asks for, whether or not the plan has this many clients.
 #[tactic(auto, unfolding(crate::specs::TurnOrder::Turns::run_of))]
 fn run_of(word: &[u8]) -> Option<ActorRun>
     ensures { result ≡ run_of word.now }
@@ -56,7 +56,7 @@ fn ask_for_more(limit: u64, words: &[&[u8]]) -> bool
     false
 }
 
-/// Whether a text asks for more turns than so many.
+/// Whether a text asks for more turns than `limit`.
 pub fn has_more_turns(alloc: Global, limit: u64, text: &str) -> Result<bool, AllocError>
     ensures { IfOk result (λ more. more ≡ nat_lt limit (turn_count text.now)) }
 {
@@ -64,7 +64,7 @@ pub fn has_more_turns(alloc: Global, limit: u64, text: &str) -> Result<bool, All
     Ok(ask_for_more(limit, words.as_slice()))
 }
 
-/// The turns of an actor of a plan with so many clients that a word asks for.
+/// The turns of an actor of a plan with `clients` clients that a word asks for.
 fn run_among(clients: u32, word: &[u8]) -> Option<ActorRun>
     ensures { result ≡ run_among clients word.now }
 {
@@ -99,7 +99,7 @@ fn runs_from(alloc: Global, clients: u32, words: &[&[u8]]) -> Result<ActorRuns, 
     Ok(runs)
 }
 
-/// Reads an order of turns of the actors of a plan with so many clients.
+/// Reads an order of turns of the actors of a plan with `clients` clients.
 pub fn read_turns(alloc: Global, text: &str, clients: u32) -> Result<ActorRuns, TurnFault>
     ensures { Answers (λ runs. runs) result (turns_of clients text.now) }
 {

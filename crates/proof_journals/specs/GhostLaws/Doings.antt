@@ -15,16 +15,16 @@ abbrev pub own_change : List ℕ → Option RowEvent → List Change
 own_change name None = []
 own_change name (Some event) = if bytes_eq event.table name then event.change ∷ [] else []
 
--- the changes of the table of this name, of so many events from a place of the log on
+-- the changes of the table of this name, of this many events from a place of the log on
 unfoldable pub changes_in : List ℕ → List RowEvent → ℕ → ℕ → List Change
 changes_in name log from zero = []
 changes_in name log from (suc steps) = own_change name (slice_get log from) ++ changes_in name log (from + 1) steps
 
--- no event from one place of the log on, so many, is of the table
+-- no event from one place of the log on, this many, is of the table
 abbrev pub OthersOnly : List ℕ → List RowEvent → ℕ → ℕ → Type 0
 OthersOnly name log from steps = (i : ℕ) (event : RowEvent) → from ≤ i → i < from + steps → slice_get log i ≡ Some event → bytes_eq event.table name ≡ false
 
--- *The next event of the table*: so many others come before it, and so many places are left after it.
+-- *The next event of the table*: this many others come before it, and this many places are left after it.
 pub record NextDue (name : List ℕ) (log : List RowEvent) (from steps : ℕ) (change : Change) (rest : List Change) : Type 0 where
   pub others : ℕ
   pub left : ℕ

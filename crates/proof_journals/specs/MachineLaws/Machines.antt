@@ -91,7 +91,7 @@ applier_busy (applying.Beginning batch) = false
 applier_busy (applying.Applying batch done part) = true
 applier_busy (applying.Committing batch) = true
 
--- the batch's events were read in its turn, and so many statements are planned for them
+-- the batch's events were read in its turn, and this many statements are planned for them
 pub record IsBatch (journal : List Entry) (applier : Applier) (batch : Batch) : Type 0 where
   pub events : List RowEvent
   pub next : ℕ

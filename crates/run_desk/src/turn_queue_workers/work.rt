@@ -126,8 +126,8 @@ fn work_all<B: SharedState + Send, R: Threads + Wait + Sync, G: Gate + Sync>(
     );
 }
 
-/// Lets so many workers take turns at a shared state, each in a thread of its own, until none is left or there is no memory for
-/// one.
+/// Lets `workers` workers take turns at a shared state, each in a thread of its own, until none is left or there is no memory
+/// for one.
 pub fn take_turns<B: SharedState + Drop + Send, R: Threads + Wait + Sync, G: Gate + Sync>(
     rt: &R,
     alloc: Global,

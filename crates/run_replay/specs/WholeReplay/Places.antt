@@ -8,7 +8,7 @@ use Rattle.tool_program.specs.Orders.{actors, Queue, Choice, Found}
 use Rattle.run_replay.specs.declared.whole_replay.place.Place.{Place}
 use Rattle.run_replay.specs.declared.whole_replay.place.NextTurn.{NextTurn}
 
--- the turns of runs, where so many of the first run are done
+-- the turns of runs, where this many of the first run are done
 unfoldable pub words_from : ℕ → List ActorRun → List Actor
 words_from used [] = []
 words_from used (run ∷ runs) = repeat (run.times - used) (run.actor ∷ []) ++ turns_in runs

@@ -24,7 +24,7 @@ fn words_at<V: Serve>(run: &Run<'_, V>, place: usize) -> ActorRun
     run.plan().turns().as_slice()[place]
 }
 
-/// Whether a word of these is left, after so many, and its actor is ready.
+/// Whether a word of these is left, after `used`, and its actor is ready.
 fn is_next<V: Serve>(run: &Run<'_, V>, words: ActorRun, used: u32) -> bool
     ensures { result ≡ (nat_lt used words.times && is_ready run.now.plan run.now.journal words.actor) }
 {

@@ -61,8 +61,8 @@ fn last_entry<'r, V: Serve>(run: &'r Run<'_, V>) -> &'r Entry
 }
 
 impl<'a, V: Serve> Worked<'a, V> {
-    /// A run without turns, on a server at the plan's opening, for so many workers. The memory for the turns' workers is taken
-    /// here.
+    /// A run without turns, on a server at the plan's opening, for `workers` workers. The memory for the turns' workers is
+    /// taken here.
     pub fn open(alloc: Global, run: Run<'a, V>, workers: u32) -> Result<Worked<'a, V>, AllocError>
         requires some { 1 ≤ workers }
         requires going { IsGoing run.plan }

@@ -50,7 +50,7 @@ pub fn end_of_chunk(
     }
 }
 
-/// The keys of a span of the table, so many at most, and where the chunk ends; none where the table doesn't exist.
+/// The keys of a span of the table, `size` at most, and where the chunk ends; none where the table doesn't exist.
 pub fn keys_of_span(
     alloc: Global,
     tables: &Tables,

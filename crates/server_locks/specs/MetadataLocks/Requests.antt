@@ -23,7 +23,7 @@ all_locks granted = flat_map locks_of granted
 abbrev pub as_waiter : Request → Waiter
 as_waiter request = record { session = request.session; names = request.names }
 
--- What waited before the last ask or poll: the first so many; or, where a request was taken from this place, with it.
+-- What waited before the last ask or poll: the first of them, this many; or, where a request was taken from this place, with it.
 abbrev pub waited_before : Step → List Request → List Waiter → List Waiter
 waited_before (steps.Asked n) since waiting = take n waiting
 waited_before (steps.Polled place) since waiting = take place waiting ++ map as_waiter since ++ drop place waiting

@@ -95,7 +95,7 @@ pub record IsIndexed (locks : List Lock) (count : ℕ) (points wide : List ℕ) 
   pub wide_are : AllByRecursion (λ place. is_wide_lock (slice_get locks place) ≡ true) wide
   pub all : IsPermutation (places_to count) (points ++ wide)
 
--- the index has room for so many more places, whatever locks stand there
+-- the index has room for this many more places, whatever locks stand there
 pub record HasRoom (more : ℕ) (index : LockIndex) : Type 0 where
   pub points : more ≤ index.points.spare
   pub wide : vec_len index.wide + more ≤ vec_capacity index.wide

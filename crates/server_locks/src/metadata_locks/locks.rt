@@ -18,7 +18,7 @@ use std::marker::Model;
 /// What the last ask or poll did to the requests that wait.
 #[derive(Clone, Copy)]
 enum Step {
-    /// It was an ask, before which so many waited.
+    /// It was an ask, before which this many waited.
     Asked(usize),
     /// It was a poll that was granted, of the request at this place.
     Polled(usize),

@@ -7,7 +7,7 @@ use crate::live_sessions::row_log::Log;
 use server_model::Session;
 use std::alloc::AllocError;
 
-/// How many events the sessions wrote in their open transactions, and so many more; none where they are too many to count.
+/// How many events the sessions wrote in their open transactions, and `more` more; none where they are too many to count.
 fn room_for(sessions: &[Session], more: usize) -> Option<usize>
     ensures { IfSome result (λ room. room ≡ open_events sessions.now + more) }
 {
@@ -18,7 +18,7 @@ fn room_for(sessions: &[Session], more: usize) -> Option<usize>
     Some(room)
 }
 
-/// Makes room for the events of all open transactions and for so many more.
+/// Makes room for the events of all open transactions and for `more` more.
 pub fn make_room(log: &mut Log, sessions: &[Session], more: usize) -> Result<(), AllocError>
     ensures events { log.new.events ≡ log.old.events }
     ensures ok { OnOk result (open_events sessions.now + more ≤ log.new.spare) }

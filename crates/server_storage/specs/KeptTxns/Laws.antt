@@ -36,7 +36,7 @@ MakingRoomKeeps =
     (name : List ℕ) (was now : List StoredTable) (txns : List OpenTxn) → IsKept was txns → database now ≡ database was → spare_in name was ≤ spare_in name now → other_tables name now ≡ other_tables name was → IsKept now txns
 
 -- *Room makes ready*: writes are ready, where the session's transaction has room for them, their table exists with their
--- schema, something is written, and the table has room for so many rows more than all open commits put.
+-- schema, something is written, and the table has room for this many rows more than all open commits put.
 abbrev pub RoomMakesReady : Type 0
 RoomMakesReady =
     (tables : List StoredTable) (txns : List OpenTxn) (number count : ℕ) (writes : TableChanges) → IsKept tables txns → IsSome (txn_of number txns) → IfSome (txn_of number txns) (λ one. HasRoom one.txn writes) → HasSchema (database tables) writes.schema

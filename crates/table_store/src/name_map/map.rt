@@ -78,7 +78,7 @@ impl<T> NameMap<T> {
         String::from_str(*self.entries.allocator(), name)
     }
 
-    /// Makes room for so many more values.
+    /// Makes room for `count` more values.
     pub fn reserve(&mut self, count: usize) -> Result<(), AllocError>
         ensures names { self.new.names ≡ self.old.names }
         ensures values { self.new.values ≡ self.old.values }

@@ -99,7 +99,7 @@ impl<'a> Reached<'a> {
         if self.is_inside() {
             return Ok(self.begun);
         }
-        // There is no memory for a script of so many transactions.
+        // There is no memory for a script of this many transactions.
         self.begun.checked_add(1).ok_or(AllocError)
     }
 

@@ -114,7 +114,7 @@ progress_at step answer = Going
 unfoldable pub progress : Copier → Answer → Progress
 progress copier answer = progress_at copier.step answer
 
--- a chunk holds at most so many rows from the next one on
+-- a chunk holds at most this many rows from the next one on
 abbrev pub resized : ℕ → Copier → Copier
 resized size copier = record copier { size = size }
 

@@ -195,7 +195,7 @@ is_done phase = false
 
 -- AFTER AN APPLIER'S TURN
 
--- the attempt is drained where the applier has passed its hint row, and fails where it hasn't in so many turns
+-- the attempt is drained where the applier has passed its hint row, and fails where it hasn't in this many turns
 abbrev pub drained : CutOver → ℕ → Phase → Phase
 drained cutover hint (Attempting (Draining turns)) =
     if hint == cutover.attempts then Attempting Drained

@@ -31,7 +31,7 @@ measures plan =
       batch = plan.options.dml_batch_size;
     }
 
--- at most so many rows are ever there, and so many events and chunks
+-- at most this many rows are ever there, and this many events and chunks
 abbrev pub keys : Measures → ℕ
 keys m = m.rows + m.lines
 

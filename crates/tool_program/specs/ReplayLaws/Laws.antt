@@ -8,6 +8,6 @@ use Rattle.tool_program.specs.Orders.{IsReplay}
 abbrev pub ReplaysAgree : Type 0
 ReplaysAgree = (plan : PlanData) (one two : List Entry) → IsReplay plan one → IsReplay plan two → (rest : List Entry) × ((two ≡ one ++ rest) ⊎ (one ≡ two ++ rest))
 
--- *There is one replay* of a plan with so many turns.
+-- *There is one replay* of a plan with this many turns.
 abbrev pub OneReplay : Type 0
 OneReplay = (plan : PlanData) (one two : List Entry) → IsReplay plan one → IsReplay plan two → length one ≡ length two → one ≡ two

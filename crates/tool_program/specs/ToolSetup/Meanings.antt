@@ -22,7 +22,7 @@ operator_of operator = record { taken = operator.taken; throttles = operator.thr
 abbrev pub words_in : List Command → List OperatorWord
 words_in commands = flat_map (λ command. repeat command.units (command.word ∷ [])) commands
 
--- the tool is throttled where so many transactions of clients are open
+-- the tool is throttled where this many transactions of clients are open
 abbrev pub is_throttled_under : PlanData → ℕ → program.Operator → Bool
 is_throttled_under plan load operator = (operator.throttles && program.is_left plan operator) || nat_lt plan.options.max_load load
 

@@ -125,7 +125,7 @@ impl Copier {
         }
     }
 
-    /// From the next chunk on a chunk has at most so many rows.
+    /// From the next chunk on a chunk has at most `size` rows.
     pub fn resize(&mut self, size: u32)
         ensures { self.new ≡ resized size self.old }
     {

@@ -22,7 +22,7 @@ pub enum Stage {
     Locking,
     /// The hint row comes next.
     Hinting,
-    /// The hint row is written; the applier took so many turns since and hasn't passed it.
+    /// The hint row is written; the applier took this many turns since and hasn't passed it.
     Draining(u32),
     /// The applier is past the hint row: the RENAME comes next.
     Drained,

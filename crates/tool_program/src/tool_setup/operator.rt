@@ -21,7 +21,7 @@ pub struct Operator {
     pub size: u32,
 }
 
-/// The word after so many, each unit of a wait as one.
+/// The word after `taken`, each unit of a wait as one.
 fn word_after(commands: &[Command], taken: u64) -> Option<OperatorWord>
     ensures { result ≡ slice_get (words_in commands.now) taken }
 {
@@ -81,7 +81,7 @@ impl Operator {
         }
     }
 
-    /// Whether the tool holds back while so many transactions of clients are open.
+    /// Whether the tool holds back while `load` transactions of clients are open.
     pub fn is_throttled(&self, plan: &Plan, load: u64) -> bool
         ensures { result ≡ is_throttled_under plan.now load (operator_of self.now) }
     {

@@ -34,7 +34,7 @@ pub enum Setup {
 pub enum SetupTook {
     /// It goes on so.
     Goes(Setup),
-    /// It is over: the applier begins after so many events, and the range that was read is copied.
+    /// It is over: the applier begins after this many events, and the range that was read is copied.
     Over(u64),
 }
 

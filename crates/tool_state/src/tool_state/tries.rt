@@ -58,7 +58,7 @@ impl Tries {
         self.turns.capacity()
     }
 
-    /// Makes room for so many more turns.
+    /// Makes room for `more` more turns.
     pub fn reserve(&mut self, more: usize) -> Result<(), AllocError>
         ensures turns { self.new.turns ≡ self.old.turns }
         ensures ok { OnOk result (length self.new.turns + more ≤ self.new.room) }

@@ -7,8 +7,8 @@ use Rattle.tool_program.specs.Orders.{WorkerTurn, RunOrder}
 use Rattle.run_workers.specs.Passes.{IsByPasses}
 use Rattle.top_call.specs.WholeReplays.SoundRuns.{IsSoundRun}
 
--- *Whole run*: a sound run whose sessions are numbered one by one. Each turn is of one of so many workers, and of the actor that
--- the rule gives that worker; and the turns are those of the workers' passes.
+-- *Whole run*: a sound run whose sessions are numbered one by one. Each turn is of one of this many workers, and of the actor
+-- that the rule gives that worker; and the turns are those of the workers' passes.
 pub record IsWholeRun (plan : PlanData) (journal : List Entry) (turns : List WorkerTurn) (workers : ℕ) : Type 0 where
   pub sound : IsSoundRun plan journal
   pub numbered : NumbersSessions journal

@@ -44,8 +44,8 @@ fn verdict_after<V: Serve>(run: &Run<'_, V>, ending: Ending) -> Option<Verdict>
     }
 }
 
-/// Runs a plan that was read by so many worker threads, on a server at its opening, until the run is over. Where there is no memory
-/// for a turn, those before it are left. Workers wait for each other's turns.
+/// Runs a plan that was read by `workers` worker threads, on a server at its opening, until the run is over. Where there is no
+/// memory for a turn, those before it are left. Workers wait for each other's turns.
 pub fn work_plan<V: Serve + Send, R: Threads + Wait + Sync, G: Gate + Sync>(
     rt: &R,
     alloc: Global,

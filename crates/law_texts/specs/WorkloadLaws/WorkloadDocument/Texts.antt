@@ -21,7 +21,7 @@ alter_text = codes "ADD COLUMN s VARCHAR(8) NOT NULL DEFAULT 'new', MODIFY v BIG
 unfoldable pub row_sql : ℕ → ℕ → List ℕ
 row_sql key value = codes "(" ++ decimal key ++ codes ", 'u" ++ decimal key ++ codes "', " ++ decimal value ++ codes ")"
 
--- the key and the value of the row after so many others
+-- the key and the value of the row after this many others
 abbrev pub row_key : ℕ → ℕ
 row_key place = 2 * (place + 1)
 
@@ -38,7 +38,7 @@ row_texts number = map (λ place. row_sql (row_key place) (row_value number plac
 unfoldable pub script_text : ℕ → ℕ → List ℕ
 script_text rows state = flat_map (client_line rows state) (range_with_len 0 30)
 
--- where the draws of the client after so many others begin
+-- where the draws of the client after this many others begin
 abbrev pub client_state : ℕ → ℕ → ℕ
 client_state number client = state_after number (row_count number + 60 * client)
 

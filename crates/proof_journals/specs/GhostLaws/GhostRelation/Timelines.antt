@@ -2,7 +2,7 @@
 -- (After gh-ost's documentation, "How gh-ost works"; the form is this project's.)
 use Rattle.std.specs.Prelude.{◌≡◌, ℕ, ◌+◌, ◌<◌, ◌≤◌, Bool, true, false, Option, Some}
 
--- *Timeline* of a table whose rows have keys of K and converted rows in M: the row of a key after so many logged events;
+-- *Timeline* of a table whose rows have keys of K and converted rows in M: the row of a key after this many logged events;
 -- whether the event at a place of the log writes the row of a key, deletes it or changes one of its unique keys; the converted
 -- row; whether two rows have equal values in a unique key that the ALTER keeps; and whether two converted rows clash.
 pub record Timeline (K R M : Type 0) : Type 0 where

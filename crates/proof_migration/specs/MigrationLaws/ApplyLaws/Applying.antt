@@ -25,7 +25,7 @@ use Rattle.proof_journals.specs.GhostLaws.Reading.{own_changes}
 use Rattle.proof_journals.specs.GhostLaws.Running.{ApplyPlan}
 use Rattle.proof_journals.specs.GhostLaws.Running.ApplyPlan.{Resting, Planned, Returning}
 
--- what is left to do of a batch, after so many of its statements
+-- what is left to do of a batch, after this many of its statements
 abbrev pub todo_of : Migration → List Entry → Batch → ℕ → List Doing
 todo_of m journal batch done = drop done (planned m (own_changes m.name (events_in (answer_at journal batch.read))))
 
@@ -50,7 +50,7 @@ ChangesRows columns (Write row) = IsRow columns row
 ChangesRows columns (Update before after) = IsRow columns before × IsRow columns after
 ChangesRows columns (Delete row) = IsRow columns row
 
--- the batch's events were read, they are of rows of the table, and so many statements are planned for them
+-- the batch's events were read, they are of rows of the table, and this many statements are planned for them
 pub record IsBatchTold (m : Migration) (journal : List Entry) (batch : Batch) : Type 0 where
   pub events : List RowEvent
   pub told : answer_at journal batch.read ≡ Some (answers.Events events batch.next)

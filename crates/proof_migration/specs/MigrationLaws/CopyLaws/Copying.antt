@@ -24,7 +24,7 @@ use Rattle.proof_journals.specs.GhostLaws.Tool.CopyState.{Waiting, Taking}
 abbrev pub left_of : List Entry → Copier → CopyRange → Span
 left_of journal copier range = record { low = low_end journal range copier.behind; high = Closed range.top }
 
--- in a chunk, with so many keys copied
+-- in a chunk, with this many keys copied
 abbrev pub taking_of : List Entry → Copier → CopyRange → Chunk → ℕ → CopyState
 taking_of journal copier range chunk copied = Taking (low_end journal range copier.behind) (end_in (answer_at journal chunk.told)) range.top (keys_in (answer_at journal chunk.told)) copied
 
@@ -56,7 +56,7 @@ abbrev pub AfterTold : List Entry → Option ℕ → Type 0
 AfterTold journal None = Unit {0}
 AfterTold journal (Some told) = IsAnsweredAt journal told
 
--- the chunk's keys and its end were read, and it has so many keys
+-- the chunk's keys and its end were read, and it has this many keys
 pub record IsChunkTold (journal : List Entry) (range : Option CopyRange) (chunk : Chunk) : Type 0 where
   pub keys : List Row
   pub end : Row

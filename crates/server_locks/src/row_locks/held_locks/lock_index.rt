@@ -42,7 +42,7 @@ impl LockIndex {
         }
     }
 
-    /// Makes room for so many places more than are held.
+    /// Makes room for this many places more than are held.
     pub fn reserve(&mut self, held: usize, more: usize) -> Result<(), AllocError>
         requires { length (flat self.old.points.pages) ≤ held }
         ensures points { self.new.points.pages ≡ self.old.points.pages }

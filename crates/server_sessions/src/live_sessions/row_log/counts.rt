@@ -44,7 +44,7 @@ impl Counts {
         }
     }
 
-    /// Makes room for so many more events.
+    /// Makes room for `n` more events.
     #[tactic(auto, using(crate::proofs::LiveSessions::RowLog::WatchedCounts::steps))]
     pub(crate) fn reserve(&mut self, n: usize) -> Result<(), AllocError>
         ensures counted { (events : List Event) → IsCounted events self.old → IsCounted events self.new }

@@ -61,7 +61,7 @@ impl Log {
         self.events.len() as u64
     }
 
-    /// Makes room for so many more events.
+    /// Makes room for `n` more events.
     pub fn reserve(&mut self, n: usize) -> Result<(), AllocError>
         ensures events { self.new.events ≡ self.old.events }
         ensures ok { OnOk result (n ≤ self.new.spare) }

@@ -66,7 +66,7 @@ pub record IsSame (old new : KeyIndex) : Type 0 where
   pub pages : new.entries.pages ≡ old.entries.pages
   pub spare : old.entries.spare ≤ new.entries.spare
 
--- the index is as it was, and has room for so many entries in all
+-- the index is as it was, and has room for this many entries in all
 pub record IsWide (total : ℕ) (old new : KeyIndex) : Type 0 where
   pub same : IsSame old new
   pub wide : total ≤ length (flat new.entries.pages) + new.entries.spare

@@ -88,7 +88,7 @@ pub fn make_indexes(
     Ok(())
 }
 
-/// Makes room for so many entries in all.
+/// Makes room for `total` entries in all.
 fn widen(index: &mut KeyIndex, total: usize) -> Result<(), AllocError>
     ensures same { IsSame index.old index.new }
     ensures ok { OnOk result (IsWide total index.old index.new) }
@@ -96,7 +96,7 @@ fn widen(index: &mut KeyIndex, total: usize) -> Result<(), AllocError>
     index.entries.reserve(total)
 }
 
-/// Makes room for so many entries in all in each index.
+/// Makes room for `total` entries in all in each index.
 pub fn reserve_all(indexes: &mut Vec<KeyIndex>, total: usize) -> Result<(), AllocError>
     ensures same { AllZip IsSame indexes.old.items indexes.new.items }
     ensures ok { OnOk result (AllZip (IsWide total) indexes.old.items indexes.new.items) }

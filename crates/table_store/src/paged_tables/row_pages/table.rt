@@ -215,7 +215,7 @@ impl Table {
         SpanRows::new(&self.rows, found)
     }
 
-    /// Makes room for so many more rows.
+    /// Makes room for `n` more rows.
     pub fn reserve(&mut self, n: usize) -> Result<(), AllocError>
         ensures table { self.new.table ≡ self.old.table }
         ensures pages { self.new.pages ≡ self.old.pages }
