@@ -1,4 +1,5 @@
-//! The events of the log: what a committed transaction wrote, row by row, and how each is encoded in bytes.
+//! The events of the log: what a committed transaction wrote, row by row, and how each is encoded in bytes. In `txn_costs` what
+//! a transaction costs in the log.
 #![tactic(auto)]
 
 mod encoding;

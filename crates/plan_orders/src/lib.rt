@@ -1,4 +1,5 @@
-//! What a plan's texts order: the operator's commands and losses of sessions; and the words of which they are made.
+//! What a plan's texts order: the operator's commands, the losses of sessions, and in `turn_order` the order of turns; and the
+//! words of which these are made.
 #![tactic(auto)]
 
 mod actors;

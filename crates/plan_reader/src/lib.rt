@@ -1,4 +1,4 @@
-//! A plan's whole document: what its bytes say, or why they are refused.
+//! A plan's whole document: what its bytes say, or why they are refused. In `plan_tables` its tables with their rows.
 #![tactic(auto)]
 
 mod clients;

@@ -1,5 +1,5 @@
-//! What is kept of each actor: its live session, how many turns it took, and the RENAME that it waits with; and where
-//! losses strike.
+//! What is kept of each actor: its live session, how many turns it took, and the RENAME that it waits with; and where losses
+//! strike. In `client_turns` how far a client is in its script, and what it asks next.
 #![tactic(auto)]
 
 mod actor_state;

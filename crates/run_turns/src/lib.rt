@@ -1,5 +1,5 @@
-//! A run of a plan on any server: its turns are taken one by one, and each of them is written into the journal. In `run_turns`
-//! one turn of it.
+//! A run of a plan on any server: its turns are taken one by one, and each of them is written into the journal. In `due_turns`
+//! which turn is due, in `run_turns` one turn taken.
 #![tactic(auto)]
 
 mod due;

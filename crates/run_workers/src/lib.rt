@@ -1,5 +1,5 @@
-//! A run whose turns are taken by worker threads, in one turn queue. In `worker_run` the run as the shared state of that turn
-//! queue.
+//! A run whose turns worker threads take in one turn queue. In `worker_run` the run as that queue's shared state: each turn is
+//! that of the actor that the rule gives its worker.
 #![tactic(auto)]
 
 mod runs;

@@ -1,4 +1,5 @@
-//! A server over any data: its sessions with their waits, the log, and the plain server's answers.
+//! A server over any data: its sessions with their waits, the log, and the plain server's answers. In `final_server` the one
+//! that the program has, over tables in pages.
 #![tactic(auto)]
 
 mod calls;

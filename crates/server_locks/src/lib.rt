@@ -1,4 +1,5 @@
-//! The locks of a session, and who blocks whom: of rows in `row_locks`, of names in `metadata_locks`.
+//! The locks of a session, and who blocks whom: of rows in `row_locks`, of names in `metadata_locks`. In `least_session` which
+//! of several blockers an answer names.
 #![tactic(auto)]
 
 pub mod least_session;

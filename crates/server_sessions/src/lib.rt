@@ -1,4 +1,5 @@
-//! What the server keeps of its sessions and of the requests that wait, and how each call changes it.
+//! What the server keeps of its sessions and of the requests that wait. In `session_locks` who blocks a request; in
+//! `live_sessions` the sessions, the waits and the log as one value, and how each call changes it.
 #![tactic(auto)]
 
 mod growth;

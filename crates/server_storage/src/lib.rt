@@ -1,5 +1,6 @@
 //! What the final server's data do, step by step: over the committed tables, and the open transactions over them. In
-//! `open_txns` those of all sessions, and in `kept_txns` the laws of what stays so of them.
+//! `open_txns` those of all sessions, in `server_store` the data as one value, and in `kept_txns` the laws of what stays so of
+//! them.
 #![tactic(auto)]
 
 mod definitions;

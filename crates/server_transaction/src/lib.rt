@@ -1,4 +1,6 @@
-//! A session's transaction: what it wrote, the tables as it sees them, and its commit.
+//! A session's transaction: what it wrote, the tables as it sees them, and its commit. In `row_copies` the copy of a row from
+//! one table into another, in `server_data` the trait of what a server asks of its data, in `laws` what holds of all that
+//! sessions say.
 #![tactic(auto)]
 
 mod application;

@@ -1,4 +1,5 @@
-//! The words of CREATE TABLE and ALTER TABLE, and the pieces that the texts of both are made of.
+//! The words of CREATE TABLE and ALTER TABLE, and the pieces that the texts of both are made of. In `word_values` what a word
+//! stands for as a value.
 #![tactic(auto)]
 
 mod attributes;

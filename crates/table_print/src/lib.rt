@@ -1,4 +1,4 @@
-//! What reports print of tables: their lines, and the names of those that stand.
+//! What reports print of tables: their lines, and the names of those that exist.
 #![tactic(auto)]
 
 mod names;

@@ -1,4 +1,6 @@
-//! Tables of rows by their clustered keys, and the database that has them.
+//! Tables of rows by their clustered keys, and the database that has them: as plain lists, by which contracts are read, and in
+//! `paged_tables` with the rows in pages, as the program has them. In `name_map` values by name; in `laws` what holds of all
+//! rows, tables and databases.
 #![tactic(auto)]
 
 mod by_name;

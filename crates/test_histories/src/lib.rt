@@ -1,5 +1,6 @@
 //! What transactions do alone, and what a history does one after the other, in plain slow code over lists: no server, no locks
-//! and no sessions. What a statement says is asked of `test_model`.
+//! and no sessions. What a statement says is asked of `test_model`. In `journal_pasts` the transactions that a journal ended,
+//! in their order.
 #![tactic(auto)]
 
 mod alters;

@@ -1,4 +1,5 @@
-//! Lines about tables and databases.
+//! Calls about events, keys and tables (`store_calls`) and about databases (`database_calls`), as lines write them: for
+//! `test_calls`.
 #![tactic(auto)]
 
 pub mod database_calls;
