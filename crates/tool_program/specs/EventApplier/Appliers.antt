@@ -197,7 +197,7 @@ progress_at applier step answer = Going
 unfoldable pub progress : Applier → Answer → Progress
 progress applier answer = progress_at applier applier.step answer
 
--- the row of the old table whose image didn't fit
+-- the row of the old table that didn't fit when converted
 abbrev pub row_done : Option Doing → List Value
 row_done None = []
 row_done (Some (Putting row)) = row

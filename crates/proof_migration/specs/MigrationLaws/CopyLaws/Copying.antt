@@ -51,7 +51,7 @@ pub record IsAnsweredAt (journal : List Entry) (turn : ℕ) : Type 0 where
   pub answer : Answer
   pub is : answer_at journal turn ≡ Some answer
 
--- the end of the chunk before was told in an earlier turn
+-- the end of the chunk before was read in an earlier turn
 abbrev pub AfterTold : List Entry → Option ℕ → Type 0
 AfterTold journal None = Unit {0}
 AfterTold journal (Some told) = IsAnsweredAt journal told
