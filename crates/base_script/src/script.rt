@@ -37,7 +37,7 @@ impl Duplicate for ScriptWord {
     }
 }
 
-/// A line of a script.
+/// What one line asks for, with its number in the text, by which reports name it.
 pub struct ScriptLine {
     /// Its number in the script's text, counted from 1.
     pub line: u32,

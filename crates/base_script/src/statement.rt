@@ -65,7 +65,7 @@ pub enum Condition {
 pub struct Set {
     /// The column's name, as it was written.
     pub column: Name,
-    /// The value.
+    /// What the column is set to, or is equal to.
     pub value: Value,
 }
 
@@ -87,7 +87,7 @@ pub struct Comparison {
     pub column: Name,
     /// Which side it lies on.
     pub sign: Sign,
-    /// The value.
+    /// What the column is compared with.
     pub value: Value,
 }
 

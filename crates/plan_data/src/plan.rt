@@ -40,7 +40,7 @@ pub struct PlanParts {
     pub faults: Losses,
     /// The order of turns that is asked for.
     pub turns: ActorRuns,
-    /// The options.
+    /// The options, each with its default where the plan doesn't say.
     pub options: Options,
 }
 
@@ -146,7 +146,7 @@ impl Plan {
         &self.parts.turns
     }
 
-    /// The options.
+    /// The options, each with its default where the plan doesn't say.
     pub fn options(&self) -> Options
         ensures { result ≡ self.now.options }
     {

@@ -19,9 +19,9 @@ use toml::Table;
 /// What the keys of a plan say.
 #[derive(Drop)]
 pub struct PlanKeys<'a> {
-    /// The texts.
+    /// What the other keys say, still as texts: schemas, rows, scripts and orders.
     pub texts: PlanTexts<'a>,
-    /// The options.
+    /// The options, within their ranges.
     pub options: Options,
 }
 
@@ -30,7 +30,7 @@ pub struct PlanKeys<'a> {
 pub struct TypedKeys<'a> {
     /// The plan's version.
     pub version: i64,
-    /// The texts.
+    /// What the other keys say, still as texts: schemas, rows, scripts and orders.
     pub texts: PlanTexts<'a>,
     /// The options that are numbers.
     pub numbers: NumberKeys,

@@ -21,7 +21,7 @@ pub struct TableKeys<'a> {
     pub rows: Vec<&'a str>,
 }
 
-/// The texts of a plan.
+/// What a plan says in texts of their own, which other crates read.
 #[derive(Drop)]
 pub struct PlanTexts<'a> {
     /// The name of the table to migrate.

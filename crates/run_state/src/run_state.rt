@@ -10,7 +10,7 @@ use tool_state::tool_state::Tool;
 /// The journal of a run of a plan, with what is kept of it.
 #[derive(Drop)]
 pub struct RunState<'a> {
-    /// The plan.
+    /// The plan, which the whole run borrows.
     pub plan: &'a Plan,
     /// The turns so far.
     pub journal: Vec<Entry>,

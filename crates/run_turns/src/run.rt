@@ -103,7 +103,7 @@ impl<'a, V: Serve> Run<'a, V> {
         self.run_state.has_ended()
     }
 
-    /// The plan.
+    /// The plan, for as long as the run lasts.
     pub fn plan(&self) -> &Plan
         ensures { result.now ≡ self.now.plan }
     {

@@ -22,7 +22,7 @@ use std::thread::Threads;
 /// What workers leave of a run.
 #[derive(Drop)]
 pub struct Ran<'a, V: Serve> {
-    /// The run.
+    /// The run, with the turns that were taken.
     pub run: Run<'a, V>,
     /// The worker of each of its turns.
     pub turns: Turns,

@@ -54,7 +54,7 @@ pub fn create<D: Data>(store: &mut D, schema: &Schema) -> Result<Answer, AllocEr
     Ok(Answer::Ok(0))
 }
 
-/// DROP TABLE.
+/// DROP TABLE: MySQL's error 1051 where no table has the name.
 pub fn drop_table<D: Data>(store: &mut D, name: &Name) -> Answer
     requires { (session : ℕ) → NoneOf (name.now ∷ []) (D.written store.old session) }
     ensures answer { (all_sessions : State) (session : ℕ) → result ≡ (does (defined (dropped (has_table name.now (D.committed store.old)) name.now (D.committed store.old))) (state_of (D.committed store.old) all_sessions) session).answer }

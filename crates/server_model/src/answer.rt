@@ -59,9 +59,9 @@ pub enum Answer {
 /// The least and the greatest clustered key of a table's rows.
 #[derive(Drop)]
 pub struct KeyRange {
-    /// The least.
+    /// The key of the first row.
     pub least: Key,
-    /// The greatest.
+    /// The key of the last row.
     pub greatest: Key,
 }
 

@@ -27,7 +27,7 @@ pub type TableNames = Sequence<TableName>;
 
 /// A session that waits for names of tables exclusively.
 pub struct ShownWaiter {
-    /// The session.
+    /// The session whose request waits.
     pub session: u32,
     /// The names, each once, in the order of its request.
     pub names: Names,

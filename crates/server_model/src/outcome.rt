@@ -5,13 +5,13 @@ use base_values::{Key, Name, Sequence};
 /// A task of the tool, which may be tried again where it fails.
 #[derive(Clone, Copy)]
 pub enum Task {
-    /// The setup.
+    /// The setup: the changelog and the new table are made, and the range of keys is read.
     Setup,
     /// A chunk of the copy, by its number from 1.
     Chunk(u64),
     /// A batch of logged events, by its position in the log.
     Batch(u64),
-    /// The cut-over.
+    /// The cut-over: one attempt at the RENAME.
     CutOver,
 }
 
@@ -34,7 +34,7 @@ pub enum Cause {
     },
     /// A task failed as often as it may.
     Spent {
-        /// The task.
+        /// Which task it was.
         task: Task,
         /// The turns in which its tries failed, rising.
         turns: Numbers,
@@ -62,7 +62,7 @@ pub enum Verdict {
 pub enum Progress {
     /// The task goes on.
     Going,
-    /// The task is done.
+    /// The task is done, and the next one begins.
     TaskDone,
     /// This try of the task failed.
     TaskFailed,

@@ -23,7 +23,7 @@ pub enum Request {
     Ends(Name),
     /// Where the next chunk of a table ends.
     ChunkEnd {
-        /// The table.
+        /// The table's name.
         table: Name,
         /// The end of the chunk before, or the least key of the range.
         low: Bound,
@@ -34,7 +34,7 @@ pub enum Request {
     },
     /// Begins a transaction, takes the share lock on a span, and gives its keys.
     BeginSpan {
-        /// The table.
+        /// The table's name.
         table: Name,
         /// The span of its clustered key.
         span: Span,

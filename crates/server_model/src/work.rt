@@ -78,7 +78,7 @@ impl Drop for Work {
 /// What a statement says.
 #[derive(Drop)]
 pub struct StatementResult {
-    /// The answer.
+    /// What its session is answered.
     pub answer: Answer,
     /// What it writes, in order.
     pub events: Events,

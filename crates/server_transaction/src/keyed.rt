@@ -14,9 +14,9 @@ use std::alloc::{AllocError, Global};
 /// without memory.
 #[derive(Drop)]
 pub struct KeyedEvent {
-    /// The event.
+    /// The event, as the log gets it.
     pub event: RowEvent,
-    /// The key.
+    /// The clustered key of the row that it takes out; none for a row that is put in.
     pub gone: Option<Key>,
 }
 

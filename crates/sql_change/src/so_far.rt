@@ -13,7 +13,7 @@ use std::alloc::{AllocError, Global};
 /// The schema that the clauses so far leave, and where its columns' values come from.
 #[derive(Drop)]
 pub struct Standing {
-    /// The schema.
+    /// The schema that the clauses so far leave.
     pub schema: Schema,
     /// The old place of each column; none for one that was added.
     pub origins: Origins,

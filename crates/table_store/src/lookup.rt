@@ -32,7 +32,7 @@ pub fn key_place(places: &[usize], key: &[Value], rows: &[Row]) -> Option<usize>
     }
 }
 
-/// The row with this key.
+/// The first row that has these values at these places, in order of the places.
 pub fn row_of_key<'a>(places: &[usize], key: &[Value], rows: &'a [Row]) -> Option<&'a Row>
     requires { Ascends places.now rows.now }
     ensures { option_copied result ≡ find (is_at places.now key.now) rows.now }

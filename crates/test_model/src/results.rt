@@ -22,7 +22,7 @@ pub type Changes = Sequence<Change>;
 /// What a statement says.
 #[derive(Drop)]
 pub struct AnswerAndChanges {
-    /// The answer.
+    /// What its session is answered.
     pub answer: Answer,
     /// The changes of its table's rows.
     pub changes: Changes,

@@ -46,7 +46,7 @@ impl Ended {
 /// turn of a worker's.
 pub type Call = Box<dyn Fn(&Line, &mut BytesSource, &mut BytesSink, &Meeting) -> Ended>;
 
-/// A program.
+/// A program as a closure that may always be called, so that cases can be run with it.
 #[derive(Drop)]
 pub struct Program {
     call: Call,

@@ -77,7 +77,7 @@ fn run_cases<R: Print + AllocGlobal>(
     Ok(count)
 }
 
-/// Runs the cases of a file.
+/// Runs the cases of a file, and prints each that isn't as it says.
 fn run_case_file<R: Print + AllocGlobal + Files>(
     rt: &R,
     program: &Program,

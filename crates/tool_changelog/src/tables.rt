@@ -33,7 +33,7 @@ fn first_is_primary(alloc: Global) -> Result<Indexes, AllocError>
     Ok(Sequence::from_vec(vec![in alloc; index]?))
 }
 
-/// The schema of the sentry.
+/// The schema of the sentry: one column, and a comment by which it is known as the tool's.
 #[tactic(auto, unfolding(crate::specs::ToolTables::sentry_schema, crate::specs::ToolTables::sentry_comment))]
 pub fn sentry_schema(alloc: Global, table: &Name) -> Result<Schema, AllocError>
     ensures { IfOk result (λ schema. schema ≡ sentry_schema table.now) }

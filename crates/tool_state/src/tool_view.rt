@@ -15,13 +15,13 @@ use server_model::Entry;
 /// What the tool looks at before it asks: its plan, its turns so far, its own record, and the server.
 #[derive(Drop)]
 pub struct ToolView<'a, V: Serve> {
-    /// The plan.
+    /// The plan of the migration.
     pub plan: &'a Plan,
     /// The turns so far.
     pub journal: &'a [Entry],
     /// How far the tool is.
     pub tool: &'a Tool,
-    /// The server.
+    /// The server after the journal's turns.
     pub server: &'a V,
     /// The tables whose events the applier reads: the migrated one and the changelog.
     pub names: &'a Names,

@@ -13,9 +13,9 @@ use top_workload::generate;
 /// What is printed, and the status that it has where it is printed whole.
 #[derive(Drop)]
 pub struct Printed {
-    /// The status.
+    /// The program's exit status, where the text is printed whole.
     pub status: Status,
-    /// The text.
+    /// All that goes to standard output.
     pub text: Text,
 }
 

@@ -8,7 +8,7 @@ use base_values::Sequence;
 pub struct Turn {
     /// The number of the worker that took it: 0 in a replay.
     pub worker: u32,
-    /// The actor.
+    /// The actor that took it.
     pub actor: Actor,
 }
 

@@ -75,7 +75,7 @@ impl Drop for Clause {
 
 /// A column as a clause writes it.
 pub struct NewColumn {
-    /// Its name.
+    /// Its name, as it was written.
     pub name: Name,
     /// The kind of its values.
     pub kind: Kind,

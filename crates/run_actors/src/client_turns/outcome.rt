@@ -10,9 +10,9 @@ use server_model::{Answer, Asked, Entry, Mark};
 /// What became of a client's line in a turn.
 #[derive(Clone, Copy)]
 pub(crate) enum LineOutcome {
-    /// Nothing.
+    /// The turn says nothing of the line: it is the next one still.
     Nothing,
-    /// It waits.
+    /// It was asked, and its session's request waits.
     Waits,
     /// It got a mark.
     Marked(Mark),

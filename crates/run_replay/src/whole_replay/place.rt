@@ -16,7 +16,7 @@ pub(crate) struct Place {
 /// The actor whose turn comes next, and what is left after that turn.
 #[derive(Clone, Copy)]
 pub(crate) struct NextTurn {
-    /// The actor.
+    /// Whose turn it is.
     pub(crate) actor: Actor,
     /// What is left after its turn.
     pub(crate) behind: Place,

@@ -20,9 +20,9 @@ pub(crate) struct Member {
 /// An actor, and its place in the fixed order, from 0.
 #[derive(Clone, Copy)]
 pub(crate) struct Seat {
-    /// The place.
+    /// From 0, in the fixed order.
     pub(crate) place: usize,
-    /// The actor.
+    /// The actor at this place.
     pub(crate) actor: Actor,
 }
 

@@ -21,7 +21,7 @@ use std::marker::Model;
 /// What a worked run begins with, for the turn queue's contracts alone. No value of it is made.
 #[derive(Drop)]
 pub struct Opening {
-    /// The plan.
+    /// The plan whose run it is.
     pub plan: Plan,
     /// How many workers there are.
     pub workers: u32,

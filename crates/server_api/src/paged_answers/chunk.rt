@@ -76,7 +76,7 @@ pub fn chunk_end(
     }
 }
 
-/// The key of an end.
+/// The key at a chunk's end; the empty key where the end is free.
 fn end_key(alloc: Global, end: &Bound) -> Result<Key, AllocError>
     ensures { IfOk result (λ key. key ≡ end_key end.now) }
 {

@@ -23,7 +23,7 @@ pub enum LockAnswer {
 pub struct Request {
     /// The session that asked.
     pub session: u32,
-    /// The names.
+    /// The tables' names.
     pub names: Names,
     /// Whether they are held exclusively, or else shared.
     pub exclusive: bool,
@@ -34,7 +34,7 @@ pub struct Request {
 pub struct Waiter {
     /// The session that asked.
     pub session: u32,
-    /// The names.
+    /// The tables' names.
     pub names: Names,
 }
 

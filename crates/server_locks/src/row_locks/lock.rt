@@ -9,7 +9,7 @@ use std::alloc::{AllocError, Global};
 
 /// A lock on the values of one key of a table that lie in a span, whether or not rows have them.
 pub struct Lock {
-    /// The table.
+    /// The table's name.
     pub table: Name,
     /// The key's place among the table's unique keys.
     pub key: usize,
@@ -50,7 +50,7 @@ pub type LockSet = Sequence<Lock>;
 /// A lock and the session that holds it.
 #[derive(Drop)]
 pub struct HeldLock {
-    /// The session.
+    /// The session that holds it.
     pub session: u32,
     /// What it holds.
     pub lock: Lock,

@@ -28,7 +28,7 @@ pub enum CopyStep {
     },
     /// It copies the row of a key.
     Copying {
-        /// The chunk.
+        /// The chunk that is copied.
         chunk: Chunk,
         /// How many of its keys were taken before.
         copied: usize,

@@ -41,7 +41,7 @@ pub enum Stage {
 pub struct Leftovers {
     /// The changelog.
     pub log: bool,
-    /// The new table.
+    /// The new table, by the name that it has before the RENAME.
     pub new_table: bool,
     /// The old table, or the sentry, which has its name.
     pub old: bool,
@@ -74,7 +74,7 @@ pub enum Phase {
 /// What the locker has of the server.
 #[derive(Clone, Copy)]
 pub enum Hold {
-    /// Nothing.
+    /// It holds no lock and waits for none.
     Nothing,
     /// Its CREATE of the sentry waits.
     WaitsToGuard,

@@ -37,7 +37,7 @@ pub enum ApplyStep {
     Beginning(Batch),
     /// It makes a statement.
     Applying {
-        /// The batch.
+        /// The batch that is applied.
         batch: Batch,
         /// How many of its statements were done before.
         done: usize,

@@ -7,7 +7,7 @@ use server_model::Task;
 pub enum Reason {
     /// A row that the copier had didn't fit its new column.
     CopyUnfit {
-        /// The turn.
+        /// The turn in which the column refused, from 1.
         turn: u64,
         /// The column's place in the new schema, from 0.
         column: usize,
@@ -16,7 +16,7 @@ pub enum Reason {
     },
     /// A row that the applier had didn't fit its new column.
     ApplyUnfit {
-        /// The turn.
+        /// The turn in which the column refused, from 1.
         turn: u64,
         /// The column's place in the new schema, from 0.
         column: usize,

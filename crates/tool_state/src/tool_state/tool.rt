@@ -10,15 +10,15 @@ use tool_program::tool_setup::{Operator, Setup};
 /// The three machines, and the turns at which the chunk, the batch and the attempts failed so far.
 #[derive(Drop)]
 pub struct Work {
-    /// The copier.
+    /// How far the copier is.
     pub copier: Copier,
     /// The turns in which the chunk failed.
     pub chunk_tries: Tries,
-    /// The applier.
+    /// How far the applier is.
     pub applier: Applier,
     /// The turns in which the batch failed.
     pub batch_tries: Tries,
-    /// The cut-over.
+    /// How far the cut-over is.
     pub cutover: CutOver,
     /// The turns in which attempts failed.
     pub attempt_tries: Tries,

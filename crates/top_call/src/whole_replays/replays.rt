@@ -21,7 +21,7 @@ use tool_program::replay_laws::replays_agree;
 /// How a run ended.
 #[derive(Drop)]
 pub struct End<V: Serve> {
-    /// The verdict.
+    /// How the migration ended, as the report says it.
     pub verdict: Verdict,
     /// The server at the end.
     pub server: V,

@@ -12,9 +12,9 @@ use server_model::{Answer, Asked, Entry, Mark};
 /// What became of it.
 #[derive(Drop)]
 pub enum Became<'a> {
-    /// Nothing.
+    /// The turn says nothing of the line: it is the next one still.
     Nothing,
-    /// It waits.
+    /// It was asked, and its session's request waits.
     Waits,
     /// It got a mark, and this answer was heard.
     Marked(Mark, Option<&'a Answer>),
