@@ -31,7 +31,7 @@ parted (suc n) [] = []
 parted zero (page ∷ pages) = cond (leb (length page) 64) (page ∷ pages) (take 33 page ∷ drop 33 page ∷ pages)
 parted (suc n) (page ∷ pages) = page ∷ parted n pages
 
--- where an entry of a page stands in the one list
+-- where an entry of a page is in the one list
 abbrev pub place_in : List (List ℕ) → ℕ → ℕ → ℕ
 place_in pages page at = length (flat (take page pages)) + at
 

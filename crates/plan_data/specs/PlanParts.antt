@@ -18,7 +18,7 @@ data_of parts = record {
   options = parts.options;
 }
 
--- The plan's table stands, and its ALTER leaves this schema and map of it; and the plan has at most 64 clients.
+-- The plan's table exists, and its ALTER leaves this schema and map of it; and the plan has at most 64 clients.
 pub record IsPlan (plan : PlanData) (new : AlteredSchema) : Type 0 where
   pub altered : plan_altered plan ≡ Some (new.schema, new.map)
   pub few : length plan.clients ≤ CLIENT_LIMIT

@@ -39,7 +39,7 @@ unfoldable pub script_names : PlanData → List (List ℕ)
 script_names plan = flat_map (λ script. flat_map (λ line. names_of line.word) script) plan.clients
 
 -- *Client names*: those of the plan's tables but the leftovers; and the migrated table's and those that scripts mention,
--- whether or not such a table stands
+-- whether or not such a table exists
 unfoldable pub client_names : PlanData → List (List ℕ)
 client_names plan = client_tables plan ++ filter (λ name. not (list_any (bytes_eq name) (client_tables plan))) (plan.table ∷ script_names plan)
 

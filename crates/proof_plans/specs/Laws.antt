@@ -36,7 +36,7 @@ AcceptedRenamesFindTheAltered =
 abbrev pub AcceptedRunsFindTheTable : Type 0
 AcceptedRunsFindTheTable = (plan : PlanData) (journal : List Entry) → WasRead plan → IsKept plan journal → FindsTable plan journal
 
--- *Accepted runs keep the old table*: after the RENAME what stands under the old table's name is the table of just before it.
+-- *Accepted runs keep the old table*: after the RENAME what is under the old table's name is the table of just before it.
 abbrev pub AcceptedRunsKeepTheOldTable : Type 0
 AcceptedRunsKeepTheOldTable = (plan : PlanData) (journal : List Entry) → WasRead plan → IsKept plan journal → KeepsOldTable plan journal
 

@@ -33,7 +33,7 @@ IsFound table (Some request) told = names_alone table request ≡ true → is_mi
 unfoldable pub FindsTable : PlanData → List Entry → Type 0
 FindsTable plan journal = Along (λ before entry. IsFound plan.table (about before entry) (answer_in entry.asked entry.side entry.answer entry.missed)) [] journal
 
--- what stands under the old table's name is the table as it was; or nothing stands there, once it is dropped
+-- what is under the old table's name is the table as it was; or nothing is there, once it is dropped
 abbrev pub IsAsItWas : List ℕ → TableRows → Option TableRows → Type 0
 IsAsItWas table was None = Unit {0}
 IsAsItWas table was (Some old) = old ≡ name_table (old_name table) was
@@ -44,7 +44,7 @@ pub record IsOldKept (plan : PlanData) (was : TableRows) (renamed later : List E
   pub stays : IsAsItWas plan.table was (find_table (old_name plan.table) (state_at plan later).tables)
 
 -- *Keeps the old table*: where the RENAME is done in some turn, the table of just before it stands after it under the old
--- table's name, with its rows and its schema but for the name; and after any more turns too, while one stands there.
+-- table's name, with its rows and its schema but for the name; and after any more turns too, while one is there.
 abbrev pub KeepsOldTable : PlanData → List Entry → Type 0
 KeepsOldTable plan journal =
     (before : List Entry) (entry : Entry) (more rest : List Entry) (was : TableRows) → journal ≡ (before ++ entry ∷ more) ++ rest → list_any is_alter (entry_adds plan before entry) ≡ true → find_table plan.table (state_at plan before).tables ≡ Some was

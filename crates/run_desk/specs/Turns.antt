@@ -35,8 +35,8 @@ pub record PassView (O E : Type 0) : Type 0 where
 abbrev pub longer : {X : Type 0} → List X → List X → List X
 longer xs ys = cond (ltb (length xs) (length ys)) ys xs
 
--- A turn queue's list is the list of turns in the order in which they were counted. Each pass's own turns stand in it once and
--- in their order, it has no other turns, and what each pass has seen is a beginning of it.
+-- A turn queue's list is the list of turns in the order in which they were counted. Each pass's own turns are in it once and in
+-- their order, it has no other turns, and what each pass has seen is a beginning of it.
 pub record TurnQueueList {O E : Type 0} (entries : List (Entry E)) (passes : List (PassView O E)) : Type 0 where
   -- Each pass's own turns are the entries of its worker's number, in their order.
   pub own : All (λ pass. entries_of pass.worker entries ≡ pass.own) passes

@@ -2,7 +2,7 @@
 use crate::shared_state::Entry;
 use std::collections::LinkedList;
 
-/// Where a worker stands in the queue.
+/// Where a worker is in the queue.
 pub enum Stage {
     /// It has no ticket.
     Rests,

@@ -41,7 +41,7 @@ pub data Effect : Type 0 where
   -- the session holds no name exclusively from now on
   Unlocks : Answer → Effect
 
--- of a committed table: 1146 where none stands
+-- of a committed table: 1146 where none exists
 abbrev pub of_table : Option TableRows → (TableRows → Answer) → Answer
 of_table None answer = refuses 1146
 of_table (Some table) answer = answer table

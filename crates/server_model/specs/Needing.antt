@@ -24,7 +24,7 @@ lock_on schema exclusive reach = record { table = schema.name; key = reach.key; 
 abbrev pub point_lock : Schema → ℕ → List Value → List Lock
 point_lock schema place key = if no_null key then lock_on schema true (record { key = place; span = point key }) ∷ [] else []
 
--- exclusive locks on the row's values of these unique keys, which stand from this place on
+-- exclusive locks on the row's values of these unique keys, which are those from this place on
 unfoldable pub points_from : Schema → ℕ → List Index → List Value → List Lock
 points_from schema place [] row = []
 points_from schema place (index ∷ uniques) row = point_lock schema place (key_of index.places row) ++ points_from schema (place + 1) uniques row

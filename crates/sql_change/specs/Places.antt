@@ -5,11 +5,11 @@ use Rattle.base_values.specs.declared.gho_schema.schema.Index.{Index}
 use Rattle.sql_change.specs.declared.places.PlaceChange.{PlaceChange}
 use Rattle.sql_change.specs.declared.places.PlaceChange.TheVariants.{Added, Dropped, Moved}
 
--- after a column that was put in at this place, all stand one further
+-- after a column that was put in at this place, all are one further
 abbrev pub opened : ℕ → ℕ → ℕ
 opened at place = if nat_lt place at then place else place + 1
 
--- after a column that was taken out at this place, all stand one nearer
+-- after a column that was taken out at this place, all are one nearer
 abbrev pub closed : ℕ → ℕ → ℕ
 closed at place = if nat_lt at place then place - 1 else place
 

@@ -13,7 +13,7 @@ no_parts = record { columns = []; primaries = []; keys = [] }
 abbrev pub own_primary : WrittenColumn → List (List (List ℕ))
 own_primary column = if column.attributes.is_primary then (column.name ∷ []) ∷ [] else []
 
--- UNIQUE after a column is a key of that column, which stands at the column's place.
+-- UNIQUE after a column is a key of that column, which is at the column's place.
 abbrev pub own_key : WrittenColumn → List WrittenKey
 own_key column = if column.attributes.is_unique then record { is_unique = true; text = record { name = None; columns = column.name ∷ [] } } ∷ [] else []
 

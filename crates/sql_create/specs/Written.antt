@@ -44,7 +44,7 @@ column_item_at words = do
   column ← column_at words
   Ok (items.Column column.0, column.1)
 
--- An item between the parentheses. PRIMARY, UNIQUE, KEY and INDEX begin a key, unless they stand in backquotes.
+-- An item between the parentheses. PRIMARY, UNIQUE, KEY and INDEX begin a key, unless they are in backquotes.
 unfoldable pub item_at : List Token → Read Item
 item_at [] = Err (mismatch [])
 item_at (word ∷ rest) =

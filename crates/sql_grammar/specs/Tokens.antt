@@ -45,7 +45,7 @@ abbrev pub words_or_none : Result (List Reading) WordFault → List Token
 words_or_none (Ok words) = map token_of words
 words_or_none (Err fault) = []
 
--- the words before this place, where the first fault stands
+-- the words before this place, where the first fault is
 abbrev pub cut_at : ℕ → List ℕ → TextWords
 cut_at place text = record { words = words_or_none (words_of (take place text)); is_faulty = true }
 

@@ -34,7 +34,7 @@ abbrev pub closed : Bool → Result Bool ScriptCode
 closed true = Ok false
 closed false = Err EndOutside
 
--- whether a transaction is open after a line, given whether one is before it: BEGIN stands outside, COMMIT and ROLLBACK inside
+-- whether a transaction is open after a line, given whether one is before it: BEGIN is outside, COMMIT and ROLLBACK inside
 abbrev pub open_after : Bool → ScriptWord → Result Bool ScriptCode
 open_after is_open Begin = if is_open then Err BeginInside else Ok true
 open_after is_open Commit = closed is_open

@@ -29,7 +29,7 @@ begins_comment bytes = slice_index bytes 0 == 35 || starts_with nat_eq bytes (co
 abbrev pub begins_bytes : List ℕ → Bool
 begins_bytes bytes = starts_with nat_eq bytes (codes "x'") || starts_with nat_eq bytes (codes "X'")
 
--- the length of the bytes x'..' at the front, where they stand there
+-- the length of the bytes x'..' at the front, where they are there
 abbrev pub bytes_length : List ℕ → Option ℕ
 bytes_length bytes = if begins_bytes bytes then option_map (λ n. 2 + n) (length_of (bytes_inside (drop 2 bytes))) else None
 

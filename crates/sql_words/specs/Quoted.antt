@@ -49,7 +49,7 @@ text_inside quote (b ∷ c ∷ rest) =
     else (if b == 92 then and_then (record { value = escaped c; length = 2 }) (text_inside quote rest)
     else and_then (record { value = b ∷ []; length = 1 }) (text_inside quote (c ∷ rest))))
 
--- pairs of hexadecimal digits after x', with the closing quote (39); None where anything else stands there
+-- pairs of hexadecimal digits after x', with the closing quote (39); None where anything else is there
 unfoldable pub bytes_inside : List ℕ → Option Piece
 bytes_inside [] = None
 bytes_inside (b ∷ []) = if b == 39 then Some closing else None

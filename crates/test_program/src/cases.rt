@@ -3,7 +3,7 @@
 //! `#### case NAME | WORDS | STATUS` begins a case: its name, the words of the command line with one blank between them, and
 //! the status that the call must end with. The lines after it are the plan, and the lines after `#### prints` are what must be
 //! printed; each ends in a line feed. After `#### no line feed` the part has lost its last line feed; at `#### bytes 0d ff`
-//! these bytes stand; after `#### times 500` the next line stands 500 times. What comes before a file's first case is a remark.
+//! these bytes come; after `#### times 500` the next line comes 500 times. What comes before a file's first case is a remark.
 
 use std::alloc::{AllocError, Global};
 
@@ -52,7 +52,7 @@ impl<'a> Case<'a> {
         }
     }
 
-    /// Adds a line of text as often as it is to stand.
+    /// Adds a line of text as often as it is to come.
     fn add_text(&mut self, line: &str) -> Result<(), AllocError> {
         for _ in 0..self.times {
             self.push_bytes(line.as_bytes())?;

@@ -11,7 +11,7 @@ use test_program::{Case, Program, Ran, run};
 pub enum Asked {
     /// That the call ends with the case's status and prints what is there, and that one at a time gives the same.
     Prints,
-    /// That the run is as one at a time, and that the lines that stand there stand among those that it prints, in their order.
+    /// That the run is as one at a time, and that the lines that it names are among those that it prints, in their order.
     HasLines,
     /// That what is there, a report altered by hand, isn't what one at a time gives.
     TellsReport,
@@ -32,7 +32,7 @@ fn is_alone_where_run(alloc: Global, plan: &[u8], ran: &Ran) -> Result<bool, All
     Ok(ran.ended.journal.is_empty() || is_run_as_alone(alloc, plan, ran)?)
 }
 
-/// Whether a case prints what is in it, with the status that stands there, and what one at a time gives.
+/// Whether a case prints what is in it, with the status that it names, and what one at a time gives.
 fn is_printed(alloc: Global, program: &Program, case: &Case<'_>) -> Result<bool, AllocError> {
     let plan = case.plan.as_slice();
     let ran = run(alloc, program, case.words, plan)?;

@@ -4,7 +4,7 @@ use std::alloc::{AllocError, Global};
 use test_compare::is_as_alone;
 use test_program::{Case, Program, run};
 
-/// Whether these lines stand among those of a report, in their order.
+/// Whether these lines are among those of a report, in their order.
 fn stand_among(lines: &str, report: &str) -> bool {
     let mut wanted = lines.lines();
     let mut next = wanted.next();
@@ -18,7 +18,7 @@ fn stand_among(lines: &str, report: &str) -> bool {
     next.is_none()
 }
 
-/// Whether the run of the case's plan is as one at a time, and its report has the lines that stand in the case.
+/// Whether the run of the case's plan is as one at a time, and its report has the lines that the case names.
 pub(crate) fn has_lines(
     alloc: Global,
     program: &Program,

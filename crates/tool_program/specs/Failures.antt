@@ -39,8 +39,8 @@ is_actor_of tasks.CutOver Lock = true
 is_actor_of tasks.CutOver Ren = true
 is_actor_of task actor = false
 
--- the task is the one that stands: a chunk by its number, a batch by its position; an attempt that may yet succeed, or the
--- one that this very turn begins
+-- the task is the one at hand: a chunk by its number, a batch by its position; an attempt that may yet succeed, or the one that
+-- this very turn begins
 abbrev pub is_at : Task → Course → Bool
 is_at tasks.Setup (SettingUp setup tries) = true
 is_at (tasks.Chunk number) (Migrating work) = work.copier.number == number

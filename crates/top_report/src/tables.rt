@@ -47,7 +47,7 @@ fn push_table(into: &mut Text, shown: bool, table: &Table) -> Result<(), AllocEr
     push_rows(into, shown, table)
 }
 
-/// Adds the table of this one's name among those that stand, where it is there.
+/// Adds the table of this one's name among those that exist, where it is there.
 #[tactic(auto, using(crate::proofs::Left::found_text, crate::proofs::Left::missing_text))]
 fn push_found(
     into: &mut Text,
@@ -80,7 +80,7 @@ fn push_left(
     }
 }
 
-/// Adds the plan's tables but the leftovers as they are left among those that stand.
+/// Adds the plan's tables but the leftovers as they are left among those that exist.
 pub(crate) fn push_tables_left(
     into: &mut Text,
     plan: &Plan,

@@ -1,4 +1,4 @@
--- *Tables of the migration*: what stands under the names of the migrated table and of the new one while rows are copied.
+-- *Tables of the migration*: what is under the names of the migrated table and of the new one while rows are copied.
 use Rattle.std.specs.Prelude.{◌≡◌, ℕ, Bool, true, false, List, Option, Some, None}
 use Rattle.std.specs.Option.{option_map}
 use Rattle.base_script.specs.declared.actor.Actor.{Actor}
@@ -13,7 +13,7 @@ use Rattle.tool_program.specs.Setups.{Setup, Listing, Clearing, MakingLog, Makin
 use Rattle.tool_program.specs.Tools.{Course, SettingUp, Migrating, Work}
 use Rattle.proof_journals.specs.MachineLaws.Standings.{Standing}
 
--- the schema that stands under the name
+-- the schema under the name
 abbrev pub schema_of : List ℕ → Database → Option Schema
 schema_of name tables = option_map (λ table. table.schema) (find_table name tables)
 

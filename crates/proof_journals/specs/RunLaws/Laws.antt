@@ -62,8 +62,8 @@ pub record SameAnswers (made : ℕ) (state : State) (session : ℕ) (side : Opti
 abbrev pub NumbersDontMatter : Type 0
 NumbersDontMatter = (made : ℕ) (state : State) (session : ℕ) (side : Option Side) (asked : Asked) → SameAnswers made state session side asked
 
--- *The moment is the journal's*: its server is the state at the journal's end, it counts the journal's turns, and the
--- operator took as many commands as stand there
+-- *The moment is the journal's*: its server is the state at the journal's end, it counts the journal's turns, and the operator
+-- took as many commands as are there
 pub record IsMomentOf (plan : PlanData) (journal : List Entry) : Type 0 where
   pub server : (moment plan journal).server ≡ state_at plan journal
   pub turns : (moment plan journal).tool.turns ≡ length journal

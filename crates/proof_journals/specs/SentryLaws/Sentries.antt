@@ -1,6 +1,6 @@
 -- *The sentry relation*: why the RENAME, whenever it runs, exchanges the table for the whole converted table. Stage by stage of
--- an attempt it says what stands on the server. Read it as a table; each stage's line implies that where the RENAME waits, the
--- sentry stands (so that the RENAME, run now, is refused), or the tables may be exchanged.
+-- an attempt it says what is on the server. Read it as a table; each stage's line implies that where the RENAME waits, the
+-- sentry exists (so that the RENAME, run now, is refused), or the tables may be exchanged.
 use Rattle.std.specs.Prelude.{◌≡◌, ◌≢◌, ℕ, nat_eq, ◌≤◌, Bool, true, false, ◌&&◌, List, [], ◌∷◌, ◌++◌, take, drop, length, None, ◌⊎◌}
 use Rattle.std.specs.List.{list_any}
 use Rattle.base_values.specs.declared.event.RowEvent.{RowEvent}
@@ -38,7 +38,7 @@ pub record Scene : Type 0 where
 abbrev pub scene : State → Scene
 scene state = record { tables = state.tables; held = names_held state.sessions; waiting = waiters state.waiting; log = state.log }
 
--- the sentry, or another table of its name, stands: a RENAME to that name is refused
+-- the sentry, or another table of its name, exists: a RENAME to that name is refused
 abbrev pub HasSentry : List ℕ → Scene → Type 0
 HasSentry table scene = has_table (old_name table) scene.tables ≡ true
 
@@ -91,7 +91,7 @@ pub record MayExchange (table : List ℕ) (scene : Scene) (copier : Copier) (app
 pub record AfterSentry (table : List ℕ) (scene : Scene) : Type 0 where
   pub sentry : HasSentry table scene
 
--- once the tables are locked: the sentry stands, and the table is locked too
+-- once the tables are locked: the sentry exists, and the table is locked too
 pub record AfterLock (table : List ℕ) (scene : Scene) (locker : ℕ) : Type 0 where
   pub sentry : HasSentry table scene
   pub locked : IsLocked table scene.held locker
@@ -132,7 +132,7 @@ pub record AfterUnlock (table : List ℕ) (scene : Scene) (copier : Copier) (app
   pub waits : RenameWaits table scene renamer
   pub may : MayExchange table scene copier applier locker
 
--- in the end of an attempt that didn't succeed, where the RENAME waits: the sentry stands, or the tables may be exchanged
+-- in the end of an attempt that didn't succeed, where the RENAME waits: the sentry exists, or the tables may be exchanged
 pub record AfterFailure (table : List ℕ) (scene : Scene) (copier : Copier) (applier : Applier) (locker renamer : ℕ) : Type 0 where
   pub waits : RenameWaits table scene renamer
   pub guarded : HasSentry table scene ⊎ MayExchange table scene copier applier locker
@@ -203,7 +203,7 @@ pub record FreesLock (table : List ℕ) (session renamer : ℕ) (before after : 
   pub log : after.log ≡ before.log
   pub waits : RenameWaits table before renamer → RenameWaits table after renamer
 
--- the same, and whether the sentry stands stays
+-- the same, and whether the sentry exists stays
 pub record OnlyFreesLock (table : List ℕ) (session renamer : ℕ) (before after : Scene) : Type 0 where
   pub frees : FreesLock table session renamer before after
   pub tables : has_table (old_name table) after.tables ≡ has_table (old_name table) before.tables
@@ -332,7 +332,7 @@ abbrev pub InspectorMay : Phase → Hold → Bool → Answer → Type 0
 InspectorMay (Ending Looking) hold waits (answers.Tables tables) = (hold ≡ Nothing) × (waits ≡ false)
 InspectorMay phase hold waits answer = Unit {0}
 
--- while an attempt stands and the inspector doesn't drop, its turn is another session's
+-- while an attempt is under way and the inspector doesn't drop, its turn is another session's
 abbrev pub InspectorTurns : List ℕ → ℕ → ℕ → Phase → Scene → Scene → Type 0
 InspectorTurns table renamer session (Attempting stage) before after = OthersTurn table renamer session before after
 InspectorTurns table renamer session (Ending Looking) before after = OthersTurn table renamer session before after

@@ -21,7 +21,7 @@ use Rattle.sql_create.specs.Written.{written}
 use Rattle.sql_show.specs.Printing.{column_name, printed_schema}
 use Rattle.proof_schemas.specs.PrintLaws.Words.{sign_word, column_words, schema_words}
 
--- a name that can stand between backquotes
+-- a name that can be between backquotes
 abbrev pub CanQuote : List ℕ → Type 0
 CanQuote name = AllByRecursion (λ byte. (byte == 96) ≡ false) name
 

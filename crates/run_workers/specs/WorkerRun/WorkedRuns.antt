@@ -99,8 +99,8 @@ Works before worker NoMemory after = after ≡ record before { is_short = true }
 
 -- WHAT IS KEPT
 
--- What holds of a worked run's parts: its plan goes on; its turns and its journal are those of a run by workers; the server
--- stands after them, unless there was no memory for a turn, and then the run isn't over; each worker has a place from which its
+-- What holds of a worked run's parts: its plan goes on; its turns and its journal are those of a run by workers; the server is
+-- after them, unless there was no memory for a turn, and then the run isn't over; each worker has a place from which its
 -- rotation goes on; and there is room for all turns that the plan allows.
 pub record IsWorked (run : RunView) (workers : ℕ) (noted : List WorkerTurn) (used spare : ℕ) (places : List ℕ) (is_short : Bool) : Type 0 where
   pub going : IsGoing run.plan

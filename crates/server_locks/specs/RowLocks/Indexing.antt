@@ -88,14 +88,14 @@ abbrev pub places_to : ℕ → List ℕ
 places_to zero = []
 places_to (suc place) = places_to place ++ place ∷ []
 
--- Each place before this one stands in the index once: among those of the locks on one key, which stand in order, or among
--- those of the others.
+-- Each place before this one stands in the index once: among those of the locks on one key, which are in order, or among those
+-- of the others.
 pub record IsIndexed (locks : List Lock) (count : ℕ) (points wide : List ℕ) : Type 0 where
   pub points_are : ArePoints locks points
   pub wide_are : AllByRecursion (λ place. is_wide_lock (slice_get locks place) ≡ true) wide
   pub all : IsPermutation (places_to count) (points ++ wide)
 
--- the index has room for this many more places, whatever locks stand there
+-- the index has room for this many more places, whatever locks are there
 pub record HasRoom (more : ℕ) (index : LockIndex) : Type 0 where
   pub points : more ≤ index.points.spare
   pub wide : vec_len index.wide + more ≤ vec_capacity index.wide

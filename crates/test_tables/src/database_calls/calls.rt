@@ -56,7 +56,7 @@ enum PutAnswer {
     Missing,
 }
 
-/// Puts a row into the table of a name, where that stands and no row of it has the row's key.
+/// Puts a row into the table of a name, where that exists and no row of it has the row's key.
 fn put_listed(
     alloc: Global,
     tables: &mut ListedTables,
@@ -244,7 +244,7 @@ fn say_stands(both: &BothDatabases, name: &Name, told: &mut Text) -> Result<(), 
     Ok(())
 }
 
-/// Calls on the table of a name, after which a row or a key may stand.
+/// Calls on the table of a name, after which a row or a key may come.
 fn take_on(
     alloc: Global,
     both: &mut BothDatabases,

@@ -176,7 +176,7 @@ took Inspector cutover answer = inspector_took cutover answer
 took Locker cutover answer = locker_took cutover answer
 took Renamer cutover answer = renamer_took cutover answer
 
--- an attempt stands
+-- an attempt is under way
 abbrev pub stands : Phase → Bool
 stands (Attempting stage) = true
 stands (Ending clearing) = true

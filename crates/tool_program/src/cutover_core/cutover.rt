@@ -61,9 +61,9 @@ pub enum Clearing {
 pub enum Phase {
     /// No attempt is under way.
     Resting,
-    /// An attempt stands and may succeed.
+    /// An attempt is under way and may succeed.
     Attempting(Stage),
-    /// An attempt stands that doesn't succeed.
+    /// An attempt is under way that won't succeed.
     Ending(Clearing),
     /// The RENAME was done, and all is cleared up.
     Finishing(Clearing),

@@ -147,7 +147,7 @@ pub(crate) fn task_of(before: Phase, after: Phase, answer: &Answer) -> Progress
 impl Phase {
     ghost use Rattle.tool_program.specs.CutoverCore.CutOvers.{is_resting, is_ending, is_finished};
 
-    /// Whether an attempt stands.
+    /// Whether an attempt is under way.
     pub fn stands(self) -> bool
         ensures { result ≡ stands self }
     {
@@ -175,7 +175,7 @@ impl Phase {
         matches!(self, Phase::Resting)
     }
 
-    /// Whether an attempt stands that doesn't succeed.
+    /// Whether an attempt is under way that won't succeed.
     pub fn is_ending(self) -> bool
         ensures { result ≡ is_ending self }
     {

@@ -43,7 +43,7 @@ abbrev pub tool_of : Tool → program.Tool
 tool_of tool =
     record { turns = tool.turns; operator = operator_of tool.operator; course = course_of tool; reason = reason_in tool.reason tool.spent.turns }
 
--- the turns in which the task failed that stands
+-- the turns in which the task at hand failed
 abbrev pub tries_of : Task → Tool → List ℕ
 tries_of tasks.Setup tool = tool.setup_tries.turns
 tries_of (tasks.Chunk number) tool = tool.work.chunk_tries.turns

@@ -1,5 +1,5 @@
--- What holds of the tool's record at any time, besides what its parts say: counts that have room, and a work that stands at
--- its start until the setup is over. (This project's rule.)
+-- What holds of the tool's record at any time, besides what its parts say: counts that have room, and a work that is at its
+-- start until the setup is over. (This project's rule.)
 use Rattle.std.specs.Prelude.{◌≡◌, ℕ, ◌+◌, ◌<◌, ◌≤◌, length, Option, Some, None}
 use Rattle.plan_data.specs.PlanData.{PlanData}
 use Rattle.tool_program.specs.ChunkCopier.Walking as copiers

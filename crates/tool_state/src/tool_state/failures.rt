@@ -27,7 +27,7 @@ impl Tool {
         self.reason.is_some()
     }
 
-    /// The turns in which the task failed that stands.
+    /// The turns in which the task at hand failed.
     fn tries_of(&self, task: Task) -> &Tries
         ensures { result.now.turns ≡ tries_of task self.now }
     {

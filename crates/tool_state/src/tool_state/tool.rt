@@ -34,7 +34,7 @@ pub struct Tool {
     pub setup: Option<Setup>,
     /// The turns in which the setup failed.
     pub setup_tries: Tries,
-    /// The work after the setup; its machines stand at their start until it begins.
+    /// The work after the setup; its machines are at their start until it begins.
     pub work: Work,
     /// Why all is reverted, where it is.
     pub reason: Option<Reason>,

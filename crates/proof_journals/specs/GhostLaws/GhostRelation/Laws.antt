@@ -6,7 +6,7 @@ use Rattle.proof_journals.specs.GhostLaws.GhostRelation.Timelines.{Timeline, IsT
 use Rattle.proof_journals.specs.GhostLaws.GhostRelation.Views.{Progress, Views, GhostFollows, HoldsChanged, ViewFollows}
 use Rattle.proof_journals.specs.GhostLaws.GhostRelation.Applying.{EventOfKeys, Replaced, Deleted, Updated, AppliedAt}
 
--- *The start*: nobody holds a key, all see an empty ghost, and no row of a key that is done stands.
+-- *The start*: nobody holds a key, all see an empty ghost, and there is no row of a key that is done.
 abbrev pub MigrationsStart : (K R M : Type 0) → Type 0
 MigrationsStart K R M =
     (timeline : Timeline K R M) (done : K → Bool) (progress : Progress K) (views : Views K M) → progress.reached ≡ progress.position → progress.position ≤ progress.end → ((key : K) → progress.copier_holds key ≡ false)

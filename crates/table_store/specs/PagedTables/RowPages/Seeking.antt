@@ -15,7 +15,7 @@ abbrev pub wanted_key : List ℕ → Wanted → List Value
 wanted_key places (Key key) = key.now
 wanted_key places (Of row) = key_of places row.now
 
--- The entry stands here, and its row is the first that has this key.
+-- The entry is here, and its row is the first that has this key.
 pub record IsFound (places : List ℕ) (key : List Value) (slab : Slab (List Value)) (pages : List (List ℕ)) (page at entry : ℕ) : Type 0 where
   pub page_is : page < length pages
   pub within : at < length (get_or pages page [])

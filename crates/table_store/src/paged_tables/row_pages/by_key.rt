@@ -1,4 +1,4 @@
-//! Which entries stand in order of a unique key.
+//! Which entries are in order of a unique key.
 
 ghost use Rattle.std.specs.Prelude.{◌≡◌, ◌<◌, length, slice_get, option_copied, Some, MatchOption};
 ghost use Rattle.base_values.specs.GhoSchema.Rows.{key_places, places_at};
