@@ -18,7 +18,7 @@ pub record IsFresh (run : RunView) : Type 0 where
   pub journal : run.journal ≡ []
   pub server : run.server ≡ opening run.plan
 
--- the turns so far are a replay's, this is what is left of the order, and the server is after the turns
+-- the turns so far are a replay's, this is what is left of the order, and the server is the one after them
 pub record IsReplaying (run : RunView) (place : Place) : Type 0 where
   pub kept : IsKept run.plan run.journal
   pub order : ReplayOrder run.plan run.journal

@@ -17,7 +17,7 @@ pub record IsWholeReplay (plan : PlanData) (journal : List Entry) : Type 0 where
   pub replay : IsReplay plan journal
   pub only : (other : List Entry) → IsReplay plan other → length other ≡ length journal → other ≡ journal
 
--- The run has ended, or has as many turns as the plan allows; the verdict is that of the journal, and the server is at its end.
+-- The run has ended, or has as many turns as the plan allows; the verdict is that of the journal, and the server is the one at its end.
 pub record IsEnd (plan : PlanData) (journal : List Entry) (verdict : Verdict) (server : State) : Type 0 where
   pub over : is_over plan journal ≡ true
   pub verdict_is : verdict ≡ verdict_of plan journal
