@@ -99,14 +99,14 @@ abbrev pub holds_tables : Option Session → Bool
 holds_tables None = false
 holds_tables (Some session) = list_any (λ one. one.exclusive) session.names
 
--- all names that are held, in the words of metadata_locks
+-- all names that are held, in the words of `server_locks::metadata_locks`
 abbrev pub name_held : ℕ → HeldName → grants.HeldName
 name_held number held = record { session = number; name = held.name; exclusive = held.exclusive }
 
 abbrev pub names_held : List Session → List grants.HeldName
 names_held sessions = flat_map (λ session. map (name_held session.number) session.names) sessions
 
--- all row locks that are held, in the words of row_locks
+-- all row locks that are held, in the words of `server_locks::row_locks`
 abbrev pub locks_held : List Session → List HeldLock
 locks_held sessions = flat_map (λ session. map (held_by session.number) session.row_locks) sessions
 
@@ -149,7 +149,7 @@ is_exclusive (requests.Drop name) = true
 is_exclusive (requests.Rename pairs) = true
 is_exclusive request = false
 
--- who waits for names exclusively, in the order in which they came, in the words of metadata_locks
+-- who waits for names exclusively, in the order in which they came, in the words of `server_locks::metadata_locks`
 abbrev pub waits_for : Waiting → List Waiter
 waits_for waiting = if is_exclusive waiting.request then record { session = waiting.session; names = names_in waiting.request } ∷ [] else []
 
