@@ -13,13 +13,14 @@ use Rattle.base_values.specs.declared.value.Value.{Value}
 use Rattle.base_values.specs.declared.value.Value.TheVariants.{Null, Num, Text, Blob}
 use Rattle.base_values.specs.declared.unfit.Unfit.{Unfit}
 use Rattle.base_values.specs.declared.unfit.Unfit.TheVariants as unfit
+use Rattle.base_values.specs.declared.mysql_errors.TheConstants.{ER_BAD_NULL_ERROR, ER_WARN_DATA_OUT_OF_RANGE, ER_DATA_TOO_LONG, ER_TRUNCATED_WRONG_VALUE_FOR_FIELD}
 
--- The number of a refusal (MySQL's manual, "Server Error Message Reference").
+-- MySQL's error of a refusal (its manual, "Server Error Message Reference").
 abbrev pub error_number : Unfit → ℕ
-error_number unfit.Null = 1048
-error_number unfit.Range = 1264
-error_number unfit.Length = 1406
-error_number unfit.Kind = 1366
+error_number unfit.Null = ER_BAD_NULL_ERROR
+error_number unfit.Range = ER_WARN_DATA_OUT_OF_RANGE
+error_number unfit.Length = ER_DATA_TOO_LONG
+error_number unfit.Kind = ER_TRUNCATED_WRONG_VALUE_FOR_FIELD
 
 -- How many numbers a signed kind has below 0, by its bytes: TINYINT, SMALLINT, MEDIUMINT, INT, BIGINT ("Integer Types (Exact Value)"). MySQL has no kind of other bytes; it is read as BIGINT.
 unfoldable pub half : ℕ → ℕ
@@ -49,19 +50,19 @@ text_number (c ∷ text) = if c == 45 then option_map (λ n. neg_ℤ (pos n)) (d
 unfoldable pub character_count : List ℕ → ℕ
 character_count text = count_by (λ byte. nat_lt byte 128 || nat_le 192 byte) text
 
--- The number where it is in the kind's range, else 1264.
+-- The number where it is in the kind's range, else ER_WARN_DATA_OUT_OF_RANGE.
 unfoldable pub in_range : ℕ → Bool → ℤ → Result Value Unfit
 in_range bytes unsigned n = if int_le (lowest bytes unsigned) n && int_le n (highest bytes unsigned) then Ok (Num n) else Err unfit.Range
 
--- The text where it has at most this many characters, else 1406.
+-- The text where it has at most so many characters, else ER_DATA_TOO_LONG.
 unfoldable pub text_within : ℕ → List ℕ → Result Value Unfit
 text_within limit text = if nat_le (character_count text) limit then Ok (Text text) else Err unfit.Length
 
--- The bytes where they are at most this many, else 1406.
+-- The bytes where they are at most so many, else ER_DATA_TOO_LONG.
 unfoldable pub bytes_within : ℕ → List ℕ → Result Value Unfit
 bytes_within limit bytes = if nat_le (length bytes) limit then Ok (Blob bytes) else Err unfit.Length
 
--- A text as a number: what is made of the number, or 1366 where the text is none.
+-- A text as a number: what is made of the number, or ER_TRUNCATED_WRONG_VALUE_FOR_FIELD where the text is none.
 abbrev pub as_number : (ℤ → Result Value Unfit) → Option ℤ → Result Value Unfit
 as_number made None = Err unfit.Kind
 as_number made (Some n) = made n

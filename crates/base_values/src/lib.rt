@@ -1,6 +1,7 @@
 //! The values of MySQL's columns, and the lists, names and texts that every layer above is made of. In its modules: schemas
 //! (`gho_schema`), the clauses of ALTER TABLE and what they leave of a row (`row_conversion`), what is asked of names, keys,
-//! defaults and whole schemas (`schema_rules`), and the names of the tool's tables (`tool_names`).
+//! defaults and whole schemas (`schema_rules`), the names of the tool's tables (`tool_names`), and MySQL's errors
+//! (`mysql_errors`).
 #![tactic(auto)]
 
 mod comparison;
@@ -10,6 +11,7 @@ mod fault;
 pub mod gho_schema;
 mod kind;
 pub mod laws;
+pub mod mysql_errors;
 mod name;
 mod printer;
 pub mod row_conversion;

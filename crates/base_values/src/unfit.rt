@@ -3,32 +3,36 @@
 ghost use Rattle.std.specs.Prelude.{◌≡◌};
 
 use crate::Fault;
+use crate::mysql_errors::{
+    ER_BAD_NULL_ERROR, ER_DATA_TOO_LONG, ER_TRUNCATED_WRONG_VALUE_FOR_FIELD,
+    ER_WARN_DATA_OUT_OF_RANGE,
+};
 
-/// Why a column refuses a value, each with its number in MySQL's manual, "Server Error Message Reference".
+/// Why a column refuses a value, each with MySQL's error.
 #[derive(Clone, Copy, Debug)]
 pub enum Unfit {
-    /// 1048: the column can't be null.
+    /// `ER_BAD_NULL_ERROR`: the column can't be null.
     Null,
-    /// 1264: the number is out of the column's range.
+    /// `ER_WARN_DATA_OUT_OF_RANGE`: the number is out of the column's range.
     Range,
-    /// 1406: the text or the bytes are longer than the column's length.
+    /// `ER_DATA_TOO_LONG`: the text or the bytes are longer than the column's length.
     Length,
-    /// 1366: the value isn't one of the column's kind, nor converted to it.
+    /// `ER_TRUNCATED_WRONG_VALUE_FOR_FIELD`: the value isn't one of the column's kind, nor converted to it.
     Kind,
 }
 
 impl Unfit {
     ghost use Rattle.base_values.specs.Storing.{error_number};
 
-    /// The refusal's number.
+    /// The number of its error.
     pub fn number(self) -> u16
         ensures { result ≡ error_number self }
     {
         match self {
-            Unfit::Null => 1048,
-            Unfit::Range => 1264,
-            Unfit::Length => 1406,
-            Unfit::Kind => 1366,
+            Unfit::Null => ER_BAD_NULL_ERROR,
+            Unfit::Range => ER_WARN_DATA_OUT_OF_RANGE,
+            Unfit::Length => ER_DATA_TOO_LONG,
+            Unfit::Kind => ER_TRUNCATED_WRONG_VALUE_FOR_FIELD,
         }
     }
 }

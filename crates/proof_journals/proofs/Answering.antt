@@ -5,6 +5,7 @@ use Rattle.std.proofs.lemmas.List.{append-nil}
 use Rattle.std.proofs.Math.Bool.{and-false}
 use Rattle.std.specs.List.{AllByRecursion}
 use Rattle.base_values.specs.declared.event.RowEvent.{RowEvent}
+use Rattle.base_values.specs.declared.mysql_errors.TheConstants.{ER_LOCK_WAIT_TIMEOUT}
 use Rattle.server_locks.specs.declared.row_locks.lock.Lock.{Lock}
 use Rattle.table_store.specs.Databases.{Database}
 use Rattle.base_script.specs.declared.actor.Side.TheVariants.{Before, After}
@@ -260,9 +261,9 @@ word_lost scene state number going past work (words.Do statement) granted =
 
 -- *a line whose wait is over*
 pub word_timed_out : (scene : Scene) (state : State) (number : ℕ) (going : ℕ → Going) (past : List PlainItem) (work : AtWork scene state number going past) (word : ScriptWord) → NamesTable scene.mine word
-    → Turned scene (stored state) (face_of (with_session number at_rest state.sessions)) number (Ends word marks.TimedOut (replies.Error 1205 ∷ []) ends.TimedOut) going past
+    → Turned scene (stored state) (face_of (with_session number at_rest state.sessions)) number (Ends word marks.TimedOut (replies.Error ER_LOCK_WAIT_TIMEOUT ∷ []) ends.TimedOut) going past
 word_timed_out scene state number going past work word named =
-    undone_line scene state (face_of (with_session number at_rest state.sessions)) number going past work word marks.TimedOut (replies.Error 1205 ∷ []) ends.TimedOut (λ some. refl) (λ some. refl) named (rests_with scene state number going past work)
+    undone_line scene state (face_of (with_session number at_rest state.sessions)) number going past work word marks.TimedOut (replies.Error ER_LOCK_WAIT_TIMEOUT ∷ []) ends.TimedOut (λ some. refl) (λ some. refl) named (rests_with scene state number going past work)
     (never_done (going number).lines (record { word = word; mark = marks.TimedOut }) (and-false (is_commit word)) (and-false (is_statement word || is_commit word)))
 
 -- *a line at which its session is lost before it is done*, whatever else the turn changed of the session

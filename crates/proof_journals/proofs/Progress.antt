@@ -31,6 +31,7 @@ use Rattle.proof_journals.proofs.Journals.{word_back}
 use Rattle.tool_program.specs.JournalWords.Sessions.{session_left}
 use Rattle.server_model.specs.Entries.{is_command}
 use Rattle.std.proofs.Common.{cond}
+use Rattle.base_values.specs.declared.mysql_errors.TheConstants.{ER_LOCK_WAIT_TIMEOUT}
 
 -- an item of a history, without whose it is
 abbrev pub plain : HistoryItem → PlainItem
@@ -108,7 +109,7 @@ given_alike number client line lines left behind none some (answers.Rows rows) i
 given_alike number client line lines left behind none some (answers.Refused refusal column) is =
     alike_as number client (became_of (answers.Refused refusal column)) _ _ None _ (answered_so (is_inside client.lines) line.word (option_to_list (reply_of (answers.Refused refusal column)))) (none (answers.Refused refusal column) tt (λ by same. absurd (cc))) (marked_alike number client line lines left marks.Answered (reply_of (answers.Refused refusal column)))
 given_alike number client line lines left behind none some (answers.TimedOut waited) is =
-    alike_as number client (became_of (answers.TimedOut waited)) _ _ None _ refl (none (answers.TimedOut waited) tt (λ by same. absurd (cc))) (marked_alike number client line lines left marks.TimedOut (Some (replies.Error 1205)))
+    alike_as number client (became_of (answers.TimedOut waited)) _ _ None _ refl (none (answers.TimedOut waited) tt (λ by same. absurd (cc))) (marked_alike number client line lines left marks.TimedOut (Some (replies.Error ER_LOCK_WAIT_TIMEOUT)))
 given_alike number client line lines left behind none some (answers.Waits by) is = record { going = refl; items = refl; waits = Held line lines refl left (some by) }
 given_alike number client line lines left behind none some (answers.Keys keys end) is = absurd is
 given_alike number client line lines left behind none some (answers.Ends range) is = absurd is

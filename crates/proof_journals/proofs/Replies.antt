@@ -39,6 +39,7 @@ use Rattle.server_model.specs.Jobs.{Job, result_in, job_of, job_says, copy_work,
 use Rattle.std.specs.Option.{option_map}
 use Rattle.base_values.specs.declared.row_conversion.map.MapColumn.{MapColumn}
 use Rattle.base_values.specs.RowConversion.ConvertedRows.{converted_row}
+use Rattle.base_values.specs.declared.mysql_errors.TheConstants.{ER_FIELD_SPECIFIED_TWICE, ER_WRONG_VALUE_COUNT_ON_ROW, ER_DUP_ENTRY}
 use Rattle.std.specs.Option.{option_to_list}
 use Rattle.server_model.specs.Alone.{reply_of}
 use Rattle.server_model.specs.Alone.{line_says}
@@ -90,12 +91,12 @@ row_replies place (column ∷ columns) places values =
 
 listed_replies : (schema : Schema) (names : Option (List (List ℕ))) → ErrReplies (places_listed schema names)
 listed_replies schema None = tt
-listed_replies schema (Some names) = then_replies (places_named schema names) _ (named_replies schema names) (λ places. then_replies (unless (are_distinct places) 1110) _ (unless_replies (are_distinct places) 1110) (λ u. tt))
+listed_replies schema (Some names) = then_replies (places_named schema names) _ (named_replies schema names) (λ places. then_replies (unless (are_distinct places) ER_FIELD_SPECIFIED_TWICE) _ (unless_replies (are_distinct places) ER_FIELD_SPECIFIED_TWICE) (λ u. tt))
 
 new_replies : (schema : Schema) (names : Option (List (List ℕ))) (values : List Value) → ErrReplies (new_row schema names values)
 unfolding new_row
 new_replies schema names values =
-    then_replies (places_listed schema names) _ (listed_replies schema names) (λ places. then_replies (unless (length places == length values) 1136) _ (unless_replies (length places == length values) 1136) (λ u. row_replies 0 schema.columns places values))
+    then_replies (places_listed schema names) _ (listed_replies schema names) (λ places. then_replies (unless (length places == length values) ER_WRONG_VALUE_COUNT_ON_ROW) _ (unless_replies (length places == length values) ER_WRONG_VALUE_COUNT_ON_ROW) (λ u. row_replies 0 schema.columns places values))
 
 wanted_replies : (place : ℕ) (column : Option Column) (value : Option Value) → ErrReplies (wanted_at place column value)
 wanted_replies place (Some column) (Some value) = value_replies place (seeks value column.kind)
@@ -165,7 +166,7 @@ work_replies schema (statements.Replace table columns values) = or_replies (new_
 work_replies schema (statements.Delete table condition) = or_replies (reach_of schema condition) Delete (reach_replies schema condition) (λ reach. tt)
 work_replies schema (statements.Update table sets condition) =
     works_or (update_of schema sets condition)
-    (then_works (places_named schema (map (λ (set : Set). set.column) sets)) _ (named_replies schema _) (λ places. then_works (unless (are_distinct places) 1110) _ (unless_replies (are_distinct places) 1110) (λ u. then_works (reach_of schema condition) _ (reach_replies schema condition) (λ reach. tt))))
+    (then_works (places_named schema (map (λ (set : Set). set.column) sets)) _ (named_replies schema _) (λ places. then_works (unless (are_distinct places) ER_FIELD_SPECIFIED_TWICE) _ (unless_replies (are_distinct places) ER_FIELD_SPECIFIED_TWICE) (λ u. then_works (reach_of schema condition) _ (reach_replies schema condition) (λ reach. tt))))
 work_replies schema (statements.Select table what condition) =
     works_or (select_of schema what condition) (then_works (selection_of schema what) _ (showing_replies schema what) (λ selection. then_works (reach_of schema condition) _ (reach_replies schema condition) (λ reach. tt)))
 
@@ -180,7 +181,7 @@ updates_reply schema sets (old ∷ met) rows =
     at (same_row old (with_sets sets old)) (clashes_besides schema (with_sets sets old) old rows) (updates schema sets met rows)
     (change_first (changes.Update old (with_sets sets old)) (updates schema sets met (change_rows (key_places schema) (changes.Update old (with_sets sets old)) rows)))
     (updates_reply schema sets met rows) (first_replies (changes.Update old (with_sets sets old)) (updates schema sets met (change_rows (key_places schema) (changes.Update old (with_sets sets old)) rows)) (updates_reply schema sets met (change_rows (key_places schema) (changes.Update old (with_sets sets old)) rows))) where
-      at : (same clashes : Bool) (r s : Result (List Change) Answer) → ErrReplies r → ErrReplies s → ErrReplies (cond same r (cond clashes (Err (refuses 1062)) s))
+      at : (same clashes : Bool) (r s : Result (List Change) Answer) → ErrReplies r → ErrReplies s → ErrReplies (cond same r (cond clashes (Err (refuses ER_DUP_ENTRY)) s))
       at true clashes r s one two = one
       at false true r s one two = tt
       at false false r s one two = two
@@ -206,7 +207,7 @@ if_replies false one two a b = b
 tells_replies : (schema : Schema) (rows : List (List Value)) (work : Work) → WorkReplies work → IsReply (tells schema rows work).answer
 unfolding tells
 tells_replies schema rows (Refuse refusal) is = is
-tells_replies schema rows (Insert row) is = if_replies (list_any (clash schema.uniques row) rows) (only (refuses 1062)) (record { answer = answers.Ok 1; changes = changes.Write row ∷ [] }) tt tt
+tells_replies schema rows (Insert row) is = if_replies (list_any (clash schema.uniques row) rows) (only (refuses ER_DUP_ENTRY)) (record { answer = answers.Ok 1; changes = changes.Write row ∷ [] }) tt tt
 tells_replies schema rows (Copy row) is = if_replies (list_any (clash schema.uniques row) rows) (only (answers.Ok 0)) (record { answer = answers.Ok 1; changes = changes.Write row ∷ [] }) tt tt
 tells_replies schema rows (Replace row) is = tt
 tells_replies schema rows (Delete reach) is = tt

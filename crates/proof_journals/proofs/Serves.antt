@@ -6,6 +6,7 @@ use Rattle.std.proofs.lemmas.List.{append-nil}
 use Rattle.std.specs.List.{list_any, flat_map}
 use Rattle.std.specs.Str.{bytes_eq}
 use Rattle.base_values.specs.declared.gho_schema.schema.Schema.{Schema}
+use Rattle.base_values.specs.declared.mysql_errors.TheConstants.{ER_TABLE_EXISTS_ERROR, ER_BAD_TABLE_ERROR, ER_NO_SUCH_TABLE, ER_TABLE_NOT_LOCKED}
 use Rattle.server_locks.specs.RowLocks.Granting.{blocker_of_set}
 use Rattle.server_locks.specs.MetadataLocks.Granting.{blocker_of_names}
 use Rattle.table_store.specs.Databases.{TableRows, Database, find_table, has_table, rename_tables}
@@ -197,13 +198,13 @@ altered_left scene state number going past work lost names tables rests may alte
 
 create_left : (scene : Scene) (state : State) (number : ℕ) (going : ℕ → Going) (past : List PlainItem) (work : ToolWork scene state number going past) (lost : Bool) (schema : Schema) → ToolAsks scene (Create schema) → Free (names_held state.sessions) number (map exclusive (schema.name ∷ [])) → (stands : Bool) → is_in_transaction (session_of number state.sessions) ≡ false
     → Left scene state number going past lost false (does (defined (created stands schema state.tables)) state number)
-create_left scene state number going past work lost schema asks free true is = refused_left scene state number going past work lost false 1050
+create_left scene state number going past work lost schema asks free true is = refused_left scene state number going past work lost false ER_TABLE_EXISTS_ERROR
 create_left scene state number going past work lost schema asks free false is =
     moved_left scene state number going past work lost (schema.name ∷ []) (state.tables ++ record { schema = schema; rows = [] } ∷ []) is (asks.0, tt) free (create_moves schema state.tables asks.1)
 
 drop_left : (scene : Scene) (state : State) (number : ℕ) (going : ℕ → Going) (past : List PlainItem) (work : ToolWork scene state number going past) (lost : Bool) (name : List ℕ) → is_mine scene name ≡ false → Free (names_held state.sessions) number (map exclusive (name ∷ [])) → (stands : Bool) → is_in_transaction (session_of number state.sessions) ≡ false
     → Left scene state number going past lost false (does (defined (dropped stands name state.tables)) state number)
-drop_left scene state number going past work lost name off free false is = refused_left scene state number going past work lost false 1051
+drop_left scene state number going past work lost name off free false is = refused_left scene state number going past work lost false ER_BAD_TABLE_ERROR
 drop_left scene state number going past work lost name off free true is = moved_left scene state number going past work lost (name ∷ []) _ is (off, tt) free (drop_moves name state.tables)
 
 rename_left : (scene : Scene) (state : State) (number : ℕ) (going : ℕ → Going) (past : List PlainItem) (work : ToolWork scene state number going past) (lost : Bool) (pairs : List Pair) → is_mine scene scene.migrated ≡ true → ToolAsks scene (Rename pairs) → Free (names_held state.sessions) number (map exclusive (pair_names pairs))
@@ -244,7 +245,7 @@ within_left scene state number going past work lost (requests.Do statement) mine
 within_left scene state number going past work lost (LockTables names) mine asks so free = at (all_stand names state.tables) where
   at : (b : Bool) → Left scene state number going past lost false (does (locks_if b names) state number)
   at true = tool_locks_names scene state number going past work names lost
-  at false = refused_left scene state number going past work lost false 1146
+  at false = refused_left scene state number going past work lost false ER_NO_SUCH_TABLE
 within_left scene state number going past work lost Unlock mine asks so free = tool_unlocks_names scene state number going past work lost
 within_left scene state number going past work lost (Create schema) mine asks so free = create_left scene state number going past work lost schema asks free.names (has_table schema.name state.tables) so.0
 within_left scene state number going past work lost (Drop name) mine asks so free = drop_left scene state number going past work lost name asks free.names (has_table name state.tables) so.0
@@ -260,7 +261,7 @@ within_left scene state number going past work lost (BeginSpan table span size) 
   need' = need_within (view number state) (BeginSpan table span size)
 
   at : (found : Option TableRows) → Left scene state number going past lost false (does (begins found span size need') state number)
-  at None = refused_left scene state number going past work lost false 1146
+  at None = refused_left scene state number going past work lost false ER_NO_SUCH_TABLE
   at (Some t) = tool_goes_on scene state number going past work need' [] lost free.apart (quiet_fine scene state.tables (hold_in work.found) need' (own_fine scene state number going past work))
 within_left scene state number going past work lost (CopyRow from into columns key) mine asks so free = at (is_in_transaction (session_of number state.sessions)) where
   need' : Need
@@ -281,5 +282,5 @@ pub tool_done : (scene : Scene) (state : State) (number : ℕ) (going : ℕ → 
 unfolding done
 tool_done scene state number going past work lost request mine asks so free = at (is_outside (session_of number state.sessions) request) so free where
   at : (b : Bool) → DefinesSo scene (is_in_transaction (session_of number state.sessions)) state.tables (Some request) (Some (does (effect_unless b (is_in_transaction (session_of number state.sessions)) (view number state) state request) state number).answer) → IsFree state number (need_within (view number state) request) → Left scene state number going past lost (renames_away scene.migrated (Some request)) (does (effect_unless b (is_in_transaction (session_of number state.sessions)) (view number state) state request) state number)
-  at true so free = refused_left scene state number going past work lost (renames_away scene.migrated (Some request)) 1100
+  at true so free = refused_left scene state number going past work lost (renames_away scene.migrated (Some request)) ER_TABLE_NOT_LOCKED
   at false so free = within_left scene state number going past work lost request mine asks so free

@@ -1,6 +1,7 @@
 -- Journals: what each entry does to its session's transaction, and what ended.
 use Rattle.std.specs.Prelude.{◌≡◌, ◌⊎◌, ℕ, ◌==◌, Bool, true, false, if◌then◌else◌, List, [], ◌∷◌, ◌++◌, Option, Some, None, Ok, option_to_list}
 use Rattle.std.specs.List.{AllByRecursion}
+use Rattle.base_values.specs.declared.mysql_errors.TheConstants.{ER_LOCK_WAIT_TIMEOUT}
 use Rattle.table_store.specs.Databases.{TableRows, Database, find_table, rename_tables, name_table}
 use Rattle.table_store.specs.declared.renames.Pair.{Pair}
 use Rattle.base_script.specs.declared.actor.Side.{Side}
@@ -107,7 +108,7 @@ abbrev pub word_given : Bool → ScriptWord → Answer → LineOutcome
 word_given busy word (answers.Ok count) = line_outcome_answered busy word marks.Answered (option_to_list (reply_of (answers.Ok count)))
 word_given busy word (answers.Rows rows) = line_outcome_answered busy word marks.Answered (option_to_list (reply_of (answers.Rows rows)))
 word_given busy word (answers.Refused number column) = line_outcome_answered busy word marks.Answered (option_to_list (reply_of (answers.Refused number column)))
-word_given busy word (answers.TimedOut waited) = Ends word marks.TimedOut (replies.Error 1205 ∷ []) ends.TimedOut
+word_given busy word (answers.TimedOut waited) = Ends word marks.TimedOut (replies.Error ER_LOCK_WAIT_TIMEOUT ∷ []) ends.TimedOut
 word_given busy word answer = Still
 
 -- the request was done, though its answer was missed

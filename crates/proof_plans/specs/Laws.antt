@@ -32,7 +32,7 @@ AcceptedRenamesFindTheAltered =
     → IsAltered (migration_of table.schema new) (state_at plan journal).tables
 
 -- *Accepted runs find the table*: what names the migrated table alone, as each client's statement on it does, is never answered
--- 1146.
+-- ER_NO_SUCH_TABLE.
 abbrev pub AcceptedRunsFindTheTable : Type 0
 AcceptedRunsFindTheTable = (plan : PlanData) (journal : List Entry) → WasRead plan → IsKept plan journal → FindsTable plan journal
 

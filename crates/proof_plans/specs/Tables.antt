@@ -1,5 +1,6 @@
 -- *What clients find* of the migrated table, and what is kept of the old one. (gh-ost, "Cut-over": its swap is atomic, so no
--- query sees the table missing, and the old one is left as it was; MySQL's manual, "Server Error Message Reference", of 1146.)
+-- query sees the table missing, and the old one is left as it was; MySQL's manual, "Server Error Message
+-- Reference", of ER_NO_SUCH_TABLE.)
 use Rattle.std.specs.Prelude.{◌≡◌, ℕ, ◌==◌, Bool, true, false, List, [], ◌∷◌, ◌++◌, Option, Some, None}
 use Rattle.std.specs.List.{list_all, list_any}
 use Rattle.std.specs.Str.{bytes_eq}
@@ -12,12 +13,13 @@ use Rattle.server_model.specs.declared.entry.Entry.{Entry}
 use Rattle.server_model.specs.declared.request.Request.{Request}
 use Rattle.plan_data.specs.PlanData.{PlanData}
 use Rattle.base_values.specs.ToolNames.{old_name}
+use Rattle.base_values.specs.declared.mysql_errors.TheConstants.{ER_NO_SUCH_TABLE}
 use Rattle.tool_program.specs.JournalWords.Histories.{about, entry_adds, is_alter, answer_in}
 use Rattle.tool_program.specs.JournalWords.Journals.{state_at}
 
--- refused with 1146: no such table
+-- refused: there is no such table
 abbrev pub is_missing : Option Answer → Bool
-is_missing (Some (answers.Refused number column)) = number == 1146
+is_missing (Some (answers.Refused number column)) = number == ER_NO_SUCH_TABLE
 is_missing told = false
 
 -- the request names no table but this one
@@ -29,7 +31,7 @@ IsFound table None told = Unit {0}
 IsFound table (Some request) told = names_alone table request ≡ true → is_missing told ≡ false
 
 -- *Finds the table*: what names the migrated table alone, whoever asks it, as each client's statement on it does, isn't
--- answered 1146: in no turn that calls it or polls it, nor where the answer was missed.
+-- answered ER_NO_SUCH_TABLE: in no turn that calls it or polls it, nor where the answer was missed.
 unfoldable pub FindsTable : PlanData → List Entry → Type 0
 FindsTable plan journal = Along (λ before entry. IsFound plan.table (about before entry) (answer_in entry.asked entry.side entry.answer entry.missed)) [] journal
 

@@ -7,6 +7,7 @@ use Rattle.std.specs.Str.{bytes_eq}
 use Rattle.base_values.specs.declared.row_conversion.map.MapColumn.{MapColumn}
 use Rattle.base_values.specs.declared.event.RowEvent.{RowEvent}
 use Rattle.base_values.specs.declared.value.Value.{Value}
+use Rattle.base_values.specs.declared.mysql_errors.TheConstants.{ER_TABLE_NOT_LOCKED}
 use Rattle.server_locks.specs.declared.row_locks.lock.Lock.{Lock}
 use Rattle.table_store.specs.Databases.{Database}
 use Rattle.table_store.specs.declared.renames.Pair.{Pair}
@@ -103,7 +104,7 @@ unfolding calls
 calls_wait state number by request blocked = rw blocked refl
 
 -- a request that names a table which isn't locked, where the session holds LOCK TABLES
-pub done_outside : (state : State) (number : ℕ) (request : Request) → is_outside (session_of number state.sessions) request ≡ true → done state number request ≡ serving (refuses 1100) state
+pub done_outside : (state : State) (number : ℕ) (request : Request) → is_outside (session_of number state.sessions) request ≡ true → done state number request ≡ serving (refuses ER_TABLE_NOT_LOCKED) state
 unfolding done
 done_outside state number request outside = rw outside refl
 

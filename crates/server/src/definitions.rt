@@ -11,6 +11,7 @@ ghost use Rattle.server_transaction.specs.ServerData.Fitting.{NoneOf};
 ghost use Rattle.server.specs.Parts.{state_of, HaveWritten};
 
 use base_values::gho_schema::Schema;
+use base_values::mysql_errors::{ER_BAD_TABLE_ERROR, ER_NO_SUCH_TABLE, ER_TABLE_EXISTS_ERROR};
 use base_values::{Name, Names};
 use server_api::paged_answers::{all_stand, refuses};
 use server_model::Answer;
@@ -33,7 +34,7 @@ pub fn lock_tables<D: Data>(
     ensures have { HaveWritten (D.written store.now) all_sessions.new }
 {
     if !all_stand(store.tables(), names.as_slice()) {
-        return Ok(refuses(1146));
+        return Ok(refuses(ER_NO_SUCH_TABLE));
     }
     all_sessions.lock(session, names)?;
     Ok(Answer::Ok(0))
@@ -48,7 +49,7 @@ pub fn create<D: Data>(store: &mut D, schema: &Schema) -> Result<Answer, AllocEr
     ensures written { (session : ℕ) → D.written store.new session ≡ D.written store.old session }
 {
     if store.tables().stands(&schema.name) {
-        return Ok(refuses(1050));
+        return Ok(refuses(ER_TABLE_EXISTS_ERROR));
     }
     store.create(schema)?;
     Ok(Answer::Ok(0))
@@ -62,7 +63,7 @@ pub fn drop_table<D: Data>(store: &mut D, name: &Name) -> Answer
     ensures written { (session : ℕ) → D.written store.new session ≡ D.written store.old session }
 {
     if !store.tables().stands(name) {
-        return refuses(1051);
+        return refuses(ER_BAD_TABLE_ERROR);
     }
     store.drop_table(name);
     Answer::Ok(0)

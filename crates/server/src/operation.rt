@@ -11,6 +11,7 @@ ghost use Rattle.server.specs.Parts.{is_look, state_of, GoTogether, HaveWritten,
 use crate::commits::{commit, roll_back};
 use crate::definitions::{create, drop_table, lock_tables, rename};
 use crate::results::{begin, begin_span, copy_row, statement};
+use base_values::mysql_errors::ER_TABLE_NOT_LOCKED;
 use server_api::paged_answers::{end_of_chunk, ends, refuses, tables_shown};
 use server_locks::row_locks::LockSet;
 use server_model::{Answer, Request};
@@ -116,7 +117,8 @@ fn do_inside<D: Data>(
     }
 }
 
-/// The request is done; it is refused with 1100 where the session holds LOCK TABLES and it names a table that isn't locked.
+/// The request is done; it is refused with `ER_TABLE_NOT_LOCKED` where the session holds LOCK TABLES and it names a table
+/// that isn't locked.
 pub fn do_request<D: Data>(
     store: &mut D,
     all_sessions: &mut Sessions,
@@ -132,7 +134,7 @@ pub fn do_request<D: Data>(
     ensures have { HaveWritten (D.written store.new) all_sessions.new }
 {
     if all_sessions.is_outside(session, request) {
-        Ok(refuses(1100))
+        Ok(refuses(ER_TABLE_NOT_LOCKED))
     } else {
         do_inside(store, all_sessions, session, request, locks)
     }

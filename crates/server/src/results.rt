@@ -12,6 +12,7 @@ ghost use Rattle.server.specs.Parts.{needed, state_of, GoTogether, HaveWritten, 
 
 use crate::records::keep;
 use base_script::Statement;
+use base_values::mysql_errors::ER_NO_SUCH_TABLE;
 use base_values::row_conversion::ColumnMap;
 use base_values::{Key, Name, Sequence, Span};
 use server_api::paged_answers::{keys_of_span, refuses};
@@ -113,6 +114,6 @@ pub fn begin_span<D: Data>(
             all_sessions.go_on(session, request, locks, Sequence::new(alloc))?;
             Ok(answer)
         }
-        None => Ok(refuses(1146)),
+        None => Ok(refuses(ER_NO_SUCH_TABLE)),
     }
 }

@@ -8,6 +8,7 @@ use Rattle.base_values.specs.GhoSchema.Tables.{clash, IsRow, IsTable}
 use Rattle.base_values.specs.declared.row_conversion.conversion_fault.UnfitAt.{UnfitAt}
 use Rattle.base_values.specs.declared.event.Change.{Change}
 use Rattle.base_values.specs.declared.event.Change.TheVariants as changes
+use Rattle.base_values.specs.declared.mysql_errors.TheConstants.{ER_DUP_ENTRY}
 use Rattle.table_store.specs.ClusteredKeys.{HasClusteredKey}
 use Rattle.table_store.proofs.Orders.{Row}
 use Rattle.server_model.specs.declared.answer.Answer.{Answer}
@@ -68,7 +69,7 @@ unfolding AllFit
 one_more places change rows (Ok all) first later = (first.0, later)
 one_more places change rows (Err refusal) first later = tt
 
-updates_here : (places : List ℕ) (rows : List Row) (b c : Bool) (still later : Result (List Change) Answer) → ResultFits places rows still → (c ≡ false → ResultFits places rows later) → ResultFits places rows (cond b still (cond c (Err (refuses 1062)) later))
+updates_here : (places : List ℕ) (rows : List Row) (b c : Bool) (still later : Result (List Change) Answer) → ResultFits places rows still → (c ≡ false → ResultFits places rows later) → ResultFits places rows (cond b still (cond c (Err (refuses ER_DUP_ENTRY)) later))
 updates_here places rows true c still later one two = one
 updates_here places rows false true still later one two = tt
 updates_here places rows false false still later one two = two refl
@@ -105,7 +106,7 @@ nothing_fits places rows = tt
 all_fit : (schema : Schema) → HasClusteredKey schema → (rows : List Row) (work : Work) → IsSound schema.columns work → IsTable schema rows → AllFit (key_places schema) (tells schema rows work).changes rows
 unfolding tells
 all_fit schema key rows (Refuse refusal) sound are = nothing_fits (key_places schema) rows
-all_fit schema key rows (Insert row) sound are = written_fits schema key row rows (refuses 1062) (list_any (clash schema.uniques row) rows) refl sound are
+all_fit schema key rows (Insert row) sound are = written_fits schema key row rows (refuses ER_DUP_ENTRY) (list_any (clash schema.uniques row) rows) refl sound are
 all_fit schema key rows (Copy row) sound are = written_fits schema key row rows (answers.Ok 0) (list_any (clash schema.uniques row) rows) refl sound are
 all_fit schema key rows (Replace row) sound are = replaced_fits schema key row rows sound are
 all_fit schema key rows (Delete reach) sound are = deletes_fit (key_places schema) (rows_met schema reach rows) rows (are_met (key_places schema) (reaches schema reach) rows are.ascends)

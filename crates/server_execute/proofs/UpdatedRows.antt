@@ -6,6 +6,7 @@ use Rattle.base_values.specs.GhoSchema.Rows.{key_places}
 use Rattle.base_values.specs.GhoSchema.Tables.{Ascends, IsTable}
 use Rattle.base_values.specs.declared.event.Change.{Change}
 use Rattle.base_values.specs.declared.event.Change.TheVariants as changes
+use Rattle.base_values.specs.declared.mysql_errors.TheConstants.{ER_DUP_ENTRY}
 use Rattle.table_store.specs.ClusteredKeys.{HasClusteredKey}
 use Rattle.table_store.proofs.Orders.{Row}
 use Rattle.server_model.specs.declared.answer.Answer.{Answer}
@@ -69,12 +70,12 @@ is_change false true new row is = absurd (cc)
 is_change false false new row is = (refl, refl, cc)
 
 pub clashes : (schema : Schema) (sets : List (Option Value)) (met rows : List Row) (written : Written) (done : List Change) (old : Row) (left : List Row) → IsGoing schema sets met rows written done (old ∷ left)
-    → Clashes ≡ row_update schema sets (seen (key_places schema) written rows) old → Err (refuses 1062) ≡ updates schema sets met rows
+    → Clashes ≡ row_update schema sets (seen (key_places schema) written rows) old → Err (refuses ER_DUP_ENTRY) ≡ updates schema sets met rows
 unfolding updates
 clashes schema sets met rows written done old left going is =
     let now : List Row = seen (key_places schema) written rows in
     let tests = is_clash (same_row old (with_sets sets old)) (clashes_besides schema (with_sets sets old) old now) (with_sets sets old) (sym is) in
-    let here : updates schema sets (old ∷ left) (seen (key_places schema) written rows) ≡ Err (refuses 1062) = rw (tests.0, tests.1) refl in
+    let here : updates schema sets (old ∷ left) (seen (key_places schema) written rows) ≡ Err (refuses ER_DUP_ENTRY) = rw (tests.0, tests.1) refl in
     sym (ap (behind done) here) ∙ going.same
 
 pub stays : (schema : Schema) (sets : List (Option Value)) (met rows : List Row) (written : Written) (done : List Change) (old : Row) (left : List Row) → IsGoing schema sets met rows written done (old ∷ left)
@@ -90,8 +91,8 @@ stays schema sets met rows written done old left going is =
       same = ap (behind done) (sym here) ∙ going.same;
     }
 
-neither : (b c : Bool) (still changed : Result (List Change) Answer) → b ≡ false → c ≡ false → cond b still (cond c (Err (refuses 1062)) changed) ≡ changed
-neither b c still changed one two = ap (λ (x : Bool). cond x still (cond c (Err (refuses 1062)) changed)) one ∙ ap (λ (x : Bool). cond x (Err (refuses 1062)) changed) two
+neither : (b c : Bool) (still changed : Result (List Change) Answer) → b ≡ false → c ≡ false → cond b still (cond c (Err (refuses ER_DUP_ENTRY)) changed) ≡ changed
+neither b c still changed one two = ap (λ (x : Bool). cond x still (cond c (Err (refuses ER_DUP_ENTRY)) changed)) one ∙ ap (λ (x : Bool). cond x (Err (refuses ER_DUP_ENTRY)) changed) two
 
 one_after : (done : List Change) (change : Change) (result : Result (List Change) Answer) → behind (done ++ change ∷ []) result ≡ behind done (change_first change result)
 one_after done change (Ok more) = ap {B = Result (List Change) Answer} Ok (append_assoc done (change ∷ []) more)

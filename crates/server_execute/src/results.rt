@@ -13,6 +13,7 @@ ghost use Rattle.server_execute.specs.ReadyResult.{as_result};
 use crate::changing::{ReadyResult, deletes, only};
 use crate::selection::selected;
 use crate::updates::updated;
+use base_values::mysql_errors::ER_DUP_ENTRY;
 use base_values::{Change, Duplicate, Row, Sequence};
 use server_model::{Answer, Reach, Selection, Work};
 use server_prepare::refuses;
@@ -39,13 +40,13 @@ fn one_written(alloc: Global, row: &Row) -> Result<ReadyResult, AllocError>
     })
 }
 
-/// What an INSERT says: 1062 where its row clashes with one.
+/// What an INSERT says: `ER_DUP_ENTRY` where its row clashes with one.
 #[tactic(auto, unfolding(server_model::specs::Saying::tells))]
 fn insert(alloc: Global, seen: &SeenTable<'_>, row: &Row) -> Result<ReadyResult, AllocError>
     ensures { IfOk result (λ told. as_result told ≡ tells seen.now.schema seen.now.rows (works.Insert row.now)) }
 {
     if clashes(alloc, seen, row)? {
-        return Ok(only(alloc, refuses(1062)));
+        return Ok(only(alloc, refuses(ER_DUP_ENTRY)));
     }
     one_written(alloc, row)
 }

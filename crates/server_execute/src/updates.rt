@@ -15,6 +15,7 @@ ghost use Rattle.server_seen.specs.Written as writes;
 
 use crate::changing::{Changes, ReadyResult, only};
 use crate::statement_work::with_sets;
+use base_values::mysql_errors::ER_DUP_ENTRY;
 use base_values::row_conversion::UnfitAt;
 use base_values::{Change, Duplicate, Row, Sequence, Value};
 use server_model::{Answer, ColumnSets, Reach};
@@ -95,7 +96,7 @@ fn push_change(
     all.push(change)
 }
 
-/// The changes of rows that an UPDATE reaches, or 1062.
+/// The changes of rows that an UPDATE reaches, or `ER_DUP_ENTRY`.
 fn updates(
     alloc: Global,
     seen: &SeenTable<'_>,
@@ -112,7 +113,7 @@ fn updates(
     for old in met {
         match row_update(alloc, seen, &written, sets, old)? {
             RowUpdate::Same => {}
-            RowUpdate::Clashes => return Ok(Err(refuses(1062))),
+            RowUpdate::Clashes => return Ok(Err(refuses(ER_DUP_ENTRY))),
             RowUpdate::Becomes(new) => push_change(alloc, &mut written, &mut all, old, new)?,
         }
     }

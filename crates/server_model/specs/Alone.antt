@@ -3,6 +3,7 @@
 -- project's rule). Lines and marks decide everything; how the transaction is said to have ended decides nothing.
 use Rattle.std.specs.Prelude.{Bool, true, false, ◌&&◌, ◌||◌, List, [], ◌∷◌, ◌++◌, option_to_list, Option, Some, None}
 use Rattle.base_values.specs.declared.event.RowEvent.{RowEvent}
+use Rattle.base_values.specs.declared.mysql_errors.TheConstants.{ER_LOCK_WAIT_TIMEOUT}
 use Rattle.table_store.specs.Databases.{Database}
 use Rattle.base_script.specs.declared.actor.Side.TheVariants.{Before, After}
 use Rattle.base_script.specs.declared.script.ScriptWord.{ScriptWord}
@@ -18,13 +19,12 @@ use Rattle.server_model.specs.declared.answer.Answer.TheVariants as answers
 use Rattle.server_model.specs.Answers.{ok}
 use Rattle.server_model.specs.Jobs.{says, after_events}
 
--- what a client sees of an answer; none where it isn't one of a client's (1205: MySQL's manual, "Server Error Message
--- Reference")
+-- what a client is told of an answer; none where it isn't one of a client's
 abbrev pub reply_of : Answer → Option Reply
 reply_of (answers.Ok count) = Some (replies.Ok count)
 reply_of (answers.Rows rows) = Some (replies.Rows rows)
 reply_of (answers.Refused number column) = Some (replies.Error number)
-reply_of (answers.TimedOut waited) = Some (replies.Error 1205)
+reply_of (answers.TimedOut waited) = Some (replies.Error ER_LOCK_WAIT_TIMEOUT)
 reply_of answer = None
 
 -- what a line says: BEGIN, COMMIT and ROLLBACK are answered ok 0
@@ -39,10 +39,10 @@ line_events tables word marks.TimedOut = []
 line_events tables word (marks.Lost Before) = []
 line_events tables word (marks.Lost After) = (line_says tables word).events
 
--- what a line is answered, by its mark: 1205 where it timed out, nothing where its session was lost
+-- what a line is answered, by its mark: ER_LOCK_WAIT_TIMEOUT where it timed out, nothing where its session was lost
 abbrev pub line_replies : Database → ScriptWord → Mark → List Reply
 line_replies tables word marks.Answered = option_to_list (reply_of (line_says tables word).answer)
-line_replies tables word marks.TimedOut = replies.Error 1205 ∷ []
+line_replies tables word marks.TimedOut = replies.Error ER_LOCK_WAIT_TIMEOUT ∷ []
 line_replies tables word (marks.Lost side) = []
 
 -- replies, and the events that were written

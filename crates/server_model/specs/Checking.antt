@@ -19,6 +19,7 @@ use Rattle.base_values.specs.GhoSchema.Names.{same_name}
 use Rattle.base_values.specs.GhoSchema.Clustering.{clustered_place}
 use Rattle.base_values.specs.GhoSchema.Rows.{key_places, places_at}
 use Rattle.base_values.specs.declared.row_conversion.conversion_fault.UnfitAt.{UnfitAt}
+use Rattle.base_values.specs.declared.mysql_errors.TheConstants.{ER_BAD_FIELD_ERROR, ER_NO_DEFAULT_FOR_FIELD, ER_FIELD_SPECIFIED_TWICE, ER_WRONG_VALUE_COUNT_ON_ROW, ER_NOT_SUPPORTED_YET}
 use Rattle.base_script.specs.declared.statement.Statement.{Statement}
 use Rattle.base_script.specs.declared.statement.Statement.TheVariants as statements
 use Rattle.base_script.specs.declared.statement.Condition.{Condition}
@@ -48,9 +49,9 @@ abbrev pub unless : Bool → ℕ → Result (Unit {0}) Answer
 unless true number = Ok tt
 unless false number = Err (refuses number)
 
--- the place of the column of this name: 1054 where there is none
+-- the place of the column of this name
 abbrev pub or_unknown : Option ℕ → Result ℕ Answer
-or_unknown None = Err (refuses 1054)
+or_unknown None = Err (refuses ER_BAD_FIELD_ERROR)
 or_unknown (Some place) = Ok place
 
 abbrev pub place_of : Schema → List ℕ → Result ℕ Answer
@@ -79,11 +80,11 @@ abbrev pub value_at : ℕ → Result Value Unfit → Result Value Answer
 value_at place (Ok value) = Ok value
 value_at place (Err reason) = Err (refuses_value (record { column = place; unfit = reason }))
 
--- what a column of a new row has: the value given for it, else its default, else 1364
+-- what a column of a new row has: the value given for it, else its default
 abbrev pub given_or : ℕ → Column → Option Value → Option Value → Result Value Answer
 given_or place column (Some value) default = value_at place (stores value column.kind column.nullable)
 given_or place column None (Some default) = Ok default
-given_or place column None None = Err (refuses 1364)
+given_or place column None None = Err (refuses ER_NO_DEFAULT_FOR_FIELD)
 
 -- a new row, column by column, of values for the columns at these places
 unfoldable pub row_from : ℕ → List Column → List ℕ → List Value → Result (List Value) Answer
@@ -98,19 +99,19 @@ abbrev pub places_from : ℕ → List Column → List ℕ
 places_from place [] = []
 places_from place (column ∷ columns) = place ∷ places_from (place + 1) columns
 
--- the places of the columns that an INSERT names; of all where it names none: 1054, 1110
+-- the places of the columns that an INSERT names, each once; of all where it names none
 abbrev pub places_listed : Schema → Option (List (List ℕ)) → Result (List ℕ) Answer
 places_listed schema None = Ok (places_from 0 schema.columns)
 places_listed schema (Some names) = do
   places ← places_named schema names
-  _ ← unless (are_distinct places) 1110
+  _ ← unless (are_distinct places) ER_FIELD_SPECIFIED_TWICE
   Ok places
 
--- the new row of an INSERT or a REPLACE: 1054, 1110, 1136, then column by column
+-- the new row of an INSERT or a REPLACE: as many values as columns, then column by column
 unfoldable pub new_row : Schema → Option (List (List ℕ)) → List Value → Result (List Value) Answer
 new_row schema names values = do
   places ← places_listed schema names
-  _ ← unless (length places == length values) 1136
+  _ ← unless (length places == length values) ER_WRONG_VALUE_COUNT_ON_ROW
   row_from 0 schema.columns places values
 
 -- the key's columns are just these
@@ -120,7 +121,7 @@ has_columns places index = list_all (λ place. list_any (λ other. place == othe
 -- what the condition compares with the column at a place
 abbrev pub wanted_at : ℕ → Option Column → Option Value → Result Value Answer
 wanted_at place (Some column) (Some value) = value_at place (seeks value column.kind)
-wanted_at place column value = Err (refuses 1054)
+wanted_at place column value = Err (refuses ER_BAD_FIELD_ERROR)
 
 -- the wanted values in the columns at these places, in the order in which they were written
 unfoldable pub wanted_each : Schema → List ℕ → List Value → Result (List Value) Answer
@@ -141,9 +142,9 @@ abbrev pub key_from : List ℕ → List ℕ → List Value → List Value
 key_from [] places values = []
 key_from (place ∷ key) places values = with_value (beside place places values) (key_from key places values)
 
--- a key by its place, where there is one: else 1235
+-- a key by its place, where there is one
 abbrev pub keyed : {A : Type 0} → Option ℕ → (ℕ → Result A Answer) → Result A Answer
-keyed None f = Err (refuses 1235)
+keyed None f = Err (refuses ER_NOT_SUPPORTED_YET)
 keyed (Some place) f = f place
 
 -- equalities: on the columns of a unique key, the first of which they are all the columns, each once
@@ -238,15 +239,15 @@ abbrev pub or_refused : {A : Type 0} → Result A Answer → (A → Work) → Wo
 or_refused (Ok x) work = work x
 or_refused (Err refusal) work = Refuse refusal
 
--- an UPDATE's work: 1054, 1110, then its condition
+-- an UPDATE's work: the columns that it sets, each once, then its condition
 abbrev pub update_of : Schema → List Set → Condition → Result Work Answer
 update_of schema sets condition = do
   places ← places_named schema (map (λ set. set.column) sets)
-  _ ← unless (are_distinct places) 1110
+  _ ← unless (are_distinct places) ER_FIELD_SPECIFIED_TWICE
   reach ← reach_of schema condition
   Ok (Update reach (sets_from 0 schema.columns places (map (λ set. set.value) sets)))
 
--- a SELECT's work: 1054, then its condition
+-- a SELECT's work: the columns that it shows, then its condition
 abbrev pub select_of : Schema → Shown → Condition → Result Work Answer
 select_of schema shown condition = do
   selection ← selection_of schema shown

@@ -8,6 +8,7 @@ use Rattle.base_values.specs.declared.span.Span.{Span}
 use Rattle.base_values.specs.declared.gho_schema.schema.Schema.{Schema}
 use Rattle.base_values.specs.GhoSchema.Rows.{key_places}
 use Rattle.base_values.specs.declared.event.RowEvent.{RowEvent}
+use Rattle.base_values.specs.declared.mysql_errors.TheConstants.{ER_NO_SUCH_TABLE, ER_TABLE_EXISTS_ERROR, ER_BAD_TABLE_ERROR, ER_TABLE_NOT_LOCKED}
 use Rattle.table_store.specs.Databases.{TableRows, Database, find_table, has_table, without_table, rename_tables, rename_number}
 use Rattle.table_store.specs.declared.renames.NotRenamed.{NotRenamed}
 use Rattle.server_model.specs.declared.session.Session.{Session}
@@ -41,9 +42,9 @@ pub data Effect : Type 0 where
   -- the session holds no name exclusively from now on
   Unlocks : Answer → Effect
 
--- of a committed table: 1146 where none exists
+-- of a committed table, where it exists
 abbrev pub of_table : Option TableRows → (TableRows → Answer) → Answer
-of_table None answer = refuses 1146
+of_table None answer = refuses ER_NO_SUCH_TABLE
 of_table (Some table) answer = answer table
 
 -- what a statement or a copy gives: kept in a transaction with what was granted, committed at once outside one (MySQL's
@@ -54,7 +55,7 @@ result_effect false need result = Writes result.answer result.events
 
 -- a transaction begins, where the table exists
 abbrev pub begins : Option TableRows → Span → ℕ → Need → Effect
-begins None span size need = Rests (refuses 1146)
+begins None span size need = Rests (refuses ER_NO_SUCH_TABLE)
 begins (Some table) span size need = Grows (span_keys span size table) need []
 
 -- tables are locked, where all exist
@@ -63,16 +64,16 @@ all_stand names tables = not (list_any (λ name. not (has_table name tables)) na
 
 abbrev pub locks_if : Bool → List (List ℕ) → Effect
 locks_if true names = Locks ok names
-locks_if false names = Rests (refuses 1146)
+locks_if false names = Rests (refuses ER_NO_SUCH_TABLE)
 
 -- a new table without rows, after the others; a table that is dropped; all pairs renamed, or none
 abbrev pub created : Bool → Schema → Database → Result Database ℕ
-created true schema tables = Err 1050
+created true schema tables = Err ER_TABLE_EXISTS_ERROR
 created false schema tables = Ok (tables ++ record { schema = schema; rows = [] } ∷ [])
 
 abbrev pub dropped : Bool → List ℕ → Database → Result Database ℕ
 dropped true name tables = Ok (without_table name tables)
-dropped false name tables = Err 1051
+dropped false name tables = Err ER_BAD_TABLE_ERROR
 
 abbrev pub renamed_or : Result Database NotRenamed → Result Database ℕ
 renamed_or (Ok tables) = Ok tables
@@ -115,9 +116,9 @@ abbrev pub is_outside : Option Session → Request → Bool
 is_outside None request = false
 is_outside (Some session) request = is_beyond (locked_names session.names) (tables_named request)
 
--- ... it is refused with 1100 then, once its locks are free
+-- ... it is refused then, once its locks are free
 abbrev pub effect_unless : Bool → Bool → Database → State → Request → Effect
-effect_unless true busy seen state request = Rests (refuses 1100)
+effect_unless true busy seen state request = Rests (refuses ER_TABLE_NOT_LOCKED)
 effect_unless false busy seen state request = effect_within busy seen state request
 
 abbrev pub effect : State → ℕ → Request → Effect

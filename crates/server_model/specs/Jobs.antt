@@ -11,6 +11,7 @@ use Rattle.base_values.specs.declared.row_conversion.conversion_fault.UnfitAt.{U
 use Rattle.base_values.specs.RowConversion.ConvertedRows.{converted_row}
 use Rattle.base_values.specs.declared.event.RowEvent.{RowEvent}
 use Rattle.base_values.specs.declared.event.Change.{Change}
+use Rattle.base_values.specs.declared.mysql_errors.TheConstants.{ER_NO_SUCH_TABLE}
 use Rattle.server_locks.specs.declared.row_locks.lock.Lock.{Lock}
 use Rattle.table_store.specs.Databases.{TableRows, Database, find_table, row_at_key, with_change}
 use Rattle.base_script.specs.declared.statement.Statement.{Statement}
@@ -48,9 +49,9 @@ events_of name changes = map (λ change. record { table = name; change = change 
 abbrev pub result_of : List ℕ → TableResult → StatementResult
 result_of name told = record { answer = told.answer; events = events_of name told.changes }
 
--- 1146 where the table doesn't exist
+-- what a job gives, where its table exists
 abbrev pub result_in : Job → Option TableRows → StatementResult
-result_in job None = record { answer = refuses 1146; events = [] }
+result_in job None = record { answer = refuses ER_NO_SUCH_TABLE; events = [] }
 result_in job (Some table) = result_of job.table (tells table.schema table.rows (job.work table.schema))
 
 -- what a job says
@@ -81,7 +82,7 @@ copy_work (Some (Err at)) schema = works.Refuse (refuses_value at)
 copy_work (Some (Ok values)) schema = or_refused (new_row schema None values) works.Copy
 
 abbrev pub copy_from : Option TableRows → List MapColumn → List Value → Schema → Work
-copy_from None map key schema = works.Refuse (refuses 1146)
+copy_from None map key schema = works.Refuse (refuses ER_NO_SUCH_TABLE)
 copy_from (Some table) map key schema = copy_work (option_map (converted_row map) (row_at_key table key)) schema
 
 -- *Copying a row*, by its clustered key, from the one table into the other

@@ -11,6 +11,7 @@ use Rattle.base_values.specs.GhoSchema.Tables.{clash}
 use Rattle.base_values.specs.declared.row_conversion.conversion_fault.UnfitAt.{UnfitAt}
 use Rattle.base_values.specs.declared.event.Change.{Change}
 use Rattle.base_values.specs.declared.event.Change.TheVariants as changes
+use Rattle.base_values.specs.declared.mysql_errors.TheConstants.{ER_DUP_ENTRY}
 use Rattle.server_model.specs.declared.answer.Answer.{Answer}
 use Rattle.server_model.specs.Answers.{refuses, refuses_value}
 use Rattle.server_model.specs.declared.answer.Answer.TheVariants as answers
@@ -50,13 +51,13 @@ change_first change (Ok others) = Ok (change ∷ others)
 change_first change (Err refusal) = Err refusal
 
 -- The changes of an UPDATE, row by row in order of the clustered key, where the rows that it reaches and all rows of the
--- table are these: 1062 where a new row clashes with one of the rows as then changed. Rows that stay as they are make no
--- change.
+-- table are these: ER_DUP_ENTRY where a new row clashes with one of the rows as then changed. Rows that stay as they are
+-- make no change.
 unfoldable pub updates : Schema → List (Option Value) → List (List Value) → List (List Value) → Result (List Change) Answer
 updates schema sets [] rows = Ok []
 updates schema sets (old ∷ met) rows =
     if same_row old (with_sets sets old) then updates schema sets met rows
-    else (if clashes_besides schema (with_sets sets old) old rows then Err (refuses 1062)
+    else (if clashes_besides schema (with_sets sets old) old rows then Err (refuses ER_DUP_ENTRY)
     else change_first (changes.Update old (with_sets sets old)) (updates schema sets met (change_rows (key_places schema) (changes.Update old (with_sets sets old)) rows)))
 
 -- as many rows as are changed, or the refusal
@@ -79,7 +80,7 @@ selected Count rows = answers.Rows ((Num (pos (length rows)) ∷ []) ∷ [])
 -- *What a statement says*
 unfoldable pub tells : Schema → List (List Value) → Work → TableResult
 tells schema rows (Refuse refusal) = only refusal
-tells schema rows (Insert row) = if list_any (clash schema.uniques row) rows then only (refuses 1062) else record { answer = answers.Ok 1; changes = changes.Write row ∷ [] }
+tells schema rows (Insert row) = if list_any (clash schema.uniques row) rows then only (refuses ER_DUP_ENTRY) else record { answer = answers.Ok 1; changes = changes.Write row ∷ [] }
 tells schema rows (Copy row) = if list_any (clash schema.uniques row) rows then only (answers.Ok 0) else record { answer = answers.Ok 1; changes = changes.Write row ∷ [] }
 tells schema rows (Replace row) = record { answer = answers.Ok (1 + length (displaced schema row rows)); changes = map changes.Delete (displaced schema row rows) ++ changes.Write row ∷ [] }
 tells schema rows (Delete reach) = record { answer = answers.Ok (length (rows_met schema reach rows)); changes = map changes.Delete (rows_met schema reach rows) }

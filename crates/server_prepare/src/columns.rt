@@ -7,6 +7,7 @@ ghost use Rattle.server_model.specs.Checking.{place_of, places_named, are_distin
 
 use crate::refusals::{Checked, refuses};
 use base_values::gho_schema::{Column, Places, Schema, same_name};
+use base_values::mysql_errors::{ER_BAD_FIELD_ERROR, ER_FIELD_SPECIFIED_TWICE};
 use base_values::{Name, Names, Sequence, Value};
 use std::alloc::{AllocError, Global};
 
@@ -25,7 +26,7 @@ fn place_of(schema: &Schema, name: &Name) -> Checked<usize>
 {
     match column_of(schema.columns.as_slice(), name) {
         Some(place) => Ok(place),
-        None => Err(refuses(1054)),
+        None => Err(refuses(ER_BAD_FIELD_ERROR)),
     }
 }
 
@@ -115,7 +116,7 @@ pub fn places_listed(
         Err(refusal) => return Ok(Err(refusal)),
     };
     if !are_distinct(places.as_slice()) {
-        return Ok(Err(refuses(1110)));
+        return Ok(Err(refuses(ER_FIELD_SPECIFIED_TWICE)));
     }
     Ok(Ok(places))
 }

@@ -7,6 +7,7 @@ ghost use Rattle.server_model.specs.Checking.{are_distinct, beside, has_columns,
 use crate::columns::{are_distinct, beside, is_among};
 use crate::refusals::{Checked, refuses, refuses_value};
 use base_values::gho_schema::{Index, Schema};
+use base_values::mysql_errors::ER_BAD_FIELD_ERROR;
 use base_values::row_conversion::UnfitAt;
 use base_values::{Duplicate, Key, Row, Sequence, StoreFault, Value, seek};
 use std::alloc::{AllocError, Global};
@@ -52,7 +53,7 @@ fn wanted_at(
     ensures { IfOk result (λ sought. sought ≡ wanted_at place (slice_get schema.now.columns place) (Some value.now)) }
 {
     let Some(column) = schema.columns.as_slice().get(place) else {
-        return Ok(Err(refuses(1054)));
+        return Ok(Err(refuses(ER_BAD_FIELD_ERROR)));
     };
     match seek(alloc, value, column.kind) {
         Ok(value) => Ok(Ok(value)),

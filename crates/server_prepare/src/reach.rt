@@ -13,6 +13,7 @@ use crate::refusals::{Checked, refuses};
 use base_script::{Comparison, Condition, Set};
 use base_values::Span;
 use base_values::gho_schema::{Schema, clustered_place};
+use base_values::mysql_errors::ER_NOT_SUPPORTED_YET;
 use server_model::Reach;
 use std::alloc::{AllocError, Global};
 
@@ -27,7 +28,7 @@ fn reach_equal(alloc: Global, schema: &Schema, sets: &[Set]) -> Result<Checked<R
         Err(refusal) => return Ok(Err(refusal)),
     };
     let Some(place) = key_of_columns(schema, places.as_slice()) else {
-        return Ok(Err(refuses(1235)));
+        return Ok(Err(refuses(ER_NOT_SUPPORTED_YET)));
     };
     let values = set_values(alloc, sets)?;
     let sought = match wanted_each(alloc, schema, places.as_slice(), values.as_slice())? {
@@ -72,7 +73,7 @@ fn reach_range(
         Err(refusal) => return Ok(Err(refusal)),
     };
     let Some(place) = range_key(schema, places.as_slice()) else {
-        return Ok(Err(refuses(1235)));
+        return Ok(Err(refuses(ER_NOT_SUPPORTED_YET)));
     };
     let values = compared_values(alloc, comparisons)?;
     match wanted_each(alloc, schema, places.as_slice(), values.as_slice())? {
@@ -99,7 +100,7 @@ pub fn reach_of(
                 key: place,
                 span: whole(),
             })),
-            None => Ok(Err(refuses(1235))),
+            None => Ok(Err(refuses(ER_NOT_SUPPORTED_YET))),
         },
         Condition::Equal(sets) => reach_equal(alloc, schema, sets.as_slice()),
         Condition::Range(comparisons) => reach_range(alloc, schema, comparisons.as_slice()),

@@ -7,6 +7,7 @@ ghost use Rattle.server_model.specs.Checking.{value_at, given_or, row_from, new_
 use crate::columns::{beside, places_listed};
 use crate::refusals::{Checked, refuses, refuses_value};
 use base_values::gho_schema::{Column, Schema};
+use base_values::mysql_errors::{ER_NO_DEFAULT_FOR_FIELD, ER_WRONG_VALUE_COUNT_ON_ROW};
 use base_values::row_conversion::UnfitAt;
 use base_values::{Duplicate, Names, Row, Sequence, StoreFault, Value, store};
 use std::alloc::{AllocError, Global};
@@ -44,7 +45,7 @@ fn given_or(
     }
     match &column.default {
         Some(default) => Ok(Ok(default.copy()?)),
-        None => Ok(Err(refuses(1364))),
+        None => Ok(Err(refuses(ER_NO_DEFAULT_FOR_FIELD))),
     }
 }
 
@@ -86,7 +87,7 @@ pub fn new_row(
         Err(refusal) => return Ok(Err(refusal)),
     };
     if places.len() != values.len() {
-        return Ok(Err(refuses(1136)));
+        return Ok(Err(refuses(ER_WRONG_VALUE_COUNT_ON_ROW)));
     }
     row_from(alloc, schema.columns.as_slice(), places.as_slice(), values)
 }

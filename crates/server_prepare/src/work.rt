@@ -11,6 +11,7 @@ use crate::refusals::{Checked, refuses};
 use crate::rows::new_row;
 use base_script::{Condition, Set, Shown, Statement};
 use base_values::gho_schema::{Column, Schema};
+use base_values::mysql_errors::ER_FIELD_SPECIFIED_TWICE;
 use base_values::row_conversion::UnfitAt;
 use base_values::{Row, Sequence, StoreFault, Value, store};
 use server_model::{ColumnSets, Reach, Selection, Work};
@@ -94,7 +95,7 @@ fn update_of(
         Err(refusal) => return Ok(Err(refusal)),
     };
     if !are_distinct(places.as_slice()) {
-        return Ok(Err(refuses(1110)));
+        return Ok(Err(refuses(ER_FIELD_SPECIFIED_TWICE)));
     }
     let reach = match reach_of(alloc, schema, condition)? {
         Ok(reach) => reach,

@@ -7,6 +7,7 @@ use Rattle.base_values.specs.GhoSchema.Rows.{key_places}
 use Rattle.base_values.specs.GhoSchema.Tables.{Ascends}
 use Rattle.base_values.specs.declared.event.Change.{Change}
 use Rattle.base_values.specs.declared.event.RowEvent.{RowEvent}
+use Rattle.base_values.specs.declared.mysql_errors.TheConstants.{ER_NO_SUCH_TABLE}
 use Rattle.table_store.specs.Databases.{TableRows, Database, find_table}
 use Rattle.base_script.specs.declared.statement.Statement.{Statement}
 use Rattle.server_model.specs.declared.work.StatementResult.{StatementResult}
@@ -94,7 +95,7 @@ missing_then : (tables : Database) (events : List RowEvent) (statement : Stateme
 missing_then tables events statement name own none =
     found_changed (table_of statement) events tables ∙ ap (option_map (changed (changes_in (table_of statement) events))) (sym (none ∙ ap (λ (n : List ℕ). find_table n tables) own))
 
-pub missing_says : (tables : Database) (events : List RowEvent) (statement : Statement) (name : List ℕ) → name ≡ table_of statement → None ≡ find_table name tables → let result : StatementResult = record { answer = refuses 1146; events = [] } in result ≡ says (after_events tables events) statement
+pub missing_says : (tables : Database) (events : List RowEvent) (statement : Statement) (name : List ℕ) → name ≡ table_of statement → None ≡ find_table name tables → let result : StatementResult = record { answer = refuses ER_NO_SUCH_TABLE; events = [] } in result ≡ says (after_events tables events) statement
 unfolding job_says
 missing_says tables events statement name own none = sym (ap (result_in (job_of statement)) (missing_then tables events statement name own none))
 

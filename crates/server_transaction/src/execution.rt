@@ -17,6 +17,7 @@ use crate::txn::Txn;
 use crate::writes::Writes;
 use base_script::Statement;
 use base_values::gho_schema::Schema;
+use base_values::mysql_errors::ER_NO_SUCH_TABLE;
 use base_values::{Change, Name, Sequence};
 use server_execute::statement_work::needs;
 use server_execute::{events_of, tells};
@@ -114,12 +115,12 @@ fn needs_of(
 
 /// What is said where the table doesn't exist.
 pub fn missing(alloc: Global) -> ReadyResult<Option<Writes>>
-    ensures says { result.result ≡ record { answer = refuses 1146; events = [] } }
+    ensures says { result.result ≡ record { answer = refuses ER_NO_SUCH_TABLE; events = [] } }
     ensures writes { result.writes ≡ None }
 {
     ReadyResult {
         result: StatementResult {
-            answer: refuses(1146),
+            answer: refuses(ER_NO_SUCH_TABLE),
             events: Sequence::new(alloc),
         },
         writes: None,

@@ -9,6 +9,7 @@ use Rattle.base_values.specs.Spans.{has}
 use Rattle.base_values.specs.declared.gho_schema.schema.Schema.{Schema}
 use Rattle.base_values.specs.GhoSchema.Rows.{key_of, key_places, put}
 use Rattle.base_values.specs.GhoSchema.Tables.{IsTable, clash}
+use Rattle.base_values.specs.declared.mysql_errors.TheConstants.{ER_TABLE_EXISTS_ERROR, ER_NO_SUCH_TABLE}
 use Rattle.table_store.specs.RowLists.{is_at, is_besides, without_key}
 use Rattle.table_store.specs.declared.renames.Pair.{Pair}
 use Rattle.table_store.specs.declared.renames.NotRenamed.{NotRenamed}
@@ -102,8 +103,8 @@ rename_tables (pair ∷ pairs) tables =
 
 -- the number of a refusal (MySQL's manual, "Server Error Message Reference")
 abbrev pub rename_number : NotRenamed → ℕ
-rename_number Stands = 1050
-rename_number Missing = 1146
+rename_number Stands = ER_TABLE_EXISTS_ERROR
+rename_number Missing = ER_NO_SUCH_TABLE
 
 -- what contracts see of a stored table: besides, for how many more rows it has room
 pub record StoredTable : Type 0 where

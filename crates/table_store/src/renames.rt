@@ -2,6 +2,7 @@
 
 ghost use Rattle.std.specs.Prelude.{◌≡◌, IfOk};
 
+use base_values::mysql_errors::{ER_NO_SUCH_TABLE, ER_TABLE_EXISTS_ERROR};
 use base_values::{Duplicate, Fault, Name, Sequence};
 use std::alloc::AllocError;
 use thiserror::Error;
@@ -46,8 +47,8 @@ impl NotRenamed {
         ensures { result ≡ rename_number self }
     {
         match self {
-            NotRenamed::Stands => 1050,
-            NotRenamed::Missing => 1146,
+            NotRenamed::Stands => ER_TABLE_EXISTS_ERROR,
+            NotRenamed::Missing => ER_NO_SUCH_TABLE,
         }
     }
 }

@@ -4,6 +4,7 @@ ghost use Rattle.std.specs.Prelude.{◌≡◌, IfOk, option_to_list};
 ghost use Rattle.server_model.specs.Alone.{reply_of, line_says, line_events, line_replies};
 
 use base_script::{ScriptWord, Side};
+use base_values::mysql_errors::ER_LOCK_WAIT_TIMEOUT;
 use base_values::{Events, Sequence};
 use server_model::{Answer, Mark, Reply, StatementResult, TxnLine};
 use std::alloc::{AllocError, Global};
@@ -17,7 +18,7 @@ fn reply_of(answer: Answer) -> Option<Reply>
         Answer::Ok(count) => Some(Reply::Ok(count)),
         Answer::Rows(rows) => Some(Reply::Rows(rows)),
         Answer::Refused { number, .. } => Some(Reply::Error(number)),
-        Answer::TimedOut { .. } => Some(Reply::Error(1205)),
+        Answer::TimedOut { .. } => Some(Reply::Error(ER_LOCK_WAIT_TIMEOUT)),
         Answer::Keys { .. }
         | Answer::Ends(_)
         | Answer::End(_)
@@ -64,7 +65,7 @@ pub fn line_events(
     }
 }
 
-/// What a line is answered: 1205 where it timed out, nothing where its session was lost.
+/// What a line is answered: `ER_LOCK_WAIT_TIMEOUT` where it timed out, nothing where its session was lost.
 pub fn line_reply(
     alloc: Global,
     tables: &[PlainTable],
@@ -77,7 +78,7 @@ pub fn line_reply(
             let said = line_says(alloc, tables, &line.word)?;
             Ok(reply_of(said.answer))
         }
-        Mark::TimedOut => Ok(Some(Reply::Error(1205))),
+        Mark::TimedOut => Ok(Some(Reply::Error(ER_LOCK_WAIT_TIMEOUT))),
         Mark::Lost(_) => Ok(None),
     }
 }

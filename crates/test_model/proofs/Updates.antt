@@ -6,6 +6,7 @@ use Rattle.base_values.specs.GhoSchema.Rows.{key_places}
 use Rattle.table_store.proofs.Orders.{Row}
 use Rattle.base_values.specs.declared.event.Change.{Change}
 use Rattle.base_values.specs.declared.event.Change.TheVariants as changes
+use Rattle.base_values.specs.declared.mysql_errors.TheConstants.{ER_DUP_ENTRY}
 use Rattle.server_model.specs.declared.answer.Answer.{Answer}
 use Rattle.server_model.specs.Answers.{refuses}
 use Rattle.server_model.specs.Rows.{same_row, change_rows}
@@ -23,7 +24,7 @@ module _ (schema : Schema) (sets : List (Option Value)) (front : List Change) (r
   stays same = rw same refl
 
   -- its new row clashes with another one
-  pub clashing : same_row old (with_sets sets old) ≡ false → clashes_besides schema (with_sets sets old) old rows ≡ true → Err (refuses 1062) ≡ changes_after front (updates schema sets (old ∷ met) rows)
+  pub clashing : same_row old (with_sets sets old) ≡ false → clashes_besides schema (with_sets sets old) old rows ≡ true → Err (refuses ER_DUP_ENTRY) ≡ changes_after front (updates schema sets (old ∷ met) rows)
   unfolding updates
   clashing other clash = rw (other, clash) refl
 

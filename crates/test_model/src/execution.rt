@@ -7,6 +7,7 @@ ghost use Rattle.test_model.specs.AnswerAndChanges.{as_result};
 use crate::plain::{PlainTable, find_table};
 use crate::results::{AnswerAndChanges, Changes, tells};
 use base_script::Statement;
+use base_values::mysql_errors::ER_NO_SUCH_TABLE;
 use base_values::{Change, Duplicate, Events, Name, RowEvent, Sequence};
 use server_model::{Answer, StatementResult};
 use server_prepare::{refuses, work_of};
@@ -58,7 +59,7 @@ fn result_of(
     })
 }
 
-/// What a statement says of its table: 1146 where it doesn't exist.
+/// What a statement says of its table: `ER_NO_SUCH_TABLE` where it doesn't stand.
 fn says_in(
     alloc: Global,
     statement: &Statement,
@@ -68,7 +69,7 @@ fn says_in(
 {
     let Some(table) = table else {
         return Ok(StatementResult {
-            answer: refuses(1146),
+            answer: refuses(ER_NO_SUCH_TABLE),
             events: Sequence::new(alloc),
         });
     };

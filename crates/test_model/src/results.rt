@@ -11,6 +11,7 @@ use crate::meeting::{clashes, displaced, rows_met};
 use crate::plain::PlainTable;
 use crate::selection::selected;
 use crate::updates::updated;
+use base_values::mysql_errors::ER_DUP_ENTRY;
 use base_values::{Change, Duplicate, Row, Rows, Sequence};
 use server_model::{Answer, Reach, Selection, Work};
 use server_prepare::refuses;
@@ -61,13 +62,13 @@ fn one_written(alloc: Global, row: &Row) -> Result<AnswerAndChanges, AllocError>
     })
 }
 
-/// What an INSERT says: 1062 where its row clashes with one.
+/// What an INSERT says: `ER_DUP_ENTRY` where its row clashes with one.
 #[tactic(auto, unfolding(server_model::specs::Saying::tells))]
 fn insert(alloc: Global, table: &PlainTable, row: &Row) -> Result<AnswerAndChanges, AllocError>
     ensures { IfOk result (λ told. as_result told ≡ tells table.now.schema table.now.rows (works.Insert row.now)) }
 {
     if clashes(alloc, &table.schema, row, table.rows.as_slice())? {
-        return Ok(only(alloc, refuses(1062)));
+        return Ok(only(alloc, refuses(ER_DUP_ENTRY)));
     }
     one_written(alloc, row)
 }

@@ -14,6 +14,7 @@ use crate::plain::PlainTable;
 use crate::results::{AnswerAndChanges, Changes, only};
 use crate::rows::change_rows;
 use base_values::gho_schema::Schema;
+use base_values::mysql_errors::ER_DUP_ENTRY;
 use base_values::row_conversion::UnfitAt;
 use base_values::{Change, Duplicate, Row, Rows, Sequence, Value};
 use server_model::{Answer, ColumnSets, Reach};
@@ -96,7 +97,7 @@ fn step(
         return Ok(Ok(()));
     }
     if clashes_besides(alloc, schema, &new, old, going.rows.as_slice())? {
-        return Ok(Err(refuses(1062)));
+        return Ok(Err(refuses(ER_DUP_ENTRY)));
     }
     change_row(alloc, schema, going, old, new)?;
     Ok(Ok(()))
@@ -120,7 +121,7 @@ fn steps(
     Ok(Ok(()))
 }
 
-/// The changes of rows that an UPDATE reaches, or 1062.
+/// The changes of rows that an UPDATE reaches, or `ER_DUP_ENTRY`.
 #[tactic(auto, using(crate::proofs::Updates::ended, crate::proofs::Updates::after_nothing))]
 fn updates(
     alloc: Global,

@@ -10,6 +10,7 @@ use Rattle.base_values.specs.declared.gho_schema.schema.Column.{Column}
 use Rattle.base_values.specs.GhoSchema.Rows.{key_of, key_places}
 use Rattle.base_values.specs.GhoSchema.Tables.{IsRow, IsTable, Ascends, clash, no_null}
 use Rattle.base_values.specs.declared.event.Change.TheVariants as changes
+use Rattle.base_values.specs.declared.mysql_errors.TheConstants.{ER_DUP_ENTRY}
 use Rattle.server_model.specs.declared.answer.Answer.TheVariants as answers
 use Rattle.server_locks.specs.declared.row_locks.lock.Lock.{Lock}
 use Rattle.table_store.specs.Databases.{clashing}
@@ -106,10 +107,10 @@ pub data UpdateTold (schema : Schema) (new : Row) (rows : List Row) (found : Opt
   missed : found ≡ None → told ≡ only (answers.Ok 0) → UpdateTold schema new rows found told
   rested : found ≡ Some new → told ≡ only (answers.Ok 0) → UpdateTold schema new rows found told
   changed : (old : Row) → found ≡ Some old → told ≡ record { answer = answers.Ok 1; changes = changes.Update old new ∷ [] } → UpdateTold schema new rows found told
-  refused : (old : Row) → found ≡ Some old → clashes_besides schema new old rows ≡ true → told ≡ only (refuses 1062) → UpdateTold schema new rows found told
+  refused : (old : Row) → found ≡ Some old → clashes_besides schema new old rows ≡ true → told ≡ only (refuses ER_DUP_ENTRY) → UpdateTold schema new rows found told
 
 update_two : (schema : Schema) (new old : Row) (rows : List Row) (same clashes : Bool) → same_row old new ≡ same → clashes_besides schema new old rows ≡ clashes
-    → UpdateTold schema new rows (Some old) (result_or_refusal (cond same (Ok []) (cond clashes (Err (refuses 1062)) (change_first (changes.Update old new) (Ok [])))))
+    → UpdateTold schema new rows (Some old) (result_or_refusal (cond same (Ok []) (cond clashes (Err (refuses ER_DUP_ENTRY)) (change_first (changes.Update old new) (Ok [])))))
 update_two schema new old rows true clashes is besides = rested (ap Some (one_row old new is)) refl
 update_two schema new old rows false true is besides = refused old refl besides refl
 update_two schema new old rows false false is besides = changed old refl refl
@@ -132,7 +133,7 @@ update_itself : (places : List ℕ) (row : Row) (rows : List Row) → Ascends pl
 update_itself places row rows ascends found =
     put_new places row (without_key places (key_of places row) rows) (gone places (key_of places row) rows) ∙ put_again places row rows ascends found
 
-pub update_makes : (schema : Schema) (new : Row) (rows : List Row) (found : Option Row) (told : TableResult) → UpdateTold schema new rows found told → find (is_at (key_places schema) (key_of (key_places schema) new)) rows ≡ found → Ascends (key_places schema) rows → (told ≡ only (refuses 1062) → ⊥)
+pub update_makes : (schema : Schema) (new : Row) (rows : List Row) (found : Option Row) (told : TableResult) → UpdateTold schema new rows found told → find (is_at (key_places schema) (key_of (key_places schema) new)) rows ≡ found → Ascends (key_places schema) rows → (told ≡ only (refuses ER_DUP_ENTRY) → ⊥)
     → rows_after_all (key_places schema) told.changes rows ≡ rows_after_all (key_places schema) (updating new found) rows
 unfolding rows_after_all
 update_makes schema new rows found told (missed none is) there ascends done = rw (is, none) refl

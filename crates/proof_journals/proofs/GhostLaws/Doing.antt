@@ -8,6 +8,7 @@ use Rattle.base_values.specs.RowConversion.ConvertedRows.{converted_row}
 use Rattle.base_values.specs.declared.event.RowEvent.{RowEvent}
 use Rattle.base_values.specs.declared.event.Change.{Change}
 use Rattle.base_values.specs.declared.event.Change.TheVariants.{Write, Update, Delete}
+use Rattle.base_values.specs.declared.mysql_errors.TheConstants.{ER_DUP_ENTRY}
 use Rattle.std.proofs.Common.{length-append}
 use Rattle.server_locks.specs.declared.row_locks.lock.Lock.{Lock}
 use Rattle.server_model.specs.declared.work.Work.TheVariants as works
@@ -161,7 +162,7 @@ put_does m rows done taken progress ghost copier applier now hold holds own task
 -- *Changing*: UPDATE in place, not refused
 pub change_does : (m : Migration) (rows : List Row) (done : Row → Bool) (taken : List Row) (progress : Progress Row) (ghost : GhostRows) (copier applier : ℕ) (now : Stored) (hold holds : ℕ → SessionHold) (own : SessionHold) (task : Job) (next : ℕ) (before row made : Row) (rest : List Doing) (planned' : IsPlanned m rows) → IsServed now hold
     → GhostInvariant m rows done (λ _. false) taken progress ghost copier applier now hold → (copier == applier) ≡ false → IsWhole m now.log progress.reached progress.end next (Changing before row ∷ rest) → converted_row m.columns row ≡ Ok made
-    → DoesWork m task (update_work m rows planned' (key_of (key_places m.schema) before) made) → IsGiven now hold applier task own → Besides applier hold holds own → (tells m.new (view_of m ghost) (update_work m rows planned' (key_of (key_places m.schema) before) made) ≡ only (refuses 1062) → ⊥)
+    → DoesWork m task (update_work m rows planned' (key_of (key_places m.schema) before) made) → IsGiven now hold applier task own → Besides applier hold holds own → (tells m.new (view_of m ghost) (update_work m rows planned' (key_of (key_places m.schema) before) made) ≡ only (refuses ER_DUP_ENTRY) → ⊥)
     → AppliedWhole m rows done taken progress ghost (tells m.new (view_of m ghost) (update_work m rows planned' (key_of (key_places m.schema) before) made)).changes copier applier now holds own next rest
 change_does m rows done taken progress ghost copier applier now hold holds own task next before row made rest planned' served kept differ whole imaged is given besides not_refused =
     let first = change_first m (changes_in m.name now.log progress.reached whole.steps) before row rest (sym whole.are) in

@@ -17,6 +17,7 @@ use Rattle.table_store.specs.Databases.{clashing}
 use Rattle.table_store.specs.RowLists.{is_at}
 use Rattle.base_values.specs.GhoSchema.Tables.{Ascends, no_null}
 use Rattle.base_values.specs.declared.row_conversion.conversion_fault.UnfitAt.{UnfitAt}
+use Rattle.base_values.specs.declared.mysql_errors.TheConstants.{ER_DUP_ENTRY}
 use Rattle.server_model.specs.declared.work.Work.{Work}
 use Rattle.server_model.specs.declared.work.Work.TheVariants as works
 use Rattle.proof_journals.proofs.GhostLaws.Applying.{UpdateTold, all_set, at_key, copy_rested, copy_told, delete_locks, delete_told, key_met, replace_told, update_locks, update_makes, update_told}
@@ -246,7 +247,7 @@ delete_joins m rows log done own all others keys progress ghost row planned now 
 -- *UPDATE in place*, where it isn't refused
 pub update_joins : (m : Migration) (rows : List Row) (log : List RowEvent) (done : Row → Bool) (own all others : List Lock) (keys : List Row) (progress : Progress Row) (ghost : GhostRows) (before row made : Row) (planned : IsPlanned m rows) → IsJoined m rows log done (λ _. false) own others keys progress ghost
     → IsGrant m own all others ghost (update_work m rows planned (key_of (key_places m.schema) before) made) → progress.reached < progress.end → IsDue m rows log progress.reached (Update before row) → changes_key (kept m) before row ≡ false → converted_row m.columns row ≡ Ok made
-    → (tells m.new (view_of m ghost) (update_work m rows planned (key_of (key_places m.schema) before) made) ≡ only (refuses 1062) → ⊥)
+    → (tells m.new (view_of m ghost) (update_work m rows planned (key_of (key_places m.schema) before) made) ≡ only (refuses ER_DUP_ENTRY) → ⊥)
     → IsJoined m rows log done (λ _. false) all others keys (record progress { reached = progress.reached + 1; applier_holds = is_locked m.new all }) (record ghost { batch = ghost.batch ++ (tells m.new (view_of m ghost) (update_work m rows planned (key_of (key_places m.schema) before) made)).changes })
 update_joins m rows log done own all others keys progress ghost before row made planned now grant more due stays imaged not_refused =
     let key : Row = key_of (key_places m.schema) before in

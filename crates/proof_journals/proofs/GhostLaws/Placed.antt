@@ -3,6 +3,7 @@ use Rattle.std.proofs.Common.{◌≡◌, ℕ, Some, sym, ◌∙◌, subst}
 use Rattle.base_values.specs.declared.gho_schema.schema.Schema.{Schema}
 use Rattle.base_values.specs.GhoSchema.Clustering.{clustered_place}
 use Rattle.base_values.specs.GhoSchema.Rows.{key_of, key_places}
+use Rattle.base_values.specs.declared.mysql_errors.TheConstants.{ER_DUP_ENTRY}
 use Rattle.server_model.specs.Answers.{refuses}
 use Rattle.server_model.specs.Saying.{only, tells}
 use Rattle.proof_journals.specs.GhostLaws.GhostRows.Moments.{Row}
@@ -31,7 +32,7 @@ row_is_removed m at rows copy progress ghost copier applier now hold holds own j
 pub row_is_changed : RowIsChanged
 row_is_changed m at rows copy progress ghost copier applier now hold holds own job next before row made rest place plan is served tool imaged does given besides done =
     let key : Row = key_of (key_places m.schema) before in
-    subst (λ (p : ℕ). DoesWork m job (update_at p key made) → (tells m.new (view_of m ghost) (update_at p key made) ≡ only (refuses 1062) → ⊥) → AfterStatement m at rows copy (Whole next rest) progress ghost (tells m.new (view_of m ghost) (update_at p key made)).changes copier applier now holds own)
+    subst (λ (p : ℕ). DoesWork m job (update_at p key made) → (tells m.new (view_of m ghost) (update_at p key made) ≡ only (refuses ER_DUP_ENTRY) → ⊥) → AfterStatement m at rows copy (Whole next rest) progress ghost (tells m.new (view_of m ghost) (update_at p key made)).changes copier applier now holds own)
     (one_place m.new (clustered m.new plan.new_key) place is)
     (λ work not_refused. tool_changes m at rows copy progress ghost copier applier now hold holds own job next before row made rest plan served tool imaged work given besides not_refused) does done
 

@@ -39,6 +39,7 @@ use Rattle.proof_journals.proofs.GhostLaws.Saying.{applier_says}
 use Rattle.proof_journals.proofs.GhostLaws.Tooling.{client_commits, tool_begins, tool_commits_batch, tool_commits_chunk, tool_copied, tool_copies, tool_loses_batch, tool_loses_chunk, tool_moves, tool_passes, tool_puts, tool_puts_second, tool_reads, tool_refused, tool_repeats_batch, tool_repeats_chunk, tool_rests}
 use Rattle.proof_journals.specs.GhostLaws.Fitting.{EventsFit}
 use Rattle.base_values.specs.declared.event.RowEvent.{RowEvent}
+use Rattle.base_values.specs.declared.mysql_errors.TheConstants.{ER_DUP_ENTRY}
 
 -- the invariant at another copy state and moment, which are those of a moment
 pub kept_at : (m : Migration) (at : Clustered m.schema) (rows : List Row) (copier applier : ℕ) (after : ToolMoment) (copy : CopyState) (apply : ApplyState) (position : ℕ) → after.copy ≡ copy → after.position ≡ position → KeptTool m at rows copy apply position copier applier after.stored after.hold → KeptAt m at rows copier applier after apply
@@ -119,11 +120,11 @@ after_statement m at rows copier applier before after apply apply' changes own k
     (subst (λ (s : Stored). KeptTool m at rows before.copy apply' before.position copier applier s after.hold) (sym stored) (record { progress = _; ghost = _; here = kept.here; tool = done.tool }))
 
 -- what an UPDATE is answered tells whether it was refused
-refused_none : (result : Result (List Change) Answer) → (result_or_refusal result).answer ≡ refuses 1062 → (result_or_refusal result).changes ≡ []
+refused_none : (result : Result (List Change) Answer) → (result_or_refusal result).answer ≡ refuses ER_DUP_ENTRY → (result_or_refusal result).changes ≡ []
 refused_none (Ok all) is = absurd cc
 refused_none (Err refusal) is = refl
 
-update_refused : (m : Migration) (rows : List Row) (place : ℕ) (key made : Row) → (tells m.new rows (update_at place key made)).answer ≡ refuses 1062 → (tells m.new rows (update_at place key made)).changes ≡ []
+update_refused : (m : Migration) (rows : List Row) (place : ℕ) (key made : Row) → (tells m.new rows (update_at place key made)).answer ≡ refuses ER_DUP_ENTRY → (tells m.new rows (update_at place key made)).changes ≡ []
 unfolding tells
 update_refused m rows place key made is = refused_none (updates m.new (Rattle.std.specs.Prelude.map Some made) (rows_met m.new (by_key place key) rows) rows) is
 

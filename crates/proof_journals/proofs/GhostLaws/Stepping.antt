@@ -7,6 +7,7 @@ use Rattle.base_values.specs.GhoSchema.Tables.{no_null}
 use Rattle.base_values.specs.RowConversion.ConvertedRows.{converted_row}
 use Rattle.base_values.specs.declared.event.Change.{Change}
 use Rattle.base_values.specs.declared.event.Change.TheVariants.{Update, Delete}
+use Rattle.base_values.specs.declared.mysql_errors.TheConstants.{ER_DUP_ENTRY}
 use Rattle.server_model.specs.declared.work.StatementResult.{StatementResult}
 use Rattle.server_locks.specs.declared.row_locks.lock.Lock.{Lock}
 use Rattle.server_model.specs.declared.work.Work.{Work}
@@ -71,7 +72,7 @@ delete_keeps m rows done taken progress ghost copier applier now hold holds own 
 pub update_keeps : (m : Migration) (rows : List Row) (done : Row → Bool) (taken : List Row) (progress : Progress Row) (ghost : GhostRows) (copier applier : ℕ) (now : Stored) (hold holds : ℕ → SessionHold) (own : SessionHold) (task : Job) (before row made : Row) (planned : IsPlanned m rows) → IsServed now hold
     → GhostInvariant m rows done (λ _. false) taken progress ghost copier applier now hold → (copier == applier) ≡ false → DoesWork m task (update_work m rows planned (key_of (key_places m.schema) before) made) → IsGiven now hold applier task own → Besides applier hold holds own
     → progress.reached < progress.end → IsDue m rows now.log progress.reached (Update before row) → changes_key (kept m) before row ≡ false → converted_row m.columns row ≡ Ok made
-    → (tells m.new (view_of m ghost) (update_work m rows planned (key_of (key_places m.schema) before) made) ≡ only (refuses 1062) → ⊥)
+    → (tells m.new (view_of m ghost) (update_work m rows planned (key_of (key_places m.schema) before) made) ≡ only (refuses ER_DUP_ENTRY) → ⊥)
     → GhostInvariant m rows done (λ _. false) taken (record progress { reached = progress.reached + 1; applier_holds = is_locked m.new own.locks }) (record ghost { batch = ghost.batch ++ (tells m.new (view_of m ghost) (update_work m rows planned (key_of (key_places m.schema) before) made)).changes }) copier applier now holds
 update_keeps m rows done taken progress ghost copier applier now hold holds own task before row made planned served kept differ is given besides more due stays imaged not_refused =
     let fits : Rattle.base_values.specs.GhoSchema.Tables.IsRow m.new.columns made = planned.fits row made (left_fits m rows now.log done (λ _. false) progress ghost (Update before row) row planned kept.joined.under_way due refl) imaged in
@@ -91,7 +92,7 @@ half_keeps m rows done taken progress ghost copier applier now hold holds own ta
     (given_wrote m rows done (λ _. false) taken progress ghost copier applier now hold own task work served kept is given)
     (half_joins m rows now.log done (hold applier).locks own.locks (hold copier).locks taken progress ghost key planned kept.joined (given_grant m rows done (λ _. false) taken progress ghost copier applier now hold own task work served kept differ is given tt) full)
 
--- *a batch's statement that is refused*, as an UPDATE with 1062: the locks stay
+-- *a batch's statement that is refused*, as an UPDATE with ER_DUP_ENTRY: the locks stay
 pub refused_keeps : (m : Migration) (rows : List Row) (done half : Row → Bool) (taken : List Row) (progress : Progress Row) (ghost : GhostRows) (copier applier : ℕ) (now : Stored) (hold holds : ℕ → SessionHold) (own : SessionHold) (task : Job) (work : Work) → IsServed now hold
     → GhostInvariant m rows done half taken progress ghost copier applier now hold → (copier == applier) ≡ false → DoesWork m task work → IsGiven now hold applier task own → Besides applier hold holds own → (tells m.new (view_of m ghost) work).changes ≡ []
     → GhostInvariant m rows done half taken (record progress { applier_holds = is_locked m.new own.locks }) (record ghost { batch = ghost.batch ++ [] }) copier applier now holds

@@ -10,6 +10,7 @@ use Rattle.base_values.specs.GhoSchema.Rows.{key_of, key_places}
 use Rattle.base_values.specs.GhoSchema.Tables.{IsRow, IsTable, Ascends, clash}
 use Rattle.base_values.specs.declared.event.Change.{Change}
 use Rattle.base_values.specs.declared.event.Change.TheVariants as changes
+use Rattle.base_values.specs.declared.mysql_errors.TheConstants.{ER_DUP_ENTRY}
 use Rattle.server_model.specs.declared.answer.Answer.{Answer}
 use Rattle.server_model.specs.declared.answer.Answer.TheVariants as answers
 use Rattle.table_store.specs.ClusteredKeys.{HasClusteredKey}
@@ -61,7 +62,7 @@ unfolding FitsAll
 one_first schema change rows after (Ok all) fits same later = (fits, subst (λ (r : List Row). FitsAll schema r all) same later)
 one_first schema change rows after (Err refusal) fits same later = tt
 
-either_way : (schema : Schema) (rows : List Row) (b c : Bool) (still later : Result (List Change) Answer) → ResultFits schema rows still → (c ≡ false → ResultFits schema rows later) → ResultFits schema rows (cond b still (cond c (Err (refuses 1062)) later))
+either_way : (schema : Schema) (rows : List Row) (b c : Bool) (still later : Result (List Change) Answer) → ResultFits schema rows still → (c ≡ false → ResultFits schema rows later) → ResultFits schema rows (cond b still (cond c (Err (refuses ER_DUP_ENTRY)) later))
 either_way schema rows true c still later one two = one
 either_way schema rows false true still later one two = tt
 either_way schema rows false false still later one two = two refl
@@ -119,7 +120,7 @@ rows_stand places (row ∷ rows) all found = (found_stands (is_at places (key_of
 pub tells_fit : (schema : Schema) → HasClusteredKey schema → (rows : List Row) (work : Work) → IsSound schema.columns work → IsTable schema rows → FitsAll schema rows (tells schema rows work).changes
 unfolding tells
 tells_fit schema has rows (Refuse refusal) sound is = fits_none schema rows
-tells_fit schema has rows (Insert row) sound is = insert_fits schema row rows (refuses 1062) (list_any (clash schema.uniques row) rows) refl sound
+tells_fit schema has rows (Insert row) sound is = insert_fits schema row rows (refuses ER_DUP_ENTRY) (list_any (clash schema.uniques row) rows) refl sound
 tells_fit schema has rows (Copy row) sound is = insert_fits schema row rows (answers.Ok 0) (list_any (clash schema.uniques row) rows) refl sound
 tells_fit schema has rows (Replace row) sound is = replacing_fits schema row rows is sound
 tells_fit schema has rows (Delete reach) sound is = removals_fit schema (reaches schema reach) rows is

@@ -11,6 +11,7 @@ use Rattle.base_values.specs.GhoSchema.Rows.{key_of, key_places}
 use Rattle.base_values.specs.RowConversion.ConvertedRows.{converted_row}
 use Rattle.base_values.specs.declared.event.RowEvent.{RowEvent}
 use Rattle.base_values.specs.declared.event.Change.{Change}
+use Rattle.base_values.specs.declared.mysql_errors.TheConstants.{ER_DUP_ENTRY}
 use Rattle.table_store.specs.Databases.{find_table}
 use Rattle.table_store.specs.RowLists.{is_at}
 use Rattle.server_model.specs.declared.work.Work.{Work}
@@ -261,7 +262,7 @@ tool_puts m at rows copy progress ghost copier applier now hold holds own task n
 -- *a batch's UPDATE in place*, not refused
 pub tool_changes : (m : Migration) (at : Clustered m.schema) (rows : List Row) (copy : CopyState) (progress : Progress Row) (ghost : GhostRows) (copier applier : ℕ) (now : Stored) (hold holds : ℕ → SessionHold) (own : SessionHold) (task : Job) (next : ℕ) (before row made : Row) (rest : List Doing) (plan : IsPlanned m rows) → IsServed now hold
     → ToolInvariant m at rows copy (Whole next (Changing before row ∷ rest)) progress ghost copier applier now hold → converted_row m.columns row ≡ Ok made → DoesWork m task (update_work m rows plan (key_of (key_places m.schema) before) made) → IsGiven now hold applier task own → Besides applier hold holds own
-    → (tells m.new (view_of m ghost) (update_work m rows plan (key_of (key_places m.schema) before) made) ≡ only (refuses 1062) → ⊥)
+    → (tells m.new (view_of m ghost) (update_work m rows plan (key_of (key_places m.schema) before) made) ≡ only (refuses ER_DUP_ENTRY) → ⊥)
     → AfterStatement m at rows copy (Whole next rest) progress ghost (tells m.new (view_of m ghost) (update_work m rows plan (key_of (key_places m.schema) before) made)).changes copier applier now holds own
 tool_changes m at rows copy progress ghost copier applier now hold holds own task next before row made rest plan served tool imaged is given besides done =
     after_whole m at rows copy (Whole next (Changing before row ∷ rest)) progress ghost (tells m.new (view_of m ghost) (update_work m rows plan (key_of (key_places m.schema) before) made)).changes copier applier now hold holds own next rest tool besides
@@ -275,7 +276,7 @@ tool_changes_none m at rows copy progress ghost copier applier now hold holds ow
     after_whole m at rows copy (Whole next (Changing before row ∷ rest)) progress ghost (tells m.new (view_of m ghost) (unfit_work m rows plan (key_of (key_places m.schema) before) fault)).changes copier applier now hold holds own next rest tool besides
     (unfit_does m rows (done_in copy) (taken_in copy) progress ghost copier applier now hold holds own task next before row fault rest plan served tool.kept tool.two tool.applying is given besides none)
 
--- *UPDATE refused with 1062*
+-- *UPDATE refused with ER_DUP_ENTRY*
 pub tool_refused : (m : Migration) (at : Clustered m.schema) (rows : List Row) (copy : CopyState) (progress : Progress Row) (ghost : GhostRows) (copier applier : ℕ) (now : Stored) (hold holds : ℕ → SessionHold) (own : SessionHold) (task : Job) (work : Work) (next : ℕ) (todo : List Doing) → IsServed now hold
     → ToolInvariant m at rows copy (Whole next todo) progress ghost copier applier now hold → DoesWork m task work → IsGiven now hold applier task own → Besides applier hold holds own → (tells m.new (view_of m ghost) work).changes ≡ []
     → ToolInvariant m at rows copy (Whole next todo) (record progress { applier_holds = is_locked m.new own.locks }) (record ghost { batch = ghost.batch ++ [] }) copier applier now holds

@@ -2,6 +2,7 @@
 use Rattle.std.proofs.Common.{◌≡◌, ◌<◌, ℕ, ◌+◌, ◌==◌, Bool, true, false, cond, List, [], ◌∷◌, ◌++◌, length, Some, None, refl, sym, ap, ◌∙◌, arith}
 use Rattle.std.proofs.lemmas.Bool.Decides.{nat_tests}
 use Rattle.base_values.specs.declared.event.RowEvent.{RowEvent}
+use Rattle.base_values.specs.declared.mysql_errors.TheConstants.{ER_DUP_ENTRY}
 use Rattle.server_model.specs.declared.answer.Answer.{Answer}
 use Rattle.server_model.specs.declared.answer.Answer.TheVariants as answers
 use Rattle.server_model.specs.declared.entry.Entry.{Entry}
@@ -127,7 +128,7 @@ module _ (journal : List Entry) (entry : Entry) (applier : Applier) where
     at Removal = again batch done Return _ own is.known.1 is.stands.busy is.stands.locked refl
     at Whole = goes_on batch done _ own is.known.1 is.stands.busy is.stands.locked refl
     at Return = goes_on batch done _ own is.known.1 is.stands.busy is.stands.locked refl
-  at_applying turn batch done part statement (answers.Refused number column) old is = at (number == 1062) where
+  at_applying turn batch done part statement (answers.Refused number column) old is = at (number == ER_DUP_ENTRY) where
     own : IsBatch journal applier batch
     own = own_batch batch (Applying batch done part) is.known.0
 

@@ -6,6 +6,7 @@ use Rattle.std.proofs.lemmas.Bool.{not-true, true≢false, false≢true}
 use Rattle.base_values.specs.declared.event.RowEvent.{RowEvent}
 use Rattle.base_values.specs.declared.event.Change.{Change}
 use Rattle.base_values.specs.declared.gho_schema.schema.Schema.{Schema}
+use Rattle.base_values.specs.declared.mysql_errors.TheConstants.{ER_TABLE_EXISTS_ERROR, ER_TABLE_NOT_LOCKED}
 use Rattle.table_store.specs.Databases.{TableRows, Database, find_table, has_table, is_named, with_change}
 use Rattle.base_script.specs.declared.actor.Side.{Side}
 use Rattle.base_script.specs.declared.actor.Side.TheVariants.{Before, After}
@@ -170,7 +171,7 @@ Made schema served = (count : ℕ) → served.answer ≡ answers.Ok count → sc
 
 created_stands : (schema : Schema) (state : State) (number : ℕ) (stands : Bool) → has_table schema.name state.tables ≡ stands → Made schema (does (defined (created stands schema state.tables)) state number)
 created_stands schema state number true is count given = absurd (refusal given) where
-  refusal : answers.Refused 1050 None ≡ answers.Ok count → ⊥
+  refusal : answers.Refused ER_TABLE_EXISTS_ERROR None ≡ answers.Ok count → ⊥
   refusal same = cc
 created_stands schema state number false is count given = ap (option_map (λ table. table.schema)) (new_found schema.name state.tables (record { schema = schema; rows = [] }) is (same_bytes schema.name))
 
@@ -179,7 +180,7 @@ unfolding done
 done_made schema state number = at (is_outside (session_of number state.sessions) (requests.Create schema)) where
   at : (b : Bool) → Made schema (does (effect_unless b (is_in_transaction (session_of number state.sessions)) (view number state) state (requests.Create schema)) state number)
   at true count given = absurd (refusal given) where
-    refusal : answers.Refused 1100 None ≡ answers.Ok count → ⊥
+    refusal : answers.Refused ER_TABLE_NOT_LOCKED None ≡ answers.Ok count → ⊥
     refusal same = cc
   at false count given = created_stands schema state number (has_table schema.name state.tables) refl count given
 

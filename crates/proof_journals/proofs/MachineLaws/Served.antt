@@ -2,6 +2,7 @@
 use Rattle.std.proofs.Common.{◌≡◌, ℕ, Bool, true, false, List, [], ◌++◌, Option, Some, None, Result, Ok, Err, refl, sym, ap, ◌∙◌, subst}
 use Rattle.std.specs.Prelude.{◌==◌, is_some}
 use Rattle.base_values.specs.declared.event.RowEvent.{RowEvent}
+use Rattle.base_values.specs.declared.mysql_errors.TheConstants.{ER_TABLE_NOT_LOCKED}
 use Rattle.table_store.specs.Databases.{TableRows, Database, find_table, has_table, rename_tables}
 use Rattle.base_script.specs.declared.actor.Side.{Side}
 use Rattle.base_script.specs.declared.actor.Side.TheVariants.{Before, After}
@@ -125,7 +126,7 @@ module _ (state : State) (number : ℕ) (found : Session) (is : session_of numbe
   unfolding done
   done_left request = at (is_outside (session_of number state.sessions) request) where
     at : (b : Bool) → Left state number found request (does (effect_unless b (is_in_transaction (session_of number state.sessions)) (view number state) state request) state number)
-    at true = refused state number found request 1100 None is
+    at true = refused state number found request ER_TABLE_NOT_LOCKED None is
     at false = within request
 
 -- as an answer tells it

@@ -255,7 +255,7 @@ rename_is_gone t l r before after copier applier hold waits apart at others gone
 no_sentry : (t : List ℕ) (scene : Scene) (claim : Type 0) → HasSentry t scene → has_table_name (old_name t) scene.tables ≡ false → claim
 no_sentry t scene claim sentry gone = absurd (false≢true (sym gone ∙ sentry))
 
--- A RENAME that isn't refused with 1050 runs only where the tables may be exchanged.
+-- A RENAME that isn't refused with ER_TABLE_EXISTS_ERROR runs only where the tables may be exchanged.
 pub rename_exchanges : (t : List ℕ) (l r : ℕ) (scene : Scene) (copier : Copier) (applier : Applier) (cutover : CutOver) (phase : Phase) → Guards t scene copier applier cutover l r phase → MayAnswer phase cutover.renamer_waits → has_table_name (old_name t) scene.tables ≡ false
     → MayExchange t scene copier applier l
 rename_exchanges t l r scene copier applier cutover (Attempting Drained) at may gone = no_sentry t scene (MayExchange t scene copier applier l) at.sentry gone

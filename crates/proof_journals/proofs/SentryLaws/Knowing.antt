@@ -1,6 +1,7 @@
 -- What the applier knows of the log, through each of its answers.
 use Rattle.std.proofs.Common.{◌≡◌, ◌+◌, ℕ, nat_eq, Bool, true, false, cond, List, take, refl, ap, ◌∙◌}
 use Rattle.base_values.specs.declared.event.RowEvent.{RowEvent}
+use Rattle.base_values.specs.declared.mysql_errors.TheConstants.{ER_DUP_ENTRY}
 use Rattle.server_model.specs.declared.answer.Answer.TheVariants as answers
 use Rattle.proof_journals.proofs.SentryLaws.Draining.{IsRead, hint_read, StepKnows, Knows}
 use Rattle.server_model.specs.declared.answer.Answer.{Answer}
@@ -40,7 +41,7 @@ after_knows t log turn applier (Applying batch done part) (answers.Ok count) is_
     by Removal = record { within = knows.within; hint = knows.hint; step = at }
     by Whole = statements (done + 1) (nat_eq (done + 1) batch.statements)
     by Return = statements (done + 1) (nat_eq (done + 1) batch.statements)
-after_knows t log turn applier (Applying batch done part) (answers.Refused number column) is_t knows at is reads = by (nat_eq number 1062)
+after_knows t log turn applier (Applying batch done part) (answers.Refused number column) is_t knows at is reads = by (nat_eq number ER_DUP_ENTRY)
   where
     by : (b : Bool) → Knows t log (record applier { step = cond b (Applying batch done Removal) (Applying batch done part) })
     by true = record { within = knows.within; hint = knows.hint; step = at }

@@ -22,6 +22,7 @@ use Rattle.proof_journals.proofs.Journals.{JournalHolds, journal_holds}
 use Rattle.proof_journals.proofs.ServerLaws.Others.{Held, held_from, entries_are_turns}
 use Rattle.server_model.specs.declared.request.Request.{Request}
 use Rattle.std.specs.Prelude.{is_some}
+use Rattle.base_values.specs.declared.mysql_errors.TheConstants.{ER_TABLE_NOT_LOCKED}
 use Rattle.server_model.specs.States.{connected, State, is_exclusive, is_in_transaction, name_held, names_in, session_of, view, waiting_of}
 use Rattle.server_model.specs.Answers.{refuses, ok}
 use Rattle.server_model.specs.declared.session.Waiting.{Waiting}
@@ -58,7 +59,7 @@ AloneAt state number request = (n : ℕ) (name : List ℕ) → (n == number) ≡
 
 done_alone : (base state : State) (number : ℕ) (request : Request) → is_exclusive request ≡ true → (outside : Bool) → IsFree state number (need_within (view number state) request) → (does (effect_unless outside (is_in_transaction (session_of number base.sessions)) (view number base) base request) base number).answer ≡ ok → AloneAt state number request
 done_alone base state number request takes true free is n name differ named = absurd (refusal is) where
-  refusal : refuses 1100 ≡ ok → ⊥
+  refusal : refuses ER_TABLE_NOT_LOCKED ≡ ok → ⊥
   refusal same = cc
 done_alone base state number request takes false free is n name differ named =
     free_alone (held_at state) number n (names_in request) name (subst (λ (b : Bool). Free (held_at state) number (as_needed b (names_in request))) takes free.names) differ named

@@ -9,6 +9,7 @@ use Rattle.base_values.specs.declared.gho_schema.schema.Schema.{Schema}
 use Rattle.base_values.specs.GhoSchema.Clustering.{clustered_place}
 use Rattle.base_values.specs.declared.event.RowEvent.{RowEvent}
 use Rattle.base_values.specs.declared.event.Change.{Change}
+use Rattle.base_values.specs.declared.mysql_errors.TheConstants.{ER_TABLE_NOT_LOCKED, ER_NO_SUCH_TABLE}
 use Rattle.server_locks.specs.declared.row_locks.lock.Lock.{Lock}
 use Rattle.table_store.specs.Databases.{TableRows, Database, find_table, with_change}
 use Rattle.base_script.specs.declared.actor.Side.{Side}
@@ -76,13 +77,13 @@ done_held : (base : State) (number : ℕ) (table : List ℕ) (span : Span) (size
     → (does (effect_unless outside busy (view number base) base (BeginSpan table span size)) base number).answer ≡ (answers.Keys keys end)
     → SpanHeld table span size number (does (effect_unless outside busy (view number base) base (BeginSpan table span size)) base number).answer base (does (effect_unless outside busy (view number base) base (BeginSpan table span size)) base number).after
 done_held base number table span size keys end session is true busy given = absurd (refusal given) where
-  refusal : refuses 1100 ≡ (answers.Keys keys end) → ⊥
+  refusal : refuses ER_TABLE_NOT_LOCKED ≡ (answers.Keys keys end) → ⊥
   refusal same = cc
 done_held base number table span size keys end session is false busy given = at (find_table table base.tables) refl given where
   need' : Need
   need' = need_within (view number base) (BeginSpan table span size)
 
-  refusal : refuses 1146 ≡ (answers.Keys keys end) → ⊥
+  refusal : refuses ER_NO_SUCH_TABLE ≡ (answers.Keys keys end) → ⊥
   refusal same = cc
 
   at : (found : Option TableRows) → find_table table base.tables ≡ found → (does (begins found span size need') base number).answer ≡ (answers.Keys keys end) → SpanHeld table span size number (does (begins found span size need') base number).answer base (does (begins found span size need') base number).after

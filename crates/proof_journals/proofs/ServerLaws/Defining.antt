@@ -1,5 +1,6 @@
 -- CREATE, DROP and RENAME that are done leave the tables that they make.
 use Rattle.std.proofs.Common.{◌≡◌, ℕ, Bool, true, false, not, Option, Some, None, Result, Ok, Err, refl, sym, ap, ◌∙◌}
+use Rattle.base_values.specs.declared.mysql_errors.TheConstants.{ER_TABLE_NOT_LOCKED}
 use Rattle.table_store.specs.Databases.{Database, has_table, rename_tables}
 use Rattle.base_script.specs.declared.actor.Side.{Side}
 use Rattle.base_script.specs.declared.actor.Side.TheVariants.{Before, After}
@@ -32,13 +33,13 @@ defined_done base number (Err reason) given = absurd (refusal given) where
 
 done_defined : (base : State) (number : ℕ) (request : Request) (result : Result Database ℕ) → definition request base.tables ≡ Some result → (outside busy : Bool) → (does (effect_unless outside busy (view number base) base request) base number).answer ≡ ok → result ≡ Ok (does (effect_unless outside busy (view number base) base request) base number).after.tables
 done_defined base number (Create schema) result is true busy given = absurd (refusal given) where
-  refusal : refuses 1100 ≡ ok → ⊥
+  refusal : refuses ER_TABLE_NOT_LOCKED ≡ ok → ⊥
   refusal same = cc
 done_defined base number (Drop name) result is true busy given = absurd (refusal given) where
-  refusal : refuses 1100 ≡ ok → ⊥
+  refusal : refuses ER_TABLE_NOT_LOCKED ≡ ok → ⊥
   refusal same = cc
 done_defined base number (Rename pairs) result is true busy given = absurd (refusal given) where
-  refusal : refuses 1100 ≡ ok → ⊥
+  refusal : refuses ER_TABLE_NOT_LOCKED ≡ ok → ⊥
   refusal same = cc
 done_defined base number (Create schema) result is false busy given = let same : created (has_table schema.name base.tables) schema base.tables ≡ result = cc in sym same ∙ defined_done base number (created (has_table schema.name base.tables) schema base.tables) given
 done_defined base number (Drop name) result is false busy given = let same : dropped (has_table name base.tables) name base.tables ≡ result = cc in sym same ∙ defined_done base number (dropped (has_table name base.tables) name base.tables) given

@@ -5,6 +5,7 @@ use Rattle.std.proofs.Math.Bool.{or-true}
 use Rattle.std.proofs.lemmas.Bool.{false≢true}
 use Rattle.std.specs.List.{list_any}
 use Rattle.std.specs.Str.{bytes_eq}
+use Rattle.base_values.specs.declared.mysql_errors.TheConstants.{ER_TABLE_NOT_LOCKED, ER_NO_SUCH_TABLE}
 use Rattle.server_locks.specs.MetadataLocks.Granting.{holds}
 use Rattle.base_script.specs.declared.actor.Side.{Side}
 use Rattle.server_model.specs.declared.session.Session.{Session}
@@ -53,10 +54,10 @@ Taken after number names = (name : List ℕ) → list_any (bytes_eq name) names 
 
 done_taken : (base : State) (number : ℕ) (names : List (List ℕ)) (found : Session) → session_of number base.sessions ≡ Some found → (outside busy : Bool) → (does (effect_unless outside busy (view number base) base (LockTables names)) base number).answer ≡ ok → Taken (does (effect_unless outside busy (view number base) base (LockTables names)) base number).after number names
 done_taken base number names found is true busy given name among = absurd (refusal given) where
-  refusal : refuses 1100 ≡ ok → ⊥
+  refusal : refuses ER_TABLE_NOT_LOCKED ≡ ok → ⊥
   refusal same = cc
 done_taken base number names found is false busy given name among = at (all_stand names base.tables) given where
-  refusal : refuses 1146 ≡ ok → ⊥
+  refusal : refuses ER_NO_SUCH_TABLE ≡ ok → ⊥
   refusal same = cc
 
   at : (b : Bool) → (does (locks_if b names) base number).answer ≡ ok → holds (held_at (does (locks_if b names) base number).after) number name true ≡ true

@@ -15,6 +15,7 @@ use Rattle.base_values.specs.declared.row_conversion.conversion_fault.UnfitAt.{U
 use Rattle.base_values.specs.RowConversion.ConvertedRows.{converted_row, converted_rows}
 use Rattle.base_values.specs.declared.event.Change.{Change}
 use Rattle.base_values.specs.declared.event.RowEvent.{RowEvent}
+use Rattle.base_values.specs.declared.mysql_errors.TheConstants.{ER_DUP_ENTRY}
 use Rattle.server_locks.specs.declared.row_locks.lock.Lock.{Lock}
 use Rattle.table_store.specs.ClusteredKeys.{HasClusteredKey}
 use Rattle.table_store.specs.Databases.{TableRows, Database, find_table}
@@ -271,12 +272,12 @@ RowIsRemoved =
     → IsServed now hold → ToolInvariant m at rows copy (Whole next (Removing row ∷ rest)) progress ghost copier applier now hold → DoesWork m job (delete_at place (key_of (key_places m.schema) row)) → IsGiven now hold applier job own → Besides applier hold holds own
     → AfterRemoval m at rows copy progress ghost (tells m.new (view_of m ghost) (delete_at place (key_of (key_places m.schema) row))).changes copier applier now holds own next row rest
 
--- *UPDATE* of a row whose unique keys stay, not refused with 1062
+-- *UPDATE* of a row whose unique keys stay, not refused with ER_DUP_ENTRY
 abbrev pub RowIsChanged : Type 0
 RowIsChanged =
     (m : Migration) (at : Clustered m.schema) (rows : List Row) (copy : CopyState) (progress : Progress Row) (ghost : GhostRows) (copier applier : ℕ) (now : Stored) (hold holds : ℕ → SessionHold) (own : SessionHold) (job : Job) (next : ℕ) (before row made : Row) (rest : List Doing) (place : ℕ) → IsPlanned m rows
     → clustered_place m.new ≡ Some place → IsServed now hold → ToolInvariant m at rows copy (Whole next (Changing before row ∷ rest)) progress ghost copier applier now hold → converted_row m.columns row ≡ Ok made → DoesWork m job (update_at place (key_of (key_places m.schema) before) made) → IsGiven now hold applier job own
-    → Besides applier hold holds own → (tells m.new (view_of m ghost) (update_at place (key_of (key_places m.schema) before) made) ≡ only (refuses 1062) → ⊥)
+    → Besides applier hold holds own → (tells m.new (view_of m ghost) (update_at place (key_of (key_places m.schema) before) made) ≡ only (refuses ER_DUP_ENTRY) → ⊥)
     → AfterStatement m at rows copy (Whole next rest) progress ghost (tells m.new (view_of m ghost) (update_at place (key_of (key_places m.schema) before) made)).changes copier applier now holds own
 
 -- *UPDATE of no row*, with values that don't store: the new table has no row of its key
@@ -287,7 +288,7 @@ UnfitRowIsMissed =
     → Besides applier hold holds own → ghost_row m (view_of m ghost) (key_of (key_places m.schema) before) ≡ None
     → AfterStatement m at rows copy (Whole next rest) progress ghost (tells m.new (view_of m ghost) (unfit_at place (key_of (key_places m.schema) before) fault)).changes copier applier now holds own
 
--- *A statement that changes nothing*, as an UPDATE refused with 1062: its locks stay
+-- *A statement that changes nothing*, as an UPDATE refused with ER_DUP_ENTRY: its locks stay
 abbrev pub StatementIsRefused : Type 0
 StatementIsRefused =
     (m : Migration) (at : Clustered m.schema) (rows : List Row) (copy : CopyState) (progress : Progress Row) (ghost : GhostRows) (copier applier : ℕ) (now : Stored) (hold holds : ℕ → SessionHold) (own : SessionHold) (job : Job) (work : Work) (next : ℕ) (todo : List Doing) → IsServed now hold

@@ -7,6 +7,7 @@ use Rattle.base_values.specs.declared.span.Bound.TheVariants.{Open, Closed}
 use Rattle.base_values.specs.GhoSchema.Rows.{key_of, key_places}
 use Rattle.base_values.specs.declared.row_conversion.conversion_fault.UnfitAt.{UnfitAt}
 use Rattle.base_values.specs.RowConversion.ConvertedRows.{converted_row}
+use Rattle.base_values.specs.declared.mysql_errors.TheConstants.{ER_DUP_ENTRY}
 use Rattle.table_store.specs.Databases.{find_table}
 use Rattle.table_store.specs.RowLists.{is_at}
 use Rattle.server_model.specs.declared.answer.Answer.{Answer}
@@ -124,17 +125,17 @@ pub data ToolTurn (m : Migration) (at : Clustered m.schema) (rows : List Row) (p
       → ToolTurn m at rows place copier applier before after
   batch_is_passed : (told : EventsTold) → before.plan ≡ Resting → IsTold m.name before.stored.log before.position told → planned m (own_changes m.name told.events) ≡ [] → after.stored ≡ before.stored → after.hold ≡ before.hold → CopierStays before after → after.plan ≡ Resting → after.position ≡ told.next
       → ToolTurn m at rows place copier applier before after
-  -- REPLACE; DELETE; UPDATE, not refused; UPDATE of no row with values that don't store; UPDATE refused with 1062, the DELETE
-  -- after it, and the REPLACE after that
+  -- REPLACE; DELETE; UPDATE, not refused; UPDATE of no row with values that don't store; UPDATE refused with ER_DUP_ENTRY, the
+  -- DELETE behind it, and the REPLACE behind that
   row_is_put : (own : SessionHold) (job : Job) (next : ℕ) (row made : Row) (rest : List Doing) → before.plan ≡ Planned next (Putting row ∷ rest) → converted_row m.columns row ≡ Ok made → DoesWork m job (works.Replace made) → DoesJob m applier job own before after → CopierStays before after → after.plan ≡ Planned next rest
       → after.position ≡ before.position → ToolTurn m at rows place copier applier before after
   row_is_removed : (own : SessionHold) (job : Job) (next : ℕ) (row : Row) (rest : List Doing) → before.plan ≡ Planned next (Removing row ∷ rest) → DoesWork m job (delete_at place (key_of (key_places m.schema) row)) → DoesJob m applier job own before after → CopierStays before after → after.plan ≡ Planned next rest
       → after.position ≡ before.position → ToolTurn m at rows place copier applier before after
   row_is_changed : (own : SessionHold) (job : Job) (next : ℕ) (old row made : Row) (rest : List Doing) → before.plan ≡ Planned next (Changing old row ∷ rest) → converted_row m.columns row ≡ Ok made → DoesWork m job (update_at place (key_of (key_places m.schema) old) made)
-      → (answer_of before applier job ≡ refuses 1062 → ⊥) → DoesJob m applier job own before after → CopierStays before after → after.plan ≡ Planned next rest → after.position ≡ before.position → ToolTurn m at rows place copier applier before after
+      → (answer_of before applier job ≡ refuses ER_DUP_ENTRY → ⊥) → DoesJob m applier job own before after → CopierStays before after → after.plan ≡ Planned next rest → after.position ≡ before.position → ToolTurn m at rows place copier applier before after
   unfit_row_is_missed : (own : SessionHold) (job : Job) (next : ℕ) (old row : Row) (fault : UnfitAt) (rest : List Doing) → before.plan ≡ Planned next (Changing old row ∷ rest) → DoesWork m job (unfit_at place (key_of (key_places m.schema) old) fault) → NoRowSeen m before applier (key_of (key_places m.schema) old)
       → DoesJob m applier job own before after → CopierStays before after → after.plan ≡ Planned next rest → after.position ≡ before.position → ToolTurn m at rows place copier applier before after
-  change_is_refused : (own : SessionHold) (job : Job) (next : ℕ) (old row made : Row) (rest : List Doing) → before.plan ≡ Planned next (Changing old row ∷ rest) → DoesWork m job (update_at place (key_of (key_places m.schema) old) made) → answer_of before applier job ≡ refuses 1062 → DoesJob m applier job own before after
+  change_is_refused : (own : SessionHold) (job : Job) (next : ℕ) (old row made : Row) (rest : List Doing) → before.plan ≡ Planned next (Changing old row ∷ rest) → DoesWork m job (update_at place (key_of (key_places m.schema) old) made) → answer_of before applier job ≡ refuses ER_DUP_ENTRY → DoesJob m applier job own before after
       → CopierStays before after → ApplierStays before after → ToolTurn m at rows place copier applier before after
   refused_row_is_removed : (own : SessionHold) (job : Job) (next : ℕ) (old row : Row) (rest : List Doing) → before.plan ≡ Planned next (Changing old row ∷ rest) → DoesWork m job (delete_at place (key_of (key_places m.schema) old)) → DoesJob m applier job own before after → CopierStays before after
       → after.plan ≡ Returning next old row rest → after.position ≡ before.position → ToolTurn m at rows place copier applier before after

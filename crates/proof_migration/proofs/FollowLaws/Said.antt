@@ -2,6 +2,7 @@
 use Rattle.std.proofs.Common.{◌≡◌, ℕ, Bool, true, false, List, [], ◌∷◌, ◌++◌, length, Option, Some, None, refl, sym, ap, ◌∙◌, subst}
 use Rattle.base_values.specs.declared.gho_schema.schema.Schema.{Schema}
 use Rattle.base_values.specs.GhoSchema.Rows.{key_places}
+use Rattle.base_values.specs.declared.mysql_errors.TheConstants.{ER_TABLE_NOT_LOCKED, ER_TABLE_EXISTS_ERROR}
 use Rattle.table_store.specs.Databases.{Database, find_table, has_table}
 use Rattle.server_model.specs.declared.answer.Answer.TheVariants as answers
 use Rattle.server_model.specs.declared.answer.KeyRange.{KeyRange}
@@ -66,7 +67,7 @@ module _ (limits : Limits) (scene : Scene) (journal : List Entry) (entry : Entry
 
     by : Deeded before entry.session (requests.Ends table) (effect_now (requests.Ends table)) → EndsSaid table
     by (outside_so out) = absurd (no (sym is ∙ says (requests.Ends table) asked done ∙ ap effect_answer out)) where
-      no : answers.Ends range ≡ refuses 1100 → ⊥
+      no : answers.Ends range ≡ refuses ER_TABLE_NOT_LOCKED → ⊥
       no same = cc
     by (within_so there same log within) =
         let all = subst (λ (d : Effect). EffectLeaves d (is_lost entry.side) entry.session (stored before) (stored after) (holds_of before) (holds_of after)) within (left (requests.Ends table) asked done) in
@@ -83,7 +84,7 @@ module _ (limits : Limits) (scene : Scene) (journal : List Entry) (entry : Entry
 
     by : Deeded before entry.session requests.LogEnd (effect_now requests.LogEnd) → position ≡ length before.log
     by (outside_so out) = absurd (no (sym is ∙ says requests.LogEnd asked done ∙ ap effect_answer out)) where
-      no : answers.At position ≡ refuses 1100 → ⊥
+      no : answers.At position ≡ refuses ER_TABLE_NOT_LOCKED → ⊥
       no same = cc
     by (within_so there same log within) = let both : answers.At position ≡ answers.At (length there.log) = sym is ∙ says requests.LogEnd asked done ∙ ap effect_answer within in let one : position ≡ length there.log = cc in one ∙ ap length log
 
@@ -97,10 +98,10 @@ module _ (limits : Limits) (scene : Scene) (journal : List Entry) (entry : Entry
     refused number same = cc
 
     by : Deeded before entry.session (requests.Create schema) (effect_now (requests.Create schema)) → find_table schema.name after.tables ≡ Some (record { schema = schema; rows = [] })
-    by (outside_so out) = absurd (refused 1100 (sym is ∙ says (requests.Create schema) asked done ∙ ap effect_answer out))
+    by (outside_so out) = absurd (refused ER_TABLE_NOT_LOCKED (sym is ∙ says (requests.Create schema) asked done ∙ ap effect_answer out))
     by (within_so there same log within) = stands (has_table schema.name there.tables) refl within where
       stands : (b : Bool) → has_table schema.name there.tables ≡ b → effect_now (requests.Create schema) ≡ defined (created b schema there.tables) → find_table schema.name after.tables ≡ Some (record { schema = schema; rows = [] })
-      stands true has so = absurd (refused 1050 (sym is ∙ says (requests.Create schema) asked done ∙ ap effect_answer so))
+      stands true has so = absurd (refused ER_TABLE_EXISTS_ERROR (sym is ∙ says (requests.Create schema) asked done ∙ ap effect_answer so))
       stands false has so =
           let all = subst (λ (d : Effect). EffectLeaves d (is_lost entry.side) entry.session (stored before) (stored after) (holds_of before) (holds_of after)) so (left (requests.Create schema) asked done) in
           ap (find_table schema.name) all.0 ∙ new_found schema.name there.tables (record { schema = schema; rows = [] }) has (same_bytes schema.name)

@@ -5,6 +5,7 @@ use Rattle.std.specs.List.{list_any}
 use Rattle.std.specs.Str.{bytes_eq}
 use Rattle.std.proofs.lemmas.List.{append-nil}
 use Rattle.base_values.specs.declared.event.RowEvent.{RowEvent}
+use Rattle.base_values.specs.declared.mysql_errors.TheConstants.{ER_TABLE_NOT_LOCKED}
 use Rattle.server_locks.specs.declared.row_locks.lock.Lock.{Lock}
 use Rattle.table_store.specs.Databases.{Database, TableRows, find_table, has_table, rename_tables}
 use Rattle.base_script.specs.declared.actor.Side.{Side}
@@ -281,7 +282,7 @@ module _ (m : Migration) (limits : Limits) (scene : Scene) (journal : List Entry
         done_goal = by (deeded entry before request)
           where
             by : Deeded before number request effect_now → Goal
-            by (outside_so is) = by_rests (refuses 1100) is
+            by (outside_so is) = by_rests (refuses ER_TABLE_NOT_LOCKED) is
             by (within_so there same log is) = by_request request refl (writes_away request asked) (face_of before.sessions number).busy there same is
 
       told_goal : (given : Option Answer) → told_at entry.side entry.answer entry.missed ≡ given → (b : Bool) → told_done given ≡ b → Goal

@@ -2,6 +2,7 @@
 use Rattle.std.proofs.Common.{◌≡◌, ℕ, true, false, not, List, [], ◌∷◌, ◌++◌, drop, Option, Some, None, Result, Ok, Err, refl, sym, ap, ◌∙◌, subst, append-nil, append_assoc}
 use Rattle.std.specs.List.{list_any}
 use Rattle.std.proofs.lemmas.Bool.{true≢false}
+use Rattle.base_values.specs.declared.mysql_errors.TheConstants.{ER_TABLE_NOT_LOCKED}
 use Rattle.table_store.specs.Databases.{Database, rename_tables}
 use Rattle.table_store.specs.declared.renames.Pair.{Pair}
 use Rattle.base_script.specs.declared.actor.Actor.{Actor}
@@ -231,7 +232,7 @@ module _ (exclusive_is_alone : ExclusiveIsAlone) (definitions_are_done : Definit
     result (Err number) is = absurd (refused number (says ∙ ap effect_answer is))
 
     by : Deeded now entry.session (exchange plan.table) (effect (where_done entry.asked entry.session (opens entry now)) entry.session (exchange plan.table)) → answers.Ok renaming.count ≡ ok
-    by (outside_so out) = absurd (refused 1100 (says ∙ ap effect_answer out))
+    by (outside_so out) = absurd (refused ER_TABLE_NOT_LOCKED (says ∙ ap effect_answer out))
     by (within_so there same log within) = result (renamed_or (rename_tables (exchanged plan.table) there.tables)) within
 
   done : WasDone entry

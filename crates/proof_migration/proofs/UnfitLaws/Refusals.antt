@@ -12,6 +12,7 @@ use Rattle.base_values.specs.declared.row_conversion.map.MapColumn.{MapColumn}
 use Rattle.base_values.specs.RowConversion.ConvertedRows.{converted_row}
 use Rattle.base_values.specs.declared.event.Change.{Change}
 use Rattle.base_values.specs.declared.event.Change.TheVariants as changes
+use Rattle.base_values.specs.declared.mysql_errors.TheConstants.{ER_DUP_ENTRY, ER_NOT_SUPPORTED_YET}
 use Rattle.table_store.specs.Databases.{TableRows, Database, find_table}
 use Rattle.base_script.specs.declared.statement.Statement.{Statement}
 use Rattle.server_model.specs.declared.answer.Answer.{Answer}
@@ -72,7 +73,7 @@ updates_fit columns row schema sets (old ∷ met) rows =
     (change_first (changes.Update old (with_sets sets old)) (updates schema sets met (change_rows (key_places schema) (changes.Update old (with_sets sets old)) rows)))
     (updates_fit columns row schema sets met rows)
     (first_fits columns row (changes.Update old (with_sets sets old)) (updates schema sets met (change_rows (key_places schema) (changes.Update old (with_sets sets old)) rows)) (updates_fit columns row schema sets met (change_rows (key_places schema) (changes.Update old (with_sets sets old)) rows))) where
-      by : (same clashes : Bool) (r s : Result (List Change) Answer) → ErrFits columns row r → ErrFits columns row s → ErrFits columns row (cond same r (cond clashes (Err (refuses 1062)) s))
+      by : (same clashes : Bool) (r s : Result (List Change) Answer) → ErrFits columns row r → ErrFits columns row s → ErrFits columns row (cond same r (cond clashes (Err (refuses ER_DUP_ENTRY)) s))
       by true clashes r s one two = one
       by false true r s one two = tt
       by false false r s one two = two
@@ -111,7 +112,7 @@ module _ (m : Migration) (rows : List Row) (plan : IsPlanned m rows) (finds : Fi
   remove_told row view fits = by (are_distinct (key_places m.new)) refl where
     by : (once : Bool) → are_distinct (key_places m.new) ≡ once → Told (Removing row) view
     by true once = by_work (Removing row) view (delete_at (new_at m rows plan finds).place (key_of (key_places m.schema) row)) (remove_work m rows plan finds row fits once) tt
-    by false twice = by_work (Removing row) view (works.Refuse (refuses 1235)) (remove_unsaid m rows plan finds row twice) tt
+    by false twice = by_work (Removing row) view (works.Refuse (refuses ER_NOT_SUPPORTED_YET)) (remove_unsaid m rows plan finds row twice) tt
 
   change_told : (old new : Row) (view : List Row) → IsRow m.schema.columns old → Told (Changing old new) view
   unfolding tells
@@ -126,7 +127,7 @@ module _ (m : Migration) (rows : List Row) (plan : IsPlanned m rows) (finds : Fi
     met = rows_met m.new (by_key place key) view
 
     by : (once : Bool) → are_distinct (key_places m.new) ≡ once → (made : Result Row UnfitAt) → converted_row m.columns new ≡ made → Told (Changing old new) view
-    by false twice made imaged = by_work (Changing old new) view (works.Refuse (refuses 1235)) (change_unsaid m rows plan finds old new twice) tt
+    by false twice made imaged = by_work (Changing old new) view (works.Refuse (refuses ER_NOT_SUPPORTED_YET)) (change_unsaid m rows plan finds old new twice) tt
     by true once (Ok made) imaged =
         by_work (Changing old new) view (update_at place key made) (change_work m rows plan finds old new made fits once imaged)
         (told_fits m.columns new (updates m.new (map Some made) met view) (updates_fit m.columns new m.new (map Some made) met view))

@@ -1,4 +1,4 @@
--- What is answered to a request that names one table alone, where that stands: never 1146.
+-- What is answered to a request that names one table alone, where that stands: never ER_NO_SUCH_TABLE.
 use Rattle.std.proofs.Common.{◌≡◌, ℕ, Bool, true, false, not, ◌&&◌, List, [], ◌∷◌, cond, Option, Some, None, Result, Ok, Err, refl, sym, ap, ◌∙◌, subst}
 use Rattle.std.specs.Prelude.{is_some}
 use Rattle.std.specs.List.{list_all, list_any}

@@ -1,4 +1,4 @@
--- Which numbers a statement's work is refused with, where its table stands: never 1146.
+-- Which numbers a statement's work is refused with, where its table stands: never ER_NO_SUCH_TABLE.
 use Rattle.std.proofs.Common.{◌≡◌, ℕ, ◌+◌, ◌==◌, Bool, true, false, cond, List, [], ◌∷◌, length, map, Option, Some, None, Result, Ok, Err, refl}
 use Rattle.std.specs.List.{list_any, position, slice_get}
 use Rattle.base_values.specs.Storing.{error_number, stores, seeks}
@@ -13,6 +13,7 @@ use Rattle.base_values.specs.declared.gho_schema.schema.Schema.{Schema}
 use Rattle.base_values.specs.declared.row_conversion.conversion_fault.UnfitAt.{UnfitAt}
 use Rattle.base_values.specs.declared.event.Change.{Change}
 use Rattle.base_values.specs.declared.event.Change.TheVariants as changes
+use Rattle.base_values.specs.declared.mysql_errors.TheConstants.{ER_NO_SUCH_TABLE, ER_FIELD_SPECIFIED_TWICE, ER_WRONG_VALUE_COUNT_ON_ROW, ER_DUP_ENTRY}
 use Rattle.base_script.specs.declared.statement.Comparison.{Comparison}
 use Rattle.base_script.specs.declared.statement.Condition.{Condition}
 use Rattle.base_script.specs.declared.statement.Condition.TheVariants as conditions
@@ -34,7 +35,7 @@ use Rattle.server_model.specs.Rows.{change_rows, rows_met, same_row}
 use Rattle.server_model.specs.Saying.{change_first, clashes_besides, only, result_or_refusal, selected, tells, updated, updates, with_sets}
 use Rattle.proof_plans.specs.Tables.{is_missing}
 
--- the answer isn't 1146
+-- the answer isn't ER_NO_SUCH_TABLE
 abbrev pub IsOther : Answer → Type 0
 IsOther answer = is_missing (Some answer) ≡ false
 
@@ -52,13 +53,13 @@ then_fine P Q (Err refusal) f one two = one
 
 -- COLUMNS AND VALUES
 
-unless_fine : (test : Bool) (number : ℕ) → (number == 1146) ≡ false → Fine Any (unless test number)
+unless_fine : (test : Bool) (number : ℕ) → (number == ER_NO_SUCH_TABLE) ≡ false → Fine Any (unless test number)
 unless_fine true number off = tt
 unless_fine false number off = off
 
 pub unfit_other : (at : UnfitAt) → IsOther (refuses_value at)
 unfit_other at = by at.unfit where
-  by : (fault : Unfit) → (error_number fault == 1146) ≡ false
+  by : (fault : Unfit) → (error_number fault == ER_NO_SUCH_TABLE) ≡ false
   by unfit.Null = refl
   by unfit.Range = refl
   by unfit.Length = refl
@@ -95,13 +96,13 @@ row_fine place (column ∷ columns) places values =
 
 listed_fine : (schema : Schema) (names : Option (List (List ℕ))) → Fine Any (places_listed schema names)
 listed_fine schema None = tt
-listed_fine schema (Some names) = then_fine Any Any (places_named schema names) _ (places_fine schema names) (λ places any. then_fine Any Any (unless (are_distinct places) 1110) _ (unless_fine (are_distinct places) 1110 refl) (λ test any. tt))
+listed_fine schema (Some names) = then_fine Any Any (places_named schema names) _ (places_fine schema names) (λ places any. then_fine Any Any (unless (are_distinct places) ER_FIELD_SPECIFIED_TWICE) _ (unless_fine (are_distinct places) ER_FIELD_SPECIFIED_TWICE refl) (λ test any. tt))
 
 new_fine : (schema : Schema) (names : Option (List (List ℕ))) (values : List Value) → Fine Any (new_row schema names values)
 unfolding new_row
 new_fine schema names values =
     then_fine Any Any (places_listed schema names) _ (listed_fine schema names)
-    (λ places any. then_fine Any Any (unless (length places == length values) 1136) _ (unless_fine (length places == length values) 1136 refl) (λ test any. row_fine 0 schema.columns places values))
+    (λ places any. then_fine Any Any (unless (length places == length values) ER_WRONG_VALUE_COUNT_ON_ROW) _ (unless_fine (length places == length values) ER_WRONG_VALUE_COUNT_ON_ROW refl) (λ test any. row_fine 0 schema.columns places values))
 
 -- CONDITIONS
 
@@ -154,7 +155,7 @@ or_fine P (Err refusal) f one two = one
 update_fine : (schema : Schema) (sets : List Set) (condition : Condition) → Fine IsFine (update_of schema sets condition)
 update_fine schema sets condition =
     then_fine Any IsFine (places_named schema (map (λ set. set.column) sets)) _ (places_fine schema (map (λ set. set.column) sets))
-    (λ places any. then_fine Any IsFine (unless (are_distinct places) 1110) _ (unless_fine (are_distinct places) 1110 refl)
+    (λ places any. then_fine Any IsFine (unless (are_distinct places) ER_FIELD_SPECIFIED_TWICE) _ (unless_fine (are_distinct places) ER_FIELD_SPECIFIED_TWICE refl)
     (λ test any. then_fine Any IsFine (reach_of schema condition) _ (reach_fine schema condition) (λ reach any. tt)))
 
 selection_fine : (schema : Schema) (what : Shown) → Fine Any (selection_of schema what)
@@ -191,7 +192,7 @@ updates_fine schema sets (old ∷ met) rows =
     by (same_row old (with_sets sets old)) (clashes_besides schema (with_sets sets old) old rows) (updates schema sets met rows)
     (change_first (changes.Update old (with_sets sets old)) (updates schema sets met (change_rows (key_places schema) (changes.Update old (with_sets sets old)) rows))) (updates_fine schema sets met rows)
     (first_fine (changes.Update old (with_sets sets old)) (updates schema sets met (change_rows (key_places schema) (changes.Update old (with_sets sets old)) rows)) (updates_fine schema sets met (change_rows (key_places schema) (changes.Update old (with_sets sets old)) rows))) where
-      by : (same clashes : Bool) (r s : Result (List Change) Answer) → Fine Any r → Fine Any s → Fine Any (cond same r (cond clashes (Err (refuses 1062)) s))
+      by : (same clashes : Bool) (r s : Result (List Change) Answer) → Fine Any r → Fine Any s → Fine Any (cond same r (cond clashes (Err (refuses ER_DUP_ENTRY)) s))
       by true clashes r s one two = one
       by false true r s one two = refl
       by false false r s one two = two
@@ -215,7 +216,7 @@ pub tells_other : (schema : Schema) (rows : List (List Value)) (work : Work) →
 unfolding tells
 tells_other schema rows (works.Refuse refusal) fine = fine
 tells_other schema rows (works.Insert row) fine = by (list_any (clash schema.uniques row) rows) where
-  by : (b : Bool) → IsOther (cond b (only (refuses 1062)) (record { answer = answers.Ok 1; changes = changes.Write row ∷ [] })).answer
+  by : (b : Bool) → IsOther (cond b (only (refuses ER_DUP_ENTRY)) (record { answer = answers.Ok 1; changes = changes.Write row ∷ [] })).answer
   by true = refl
   by false = refl
 tells_other schema rows (works.Copy row) fine = by (list_any (clash schema.uniques row) rows) where

@@ -8,6 +8,7 @@ ghost use Rattle.server_model.specs.Chunks.{keys_of, ends_of, chunk_end, span_ke
 ghost use Rattle.server_model.specs.Effects.{all_stand, of_table};
 
 use crate::paged_answers::chunk::{chunk_end, ends_of, span_keys};
+use base_values::mysql_errors::ER_NO_SUCH_TABLE;
 use base_values::{Bound, Key, Name, Span};
 use server_model::Answer;
 use std::alloc::{AllocError, Global};
@@ -29,7 +30,7 @@ pub fn ends(alloc: Global, tables: &Tables, table: &Name) -> Result<Answer, Allo
 {
     match tables.find(table) {
         Some(table) => ends_of(alloc, table),
-        None => Ok(refuses(1146)),
+        None => Ok(refuses(ER_NO_SUCH_TABLE)),
     }
 }
 
@@ -46,7 +47,7 @@ pub fn end_of_chunk(
 {
     match tables.find(table) {
         Some(table) => Ok(Answer::End(chunk_end(alloc, low, top, size, table)?)),
-        None => Ok(refuses(1146)),
+        None => Ok(refuses(ER_NO_SUCH_TABLE)),
     }
 }
 

@@ -13,6 +13,7 @@ use Rattle.base_values.specs.GhoSchema.Rows.{key_of, key_places, with_row}
 use Rattle.base_values.specs.GhoSchema.Tables.{clash, no_null}
 use Rattle.base_values.specs.declared.event.Change.{Change}
 use Rattle.base_values.specs.declared.event.Change.TheVariants as changes
+use Rattle.base_values.specs.declared.mysql_errors.TheConstants.{ER_DUP_ENTRY}
 use Rattle.server_model.specs.declared.answer.Answer.{Answer}
 use Rattle.server_model.specs.declared.answer.Answer.TheVariants as answers
 use Rattle.server_model.specs.Answers.{refuses}
@@ -48,7 +49,7 @@ one_more : (schema : Schema) (locks : List Lock) (change : Change) (result : Res
 one_more schema locks change (Ok all) now later = (now, later)
 one_more schema locks change (Err refusal) now later = tt
 
-updates_here : (schema : Schema) (locks : List Lock) (b c : Bool) (still later : Result (List Change) Answer) → ResultCovered schema locks still → ResultCovered schema locks later → ResultCovered schema locks (cond b still (cond c (Err (refuses 1062)) later))
+updates_here : (schema : Schema) (locks : List Lock) (b c : Bool) (still later : Result (List Change) Answer) → ResultCovered schema locks still → ResultCovered schema locks later → ResultCovered schema locks (cond b still (cond c (Err (refuses ER_DUP_ENTRY)) later))
 updates_here schema locks true c still later one two = one
 updates_here schema locks false true still later one two = tt
 updates_here schema locks false false still later one two = two
@@ -81,7 +82,7 @@ refused_covered schema locks at (row ∷ met) rows = tt
 pub tells_covered : (schema : Schema) (rows : List Row) (work : Work) → Covered schema (needs schema rows work) (tells schema rows work).changes
 unfolding tells needs
 tells_covered schema rows (Refuse refusal) = tt
-tells_covered schema rows (Insert row) = insert_covered schema (points schema row) row (refuses 1062) (list_any (clash schema.uniques row) rows) (within-itself (points schema row))
+tells_covered schema rows (Insert row) = insert_covered schema (points schema row) row (refuses ER_DUP_ENTRY) (list_any (clash schema.uniques row) rows) (within-itself (points schema row))
 tells_covered schema rows (Copy row) = insert_covered schema (points schema row) row (answers.Ok 0) (list_any (clash schema.uniques row) rows) (within-itself (points schema row))
 tells_covered schema rows (Replace row) =
     let gone = displaced schema row rows in

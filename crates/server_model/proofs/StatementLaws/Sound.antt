@@ -20,6 +20,7 @@ use Rattle.server_model.specs.declared.work.Work.{Work}
 use Rattle.server_model.specs.declared.work.Work.TheVariants.{Insert, Replace, Delete, Update}
 use Rattle.server_model.specs.Checking.{◌>>=◌, value_at, given_or, beside, row_from, new_row, places_listed, unless, places_named, are_distinct, reach_of, selection_of, set_first, stored_set, sets_from, or_refused, update_of, select_of, work_of}
 use Rattle.base_values.specs.SchemaRules.Valid.{StoresDefault}
+use Rattle.base_values.specs.declared.mysql_errors.TheConstants.{ER_WRONG_VALUE_COUNT_ON_ROW, ER_FIELD_SPECIFIED_TWICE}
 use Rattle.server_model.specs.StatementLaws.Covering.{SetsFit, IsSound}
 
 -- what is not refused passes
@@ -56,7 +57,7 @@ pub new_is : (schema : Schema) (names : Option (List (List ℕ))) (values : List
 unfolding new_row
 new_is schema names values fits =
     then_is (λ (places : List ℕ). Unit {0}) (IsRow schema.columns) (places_listed schema names) _ (any_is (places_listed schema names))
-    (λ places _. then_is (λ (u : Unit {0}). Unit {0}) (IsRow schema.columns) (unless _ 1136) _ (any_is (unless _ 1136)) (λ u _. row_is 0 schema.columns places values fits))
+    (λ places _. then_is (λ (u : Unit {0}). Unit {0}) (IsRow schema.columns) (unless _ ER_WRONG_VALUE_COUNT_ON_ROW) _ (any_is (unless _ ER_WRONG_VALUE_COUNT_ON_ROW)) (λ u _. row_is 0 schema.columns places values fits))
 
 abbrev pub SetsAre : List Column → Result (List (Option Value)) UnfitAt → Type 0
 SetsAre columns (Ok sets) = SetsFit columns sets
@@ -94,7 +95,7 @@ work_sound schema (statements.Delete table condition) fits = refused_or schema.c
 work_sound schema (statements.Update table sets condition) fits =
     refused_or schema.columns (IsSound schema.columns) (update_of schema sets condition) (λ work. work)
     (then_is (λ (places : List ℕ). Unit {0}) (IsSound schema.columns) (places_named schema (map (λ (set : Set). set.column) sets)) _ (any_is (places_named schema (map (λ (set : Set). set.column) sets)))
-    (λ places _. then_is (λ (u : Unit {0}). Unit {0}) (IsSound schema.columns) (unless (are_distinct places) 1110) _ (any_is (unless (are_distinct places) 1110))
+    (λ places _. then_is (λ (u : Unit {0}). Unit {0}) (IsSound schema.columns) (unless (are_distinct places) ER_FIELD_SPECIFIED_TWICE) _ (any_is (unless (are_distinct places) ER_FIELD_SPECIFIED_TWICE))
     (λ u _. then_is (λ (reach : Reach). Unit {0}) (IsSound schema.columns) (reach_of schema condition) _ (any_is (reach_of schema condition))
     (λ reach _. update_is schema.columns reach (sets_from 0 schema.columns places (map (λ (set : Set). set.value) sets)) (sets_are 0 schema.columns places (map (λ (set : Set). set.value) sets))))))
     (λ work is. is)

@@ -25,6 +25,7 @@ use Rattle.table_store.specs.Databases.{clashing}
 use Rattle.table_store.proofs.TableLaws.{put_keeps, some_rows}
 use Rattle.base_values.proofs.StoredValues.{keeps}
 use Rattle.base_values.specs.declared.value.Value.TheVariants.{Null}
+use Rattle.base_values.specs.declared.mysql_errors.TheConstants.{ER_DUP_ENTRY}
 use Rattle.server_model.proofs.StatementLaws.Standing.{one_row, same_itself, stands-filter, some_row, found_by}
 use Rattle.server_model.proofs.StatementLaws.Tests.{nor_left, nor_right}
 
@@ -99,7 +100,7 @@ unfolding change_all
 one_more schema change rows (Ok all) later = later
 one_more schema change rows (Err refusal) later = tt
 
-updates_here : (schema : Schema) (rows : List Row) (b c : Bool) (still later : Result (List Change) Answer) → ResultWellFormed schema rows still → (c ≡ false → ResultWellFormed schema rows later) → ResultWellFormed schema rows (cond b still (cond c (Err (refuses 1062)) later))
+updates_here : (schema : Schema) (rows : List Row) (b c : Bool) (still later : Result (List Change) Answer) → ResultWellFormed schema rows still → (c ≡ false → ResultWellFormed schema rows later) → ResultWellFormed schema rows (cond b still (cond c (Err (refuses ER_DUP_ENTRY)) later))
 updates_here schema rows true c still later one two = one
 updates_here schema rows false true still later one two = tt
 updates_here schema rows false false still later one two = two refl
@@ -152,7 +153,7 @@ replaced_well_formed schema key row rows full are =
 pub tells_well_formed : (schema : Schema) → HasClusteredKey schema → (rows : List Row) (work : Work) → IsSound schema.columns work → IsTable schema rows → IsTable schema (change_all (key_places schema) (tells schema rows work).changes rows)
 unfolding tells change_all
 tells_well_formed schema key rows (Refuse refusal) sound are = are
-tells_well_formed schema key rows (Insert row) sound are = inserted_well_formed schema key row rows (refuses 1062) (list_any (clash schema.uniques row) rows) refl sound are
+tells_well_formed schema key rows (Insert row) sound are = inserted_well_formed schema key row rows (refuses ER_DUP_ENTRY) (list_any (clash schema.uniques row) rows) refl sound are
 tells_well_formed schema key rows (Copy row) sound are = inserted_well_formed schema key row rows (answers.Ok 0) (list_any (clash schema.uniques row) rows) refl sound are
 tells_well_formed schema key rows (Replace row) sound are = replaced_well_formed schema key row rows sound are
 tells_well_formed schema key rows (Delete reach) sound are = removals_well_formed schema (rows_met schema reach rows) rows are

@@ -8,6 +8,7 @@ use Rattle.base_values.specs.declared.value.Value.{Value}
 use Rattle.base_values.specs.declared.gho_schema.schema.Schema.{Schema}
 use Rattle.base_values.specs.GhoSchema.Rows.{key_places}
 use Rattle.base_values.specs.GhoSchema.Tables.{Ascends}
+use Rattle.base_values.specs.declared.mysql_errors.TheConstants.{ER_NO_SUCH_TABLE}
 use Rattle.table_store.specs.Databases.{TableRows, Database, find_table}
 use Rattle.server_model.specs.declared.work.StatementResult.{StatementResult}
 use Rattle.server_model.specs.declared.work.Work.{Work}
@@ -62,7 +63,7 @@ sees_missing tables events name none = found_changed name events tables ∙ ap (
 
 -- WHAT THE COPY COMES TO
 
-pub missing_work : (tables : Database) (events : List RowEvent) (from : List ℕ) (map : List MapColumn) (key : List Value) (into : Schema) → None ≡ find_table from tables → works.Refuse (refuses 1146) ≡ copy_from (find_table from (after_events tables events)) map key into
+pub missing_work : (tables : Database) (events : List RowEvent) (from : List ℕ) (map : List MapColumn) (key : List Value) (into : Schema) → None ≡ find_table from tables → works.Refuse (refuses ER_NO_SUCH_TABLE) ≡ copy_from (find_table from (after_events tables events)) map key into
 missing_work tables events from map key into none = ap (λ (found : Option TableRows). copy_from found map key into) (sym (sees_missing tables events from none))
 
 pub seen_work : (tables : Database) (events : List RowEvent) (from : List ℕ) (map : List MapColumn) (key : List Value) (into : Schema) (table : TableRows) (written : Written) → IsSeen tables events from written table
@@ -72,7 +73,7 @@ seen_work tables events from map key into table written seen = ap (λ (found : O
 -- WHAT IS SAID AND NEEDED
 
 pub missing_copy : (tables : Database) (events : List RowEvent) (from into : List ℕ) (map : List MapColumn) (key : List Value) → None ≡ find_table into tables
-    → let result : StatementResult = record { answer = refuses 1146; events = [] } in result ≡ job_says (after_events tables events) (copy_job (after_events tables events) from into map key)
+    → let result : StatementResult = record { answer = refuses ER_NO_SUCH_TABLE; events = [] } in result ≡ job_says (after_events tables events) (copy_job (after_events tables events) from into map key)
 unfolding job_says
 missing_copy tables events from into map key none = sym (ap (result_in (copy_job (after_events tables events) from into map key)) (sees_missing tables events into none))
 

@@ -17,6 +17,7 @@ ghost use Rattle.server_seen.specs.Written.{nothing, seen};
 
 use crate::Txn;
 use base_values::gho_schema::{Schema, clustered_place};
+use base_values::mysql_errors::ER_NO_SUCH_TABLE;
 use base_values::row_conversion::{ColumnMap, ConversionFault, converted_row};
 use base_values::{Duplicate, Key, Name, Row, Rows, Span};
 use server_model::{Answer, Reach, Work};
@@ -129,7 +130,7 @@ pub fn work_of_copy(
     ensures { IfOk result (λ work. work ≡ copy_from (find_table from.now (after_events (database tables.now) txn.now.events)) map.now key.now into.now) }
 {
     let Some(table) = tables.find(from) else {
-        return Ok(Work::Refuse(refuses(1146)));
+        return Ok(Work::Refuse(refuses(ER_NO_SUCH_TABLE)));
     };
     // For the prover: `schema` says that the rows are in order of the clustered key.
     let _schema = table.schema();

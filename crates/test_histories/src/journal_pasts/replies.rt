@@ -4,13 +4,11 @@ ghost use Rattle.std.specs.Prelude.{◌≡◌, option_and_then, IfOk};
 ghost use Rattle.server_model.specs.Alone.{reply_of};
 
 use base_values::Duplicate;
+use base_values::mysql_errors::ER_LOCK_WAIT_TIMEOUT;
 use server_model::{Answer, Reply};
 use std::alloc::AllocError;
 
-/// The number of the error that a time-out is (MySQL's manual, "Server Error Message Reference").
-const TIMED_OUT: u16 = 1205;
-
-/// What a client sees of an answer.
+/// What a client is told of an answer.
 fn reply_of(answer: &Answer) -> Result<Option<Reply>, AllocError>
     ensures { IfOk result (λ reply. reply ≡ reply_of answer.now) }
 {
@@ -18,7 +16,7 @@ fn reply_of(answer: &Answer) -> Result<Option<Reply>, AllocError>
         Answer::Ok(count) => Some(Reply::Ok(*count)),
         Answer::Rows(rows) => Some(Reply::Rows(rows.copy()?)),
         Answer::Refused { number, .. } => Some(Reply::Error(*number)),
-        Answer::TimedOut { .. } => Some(Reply::Error(TIMED_OUT)),
+        Answer::TimedOut { .. } => Some(Reply::Error(ER_LOCK_WAIT_TIMEOUT)),
         _ => None,
     })
 }

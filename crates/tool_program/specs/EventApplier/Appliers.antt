@@ -37,6 +37,7 @@ use Rattle.tool_program.specs.declared.event_applier.applier.Applier.{Applier}
 use Rattle.server_model.specs.declared.outcome.Progress.{Progress}
 use Rattle.server_model.specs.declared.outcome.Progress.TheVariants.{Going, TaskDone, TaskFailed, Unfit}
 use Rattle.base_values.specs.ToolNames.{log_name}
+use Rattle.base_values.specs.declared.mysql_errors.TheConstants.{ER_DUP_ENTRY}
 use Rattle.tool_changelog.specs.Hints.{last_hint}
 use Rattle.server_model.specs.Reading.{events_in}
 
@@ -163,9 +164,9 @@ abbrev pub after_part : Batch → ℕ → Part → ApplyStep
 after_part batch done Removal = Applying batch done Return
 after_part batch done part = after_statements batch (done + 1)
 
--- after a statement that was refused: 1062 refuses an UPDATE alone, which goes on as DELETE and REPLACE
+-- behind a statement that was refused: ER_DUP_ENTRY refuses an UPDATE alone, which goes on as DELETE and REPLACE
 abbrev pub after_refusal : Batch → ℕ → Part → ℕ → ApplyStep
-after_refusal batch done part number = if number == 1062 then Applying batch done Removal else Applying batch done part
+after_refusal batch done part number = if number == ER_DUP_ENTRY then Applying batch done Removal else Applying batch done part
 
 -- after an answer other than a loss and a time-out
 abbrev pub after_answer : ℕ → Applier → ApplyStep → Answer → Applier

@@ -6,6 +6,7 @@ ghost use Rattle.tool_program.specs.EventApplier.Planning.{StepFits};
 
 use crate::event_applier::applier::{Applier, ApplyStep, Batch, Part};
 use base_values::gho_schema::Schema;
+use base_values::mysql_errors::ER_DUP_ENTRY;
 use base_values::row_conversion::ColumnMap;
 use base_values::{Name, RowEvent};
 use server_model::{Answer, Progress};
@@ -45,7 +46,11 @@ fn after_part(batch: Batch, done: usize, part: Part) -> ApplyStep
 fn after_refusal(batch: Batch, done: usize, part: Part, number: u16) -> ApplyStep
     ensures { result ≡ after_refusal batch done part number }
 {
-    let part = if number == 1062 { Part::Removal } else { part };
+    let part = if number == ER_DUP_ENTRY {
+        Part::Removal
+    } else {
+        part
+    };
     ApplyStep::Applying { batch, done, part }
 }
 

@@ -9,7 +9,7 @@ use base_values::row_conversion::ColumnMap;
 pub enum Part {
     /// As it is planned.
     Whole,
-    /// The UPDATE was refused with 1062: now the DELETE.
+    /// The UPDATE was refused with `ER_DUP_ENTRY`: now the DELETE.
     Removal,
     /// The DELETE is done: now the REPLACE.
     Return,

@@ -13,14 +13,12 @@ use crate::client_lines::became::{Became, is_of};
 use crate::client_lines::numbers::{push_count, push_number_line};
 use crate::client_lines::walk::Walk;
 use base_script::ScriptLine;
+use base_values::mysql_errors::ER_LOCK_WAIT_TIMEOUT;
 use base_values::{Row, Text};
 use plan_data::Plan;
 use server_model::{Answer, Entry};
 use std::alloc::AllocError;
 use table_print::push_row_lines;
-
-/// The number of the error that a time-out is (MySQL's manual, "Server Error Message Reference").
-const TIMED_OUT: u64 = 1205;
 
 #[tactic(auto, unfolding(crate::specs::ClientLines::Replies::reply_text))]
 fn push_rows(into: &mut Text, rows: &[Row]) -> Result<(), AllocError>
@@ -41,7 +39,11 @@ fn push_reply(into: &mut Text, heard: Option<&Answer>) -> Result<(), AllocError>
         Some(Answer::Refused { number, .. }) => {
             push_number_line(into, "error ", u64::from(*number))
         }
-        Some(Answer::TimedOut { .. }) => push_number_line(into, "error ", TIMED_OUT),
+        Some(Answer::TimedOut { .. }) => push_number_line(
+            into,
+            "error ",
+            u64::from(ER_LOCK_WAIT_TIMEOUT),
+        ),
         _ => into.push_str("lost\n"),
     }
 }

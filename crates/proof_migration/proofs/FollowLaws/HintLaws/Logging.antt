@@ -21,6 +21,7 @@ use Rattle.server_model.specs.Jobs.{job_of, job_says}
 use Rattle.server_model.specs.Locking.{need_within}
 use Rattle.server_model.specs.States.{State}
 use Rattle.base_values.specs.ToolNames.{log_name}
+use Rattle.base_values.specs.declared.mysql_errors.TheConstants.{ER_TABLE_NOT_LOCKED}
 use Rattle.tool_program.specs.JournalWords.Journals.{may_lose, opens}
 use Rattle.proof_journals.specs.Scenes.{Besides, Scene, SessionHold, Stored, no_hold}
 use Rattle.proof_journals.specs.Holdings.{face_of, stored}
@@ -192,7 +193,7 @@ module _ (t : List ℕ) (limits : Limits) (scene : Scene) (journal : List Entry)
         done_goal : Goal
         done_goal = by (deeded entry before request) where
           by : Deeded before entry.session request effect_now → Goal
-          by (outside_so is) = refused (refuses 1100) is
+          by (outside_so is) = refused (refuses ER_TABLE_NOT_LOCKED) is
           by (within_so there same log is) = committed (is ∙ ap (λ (b : Bool). result_effect b (need_within seen request) result) idle)
 
       told_goal : (given : Option Answer) → told_at entry.side entry.answer entry.missed ≡ given → (b : Bool) → told_done given ≡ b → Goal

@@ -16,6 +16,7 @@ use Rattle.server_model.specs.Effects.{Effect, effect}
 use Rattle.server_model.specs.Showing.{ReadEvent, after_last, events_given, events_read, read_from}
 use Rattle.server_model.specs.States.{State, is_of}
 use Rattle.base_values.specs.ToolNames.{log_name}
+use Rattle.base_values.specs.declared.mysql_errors.TheConstants.{ER_TABLE_NOT_LOCKED}
 use Rattle.tool_program.specs.JournalWords.Journals.{opens}
 use Rattle.proof_journals.specs.Scenes.{Scene}
 use Rattle.proof_journals.specs.Turns.{IsSceneRun, IsTold, about, scene_state}
@@ -154,6 +155,6 @@ reading_said t limits scene journal entry limit position events next run told he
 
   by : Deeded before entry.session request effect_now → IsRead t before.log position events next
   by (outside_so out) = absurd (no (sym is ∙ says ∙ ap effect_answer out)) where
-    no : answers.Events events next ≡ refuses 1100 → ⊥
+    no : answers.Events events next ≡ refuses ER_TABLE_NOT_LOCKED → ⊥
     no same = cc
   by (within_so there same log within_it) = told_reads t before.log limit position events next some within (sym is ∙ says ∙ ap effect_answer within_it ∙ ap (events_read position limit (both_tables t)) log)

@@ -30,6 +30,7 @@ use Rattle.server_model.specs.Jobs.{events_of, job_of, job_says, result_in}
 use Rattle.server_model.specs.Saying.{only, tells}
 use Rattle.tool_changelog.specs.Hints.{hint_if, hint_in, hint_of, hint_row, last_hint, or_last}
 use Rattle.base_values.specs.ToolNames.{log_name}
+use Rattle.base_values.specs.declared.mysql_errors.TheConstants.{ER_WRONG_VALUE_COUNT_ON_ROW, ER_DUP_ENTRY}
 use Rattle.proof_journals.proofs.SentryLaws.Hinting.{HintsBelow}
 
 -- THE FIRST VALUE
@@ -70,7 +71,7 @@ row_begins n values (column ∷ columns) row is first rest same = from_first n c
 new_begins : (n : ℕ) (values : List Value) (schema : Schema) (row : List Value) → new_row schema None (Num (pos n) ∷ values) ≡ Ok row → Begins n row
 unfolding new_row
 new_begins n values schema row is = by (length (places_from 0 schema.columns) == length (Num (pos n) ∷ values)) is where
-  by : (b : Bool) → (unless b 1136 >>= (λ done. row_from 0 schema.columns (places_from 0 schema.columns) (Num (pos n) ∷ values))) ≡ Ok row → Begins n row
+  by : (b : Bool) → (unless b ER_WRONG_VALUE_COUNT_ON_ROW >>= (λ done. row_from 0 schema.columns (places_from 0 schema.columns) (Num (pos n) ∷ values))) ≡ Ok row → Begins n row
   by true is = row_begins n values schema.columns row is
   by false is = absurd cc
 
@@ -151,7 +152,7 @@ row_inserts : (t name : List ℕ) (n most : ℕ) (schema : Schema) (rows : List 
 unfolding tells
 row_inserts t name n most schema rows row begins small = by (list_any (clash schema.uniques row) rows) where
   told : Bool → Rattle.server_model.specs.Saying.TableResult
-  told b = cond b (only (Rattle.server_model.specs.Answers.refuses 1062)) (record { answer = answers.Ok 1; changes = Write row ∷ [] })
+  told b = cond b (only (Rattle.server_model.specs.Answers.refuses ER_DUP_ENTRY)) (record { answer = answers.Ok 1; changes = Write row ∷ [] })
 
   by : (b : Bool) → Inserts t n most (record { answer = (told b).answer; events = events_of name (told b).changes })
   by true = none_so refl

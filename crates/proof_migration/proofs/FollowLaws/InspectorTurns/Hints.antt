@@ -37,6 +37,7 @@ use Rattle.server_model.specs.declared.work.StatementResult.{StatementResult}
 use Rattle.server_model.specs.declared.work.Work.TheVariants as works
 use Rattle.tool_changelog.specs.Hints.{hint_row}
 use Rattle.base_values.specs.ToolNames.{log_name}
+use Rattle.base_values.specs.declared.mysql_errors.TheConstants.{ER_DUP_ENTRY}
 use Rattle.tool_changelog.specs.ToolTables.{log_schema}
 use Rattle.tool_program.specs.CutoverCore.Attempts.{writes_hint}
 use Rattle.proof_journals.specs.Turns.{about, request_of}
@@ -133,7 +134,7 @@ told_hints t n rows (Err refusal) is count ok = absurd (never refusal (row_refus
   never (answers.Refused number column) refused same = cc
   never answer refused same = refused
 told_hints t n rows (Ok row) is count ok = by (list_any (clash (log_schema t).uniques row) rows) ok where
-  by : (b : Bool) → (cond b (only (refuses 1062)) (record { answer = answers.Ok 1; changes = Write row ∷ [] })).answer ≡ answers.Ok count → events_of (log_name t) (cond b (only (refuses 1062)) (record { answer = answers.Ok 1; changes = Write row ∷ [] })).changes ≡ hint_event t n ∷ []
+  by : (b : Bool) → (cond b (only (refuses ER_DUP_ENTRY)) (record { answer = answers.Ok 1; changes = Write row ∷ [] })).answer ≡ answers.Ok count → events_of (log_name t) (cond b (only (refuses ER_DUP_ENTRY)) (record { answer = answers.Ok 1; changes = Write row ∷ [] })).changes ≡ hint_event t n ∷ []
   by true ok = absurd cc
   by false ok = ap (λ (r : List Value). let one : RowEvent = record { table = log_name t; change = Write r } in one ∷ []) (row_is t n row is)
 

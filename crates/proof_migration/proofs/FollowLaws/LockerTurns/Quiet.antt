@@ -3,6 +3,7 @@
 use Rattle.std.proofs.Common.{◌≡◌, ℕ, Bool, true, false, List, [], ◌∷◌, ◌++◌, cond, Option, Some, None, Result, Ok, Err, refl, sym, ap, ◌∙◌, subst}
 use Rattle.std.specs.Prelude.{◌==◌}
 use Rattle.std.proofs.lemmas.Bool.{true≢false, false≢true}
+use Rattle.base_values.specs.declared.mysql_errors.TheConstants.{ER_NO_SUCH_TABLE, ER_TABLE_NOT_LOCKED}
 use Rattle.server_locks.specs.MetadataLocks.Granting as grants
 use Rattle.server_locks.specs.MetadataLocks.Granting.{blocker_of_names}
 use Rattle.server_locks.specs.RowLocks.Granting.{blocker_of_set}
@@ -93,7 +94,7 @@ module _ (state : State) (number : ℕ) (w : List Waiting) where
   within busy seen (requests.LockTables names) is = by (all_stand names state.tables) where
     by : (b : Bool) → Quiet (requests.LockTables names) state number (does (locks_if b names) there number)
     by true = record { log = refl; tables = λ off. refl; undone = λ off. refl; counts = refl; fewer = λ no. absurd (false≢true no); names = λ no. absurd (false≢true no) }
-    by false = refused (requests.LockTables names) 1146
+    by false = refused (requests.LockTables names) ER_NO_SUCH_TABLE
   within busy seen requests.Unlock is = record { log = refl; tables = λ off. refl; undone = λ off. refl; counts = refl; fewer = λ no. absurd (false≢true no); names = λ no. absurd (false≢true no) }
   within busy seen (requests.Create schema) is = moved (requests.Create schema) refl (created (has_table schema.name state.tables) schema state.tables)
   within busy seen (requests.Drop name) is = moved (requests.Drop name) refl (dropped (has_table name state.tables) name state.tables)
@@ -104,7 +105,7 @@ module _ (state : State) (number : ℕ) (w : List Waiting) where
   unfolding done
   done_quiet request is = by (is_outside (session_of number state.sessions) request) where
     by : (outside : Bool) → Quiet request state number (does (effect_unless outside (is_in_transaction (session_of number state.sessions)) (view number there) there request) there number)
-    by true = refused request 1100
+    by true = refused request ER_TABLE_NOT_LOCKED
     by false = within (is_in_transaction (session_of number state.sessions)) (view number there) request is
 
 -- CALLS AND POLLS

@@ -5,6 +5,7 @@ use Rattle.base_values.specs.declared.gho_schema.schema.Schema.{Schema}
 use Rattle.base_values.specs.GhoSchema.Rows.{key_places}
 use Rattle.base_values.specs.GhoSchema.Tables.{IsRow, IsTable, no_null}
 use Rattle.base_values.specs.declared.row_conversion.conversion_fault.UnfitAt.{UnfitAt}
+use Rattle.base_values.specs.declared.mysql_errors.TheConstants.{ER_DUP_ENTRY}
 use Rattle.table_store.specs.Databases.{Database, find_table}
 use Rattle.table_store.specs.RowLists.{is_at}
 use Rattle.server_model.specs.declared.answer.Answer.{Answer}
@@ -34,10 +35,10 @@ pub record TableSeen (m : Migration) (seen : Database) : Type 0 where
 pub table_seen : (m : Migration) (seen : Database) (rows : List Row) → IsWellFormedDatabase seen → find_table m.new.name seen ≡ Some (record { schema = m.new; rows = rows }) → TableSeen m seen
 table_seen m seen rows well_formed is = record { rows = rows; is = is; fits = (subst (WhereFound IsWellFormedTable) is (well_formed.each m.new.name)).is_table }
 
--- an UPDATE whose values store is done, or refused with 1062
+-- an UPDATE whose values store is done, or refused with ER_DUP_ENTRY
 pub data ChangeAnswer (seen : Database) (job : Job) : Type 0 where
   counts : Counted seen job → ChangeAnswer seen job
-  clashes : (job_says seen job).answer ≡ refuses 1062 → ChangeAnswer seen job
+  clashes : (job_says seen job).answer ≡ refuses ER_DUP_ENTRY → ChangeAnswer seen job
 
 -- an UPDATE whose values don't store meets no row, or is refused
 pub data UnfitAnswer (m : Migration) (seen : Database) (rows : List Row) (job : Job) (key : Row) (fault : UnfitAt) : Type 0 where

@@ -37,6 +37,7 @@ use Rattle.server_model.specs.Saying.{tells}
 use Rattle.server_model.specs.Showing.{ReadEvent, after_last, events_read, read_from}
 use Rattle.server_model.specs.States.{State}
 use Rattle.base_values.specs.ToolNames.{log_name}
+use Rattle.base_values.specs.declared.mysql_errors.TheConstants.{ER_TABLE_NOT_LOCKED, ER_NOT_SUPPORTED_YET, ER_DUP_ENTRY}
 use Rattle.tool_program.specs.JournalWords.Journals.{opens}
 use Rattle.tool_program.proofs.JournalWords.Answers.{answer_here}
 use Rattle.tool_program.specs.declared.event_applier.applier.Applier.{Applier}
@@ -247,14 +248,14 @@ module _ (m : Migration) (at : Clustered m.schema) (rows : List Row) (place : �
     answered one is same = sym same ∙ says_so ∙ ap effect_answer is
 
     -- outside the locked tables
-    outside_goal : effect_now ≡ Rests (refuses 1100) → Goal behind
+    outside_goal : effect_now ≡ Rests (refuses ER_TABLE_NOT_LOCKED) → Goal behind
     outside_goal is = by heard
       where
         by : Heard entry.side entry.answer given → Goal behind
         by (heard_so side unlost same) =
-            stays own (rests_left (refuses 1100) is).0 (kept_own own unlost (rests_left (refuses 1100) is).1) refl (busy_now (Rests (refuses 1100)) is side same)
-            (ap (λ (a : Answer). took (length journal + 1) applier a) (answered (Rests (refuses 1100)) is same) ∙ outside_took (length journal + 1) applier)
-        by (lost_so is_so answer) = lost_goal own is_so answer (rests_left (refuses 1100) is).0 (rests_left (refuses 1100) is).1
+            stays own (rests_left (refuses ER_TABLE_NOT_LOCKED) is).0 (kept_own own unlost (rests_left (refuses ER_TABLE_NOT_LOCKED) is).1) refl (busy_now (Rests (refuses ER_TABLE_NOT_LOCKED)) is side same)
+            (ap (λ (a : Answer). took (length journal + 1) applier a) (answered (Rests (refuses ER_TABLE_NOT_LOCKED)) is same) ∙ outside_took (length journal + 1) applier)
+        by (lost_so is_so answer) = lost_goal own is_so answer (rests_left (refuses ER_TABLE_NOT_LOCKED) is).0 (rests_left (refuses ER_TABLE_NOT_LOCKED) is).1
 
     -- ReadLog
     module _ (here : applier.step ≡ Reading) where
@@ -532,10 +533,10 @@ module _ (m : Migration) (at : Clustered m.schema) (rows : List Row) (place : �
         unfit : (fault : UnfitAt) → (job_says seen job).answer ≡ refuses_value fault → entry.answer ≡ (job_says seen job).answer → Goal behind
         unfit fault says answer = absurd (turn.fits fault.column (error_number fault.unfit) (ap (progress applier) (answer ∙ says) ∙ unfit_progress applier batch count part (error_number fault.unfit) fault.column here))
 
-        -- a refusal with 1235 changes nothing, and the statement is said again
-        unsaid : (todo : List Doing) → apply_plan m journal applier ≡ Planned batch.next todo → NoPutFirst todo → job.work m.new ≡ works.Refuse (refuses 1235) → Goes
+        -- a refusal with ER_NOT_SUPPORTED_YET changes nothing, and the statement is said again
+        unsaid : (todo : List Doing) → apply_plan m journal applier ≡ Planned batch.next todo → NoPutFirst todo → job.work m.new ≡ works.Refuse (refuses ER_NOT_SUPPORTED_YET) → Goes
         unsaid todo is first does same besides does_job answer busy =
-            subst Goal (sym (ap (λ (a : Answer). took (length journal + 1) applier a) (answer ∙ refused_answer m seen seen_table job of_new (refuses 1235) does) ∙ unsaid_took (length journal + 1) applier batch count part here))
+            subst Goal (sym (ap (λ (a : Answer). took (length journal + 1) applier a) (answer ∙ refused_answer m seen seen_table job of_new (refuses ER_NOT_SUPPORTED_YET) does) ∙ unsaid_took (length journal + 1) applier batch count part here))
             (record {
               stands =
                   subst (λ (plan' : ApplyPlan). ToolStands m at rows copier number (then plan' applier.position)) (sym is ∙ sym (plan_more m journal (entry ∷ []) applier.step was.knows.step))
@@ -546,8 +547,8 @@ module _ (m : Migration) (at : Clustered m.schema) (rows : List Row) (place : �
                     progress = _;
                     ghost = _;
                     here = kept.here;
-                    tool = tool_refused m at rows copy kept.progress kept.ghost copier number (stored before) (holds_of before) (holds_of after) granted job (works.Refuse (refuses 1235)) batch.next todo served kept.tool
-                        (record { table = of_new; does = does }) does_job.given besides (no_changes m _ (refuses 1235));
+                    tool = tool_refused m at rows copy kept.progress kept.ghost copier number (stored before) (holds_of before) (holds_of after) granted job (works.Refuse (refuses ER_NOT_SUPPORTED_YET)) batch.next todo served kept.tool
+                        (record { table = of_new; does = does }) does_job.given besides (no_changes m _ (refuses ER_NOT_SUPPORTED_YET));
                   })));
               knows = record { step = step_more m journal (entry ∷ []) applier.step was.knows.step; sized = was.knows.sized };
               busy = subst (λ (s : ApplyStep). StepIsBusy s (busy_of after number)) (sym here) busy;
@@ -605,7 +606,7 @@ module _ (m : Migration) (at : Clustered m.schema) (rows : List Row) (place : �
         to_place : (new_at m rows plan finds).place ≡ place
         to_place = one_place m rows plan finds place is_place
 
-        not_refused : (n : ℕ) → answers.Ok n ≡ refuses 1062 → ⊥
+        not_refused : (n : ℕ) → answers.Ok n ≡ refuses ER_DUP_ENTRY → ⊥
         not_refused n is = absurd cc
 
         change_by : (made : Row) → converted_row m.columns new ≡ Ok made → change_job.work m.new ≡ update_at (new_at m rows plan finds).place key made → ChangeAnswer (seen (Changing old new) asked_so) change_job → Goes (Changing old new) asked_so
@@ -615,7 +616,7 @@ module _ (m : Migration) (at : Clustered m.schema) (rows : List Row) (place : �
             (row_is_changed (granted (Changing old new) asked_so) change_job batch.next old new made rest is_todo imaged (record { table = of_new (Changing old new) asked_so; does = work ∙ ap (λ (p : ℕ). update_at p key made) to_place }) (λ refused_so. not_refused said_so.count (sym said_so.is ∙ refused_so))
             (record { given = does_job.given; besides = besides; stored = same }) refl refl refl)) busy
         change_by made imaged work (clashes refused_so) same besides does_job answer busy =
-            goal_at (Applying batch count Removal) (ap (λ (a : Answer). took (length journal + 1) applier a) (answer ∙ refused_so) ∙ took_at (length journal + 1) applier (Applying batch count Whole) (refuses 1062) here_whole tt)
+            goal_at (Applying batch count Removal) (ap (λ (a : Answer). took (length journal + 1) applier a) (answer ∙ refused_so) ∙ took_at (length journal + 1) applier (Applying batch count Whole) (refuses ER_DUP_ENTRY) here_whole tt)
             (subst (λ (todo : List Doing). ToolStands m at rows copier number (then (Planned batch.next todo) applier.position)) (sym todo_then)
             (leads (Planned batch.next (Changing old new ∷ rest)) applier.position
             (change_is_refused (granted (Changing old new) asked_so) change_job batch.next old new made rest is_todo (record { table = of_new (Changing old new) asked_so; does = work ∙ ap (λ (p : ℕ). update_at p key made) to_place }) refused_so

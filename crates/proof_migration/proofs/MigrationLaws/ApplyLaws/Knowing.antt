@@ -1,5 +1,6 @@
 -- What an answer makes of the applier's record, and what it then knows of the journal.
 use Rattle.std.proofs.Common.{◌≡◌, ℕ, List, ◌++◌, drop, Option, Some, None, refl, sym, ap, ◌∙◌, subst}
+use Rattle.base_values.specs.declared.mysql_errors.TheConstants.{ER_TABLE_NOT_LOCKED, ER_NOT_SUPPORTED_YET}
 use Rattle.server_model.specs.declared.answer.Answer.{Answer}
 use Rattle.server_model.specs.declared.answer.Answer.TheVariants as answers
 use Rattle.server_model.specs.declared.entry.Entry.{Entry}
@@ -40,7 +41,7 @@ took_at turn applier step answers.Lost here good = absurd good
 took_at turn applier step (answers.TimedOut waited) here good = absurd good
 took_at turn applier step answer here good = ap (λ (s : ApplyStep). after_answer turn applier s answer) here
 
--- a wait, and a refusal with 1100 or 1235, leave the record as it is
+-- a wait, and a refusal with ER_TABLE_NOT_LOCKED or ER_NOT_SUPPORTED_YET, leave the record as it is
 pub waits_took : (turn : ℕ) (applier : Applier) (answer : Answer) → IsWait answer → took turn applier answer ≡ applier
 unfolding took
 waits_took turn applier (answers.Waits by) waits = at applier.step
@@ -55,18 +56,18 @@ waits_took turn applier answer waits = absurd waits
 same_step : (applier : Applier) (step : ApplyStep) → applier.step ≡ step → record applier { step = step } ≡ applier
 same_step applier step here = ap (λ (s : ApplyStep). record applier { step = s }) (sym here)
 
-pub outside_took : (turn : ℕ) (applier : Applier) → took turn applier (answers.Refused 1100 None) ≡ applier
+pub outside_took : (turn : ℕ) (applier : Applier) → took turn applier (answers.Refused ER_TABLE_NOT_LOCKED None) ≡ applier
 unfolding took
 outside_took turn applier = at applier.step refl
   where
-    at : (step : ApplyStep) → applier.step ≡ step → after_answer turn applier step (answers.Refused 1100 None) ≡ applier
+    at : (step : ApplyStep) → applier.step ≡ step → after_answer turn applier step (answers.Refused ER_TABLE_NOT_LOCKED None) ≡ applier
     at Reading here = refl
     at (Beginning batch) here = refl
     at (Applying batch done part) here = same_step applier (Applying batch done part) here
     at (Committing batch) here = refl
 
-pub unsaid_took : (turn : ℕ) (applier : Applier) (batch : Batch) (done : ℕ) (part : Part) → applier.step ≡ Applying batch done part → took turn applier (answers.Refused 1235 None) ≡ applier
-unsaid_took turn applier batch done part here = took_at turn applier (Applying batch done part) (answers.Refused 1235 None) here tt ∙ same_step applier (Applying batch done part) here
+pub unsaid_took : (turn : ℕ) (applier : Applier) (batch : Batch) (done : ℕ) (part : Part) → applier.step ≡ Applying batch done part → took turn applier (answers.Refused ER_NOT_SUPPORTED_YET None) ≡ applier
+unsaid_took turn applier batch done part here = took_at turn applier (Applying batch done part) (answers.Refused ER_NOT_SUPPORTED_YET None) here tt ∙ same_step applier (Applying batch done part) here
 
 -- a refusal with a column ends the batch
 pub unfit_progress : (applier : Applier) (batch : Batch) (done : ℕ) (part : Part) (number column : ℕ) → applier.step ≡ Applying batch done part → progress applier (answers.Refused number (Some column)) ≡ Unfit column number

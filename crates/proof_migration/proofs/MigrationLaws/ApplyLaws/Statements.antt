@@ -8,6 +8,7 @@ use Rattle.base_values.specs.GhoSchema.Tables.{IsRow}
 use Rattle.base_values.specs.declared.row_conversion.conversion_fault.UnfitAt.{UnfitAt}
 use Rattle.base_values.specs.declared.row_conversion.map.MapColumn.{MapColumn}
 use Rattle.base_values.specs.RowConversion.ConvertedRows.{converted_row}
+use Rattle.base_values.specs.declared.mysql_errors.TheConstants.{ER_NOT_SUPPORTED_YET}
 use Rattle.proof_schemas.proofs.AlterLaws.Apart.{names-apart}
 use Rattle.base_script.specs.declared.statement.Statement.{Statement}
 use Rattle.base_script.specs.declared.statement.Statement.TheVariants as statements
@@ -73,7 +74,7 @@ module _ (m : Migration) (rows : List Row) (plan : IsPlanned m rows) (finds : Fi
   remove_work row fits once =
       delete_text m.new here m.new.name (key_sets m.new m.columns row (key_places m.new)) (key_of (key_places m.schema) row) (finds_key m rows plan finds row once) (key_is_wanted m rows plan finds row fits) (key_is_long m rows plan finds row fits)
 
-  pub remove_unsaid : (row : Row) → are_distinct (key_places m.new) ≡ false → work_for (Removing row) ≡ works.Refuse (refuses 1235)
+  pub remove_unsaid : (row : Row) → are_distinct (key_places m.new) ≡ false → work_for (Removing row) ≡ works.Refuse (refuses ER_NOT_SUPPORTED_YET)
   unfolding work_of reach_of reach_equal
   remove_unsaid row twice = rw (names_found m rows plan finds row, twice) refl
 
@@ -93,7 +94,7 @@ module _ (m : Migration) (rows : List Row) (plan : IsPlanned m rows) (finds : Fi
   pub change_unfit : (old new : Row) (fault : UnfitAt) → IsRow m.schema.columns old → are_distinct (key_places m.new) ≡ true → converted_row m.columns new ≡ Err fault → work_for (Changing old new) ≡ unfit_at here.place (key_of (key_places m.schema) old) fault
   change_unfit old new fault fits once imaged = change_text old new fits once ∙ ap (λ (i : Result Row UnfitAt). works.Update (record { key = here.place; span = Rattle.base_values.specs.Spans.point (key_of (key_places m.schema) old) }) (sets_or i)) imaged
 
-  pub change_unsaid : (old new : Row) → are_distinct (key_places m.new) ≡ false → work_for (Changing old new) ≡ works.Refuse (refuses 1235)
+  pub change_unsaid : (old new : Row) → are_distinct (key_places m.new) ≡ false → work_for (Changing old new) ≡ works.Refuse (refuses ER_NOT_SUPPORTED_YET)
   unfolding work_of reach_of reach_equal
   change_unsaid old new twice = rw (columns_named m.new (given_values m.columns new) (names-apart m.new.columns finds.names) (long new), all_distinct 0 m.new.columns, names_found m rows plan finds old, twice) refl
 

@@ -42,6 +42,7 @@ use Rattle.server_model.specs.Needing.{lock_on}
 use Rattle.server_model.specs.Reading.{end_in, keys_in}
 use Rattle.server_model.specs.States.{State}
 use Rattle.base_values.specs.ToolNames.{ghost_name}
+use Rattle.base_values.specs.declared.mysql_errors.TheConstants.{ER_TABLE_NOT_LOCKED}
 use Rattle.tool_program.specs.JournalWords.Journals.{opens}
 use Rattle.tool_program.proofs.JournalWords.Answers.{answer_here}
 use Rattle.tool_program.specs.declared.chunk_copier.copier.Chunk.{Chunk}
@@ -226,14 +227,14 @@ module _ (m : Migration) (at : Clustered m.schema) (rows : List Row) (place : �
     rests_left x is = subst (λ (d : Effect). EffectLeaves d lost number (stored before) (stored after) (holds_of before) (holds_of after)) is left
 
     -- outside the locked tables
-    outside_goal : effect_now ≡ Rests (refuses 1100) → Goal behind
+    outside_goal : effect_now ≡ Rests (refuses ER_TABLE_NOT_LOCKED) → Goal behind
     outside_goal is = by heard
       where
         by : Heard entry.side entry.answer given → Goal behind
         by (heard_so side unlost same) =
-            stays own (rests_left (refuses 1100) is).0 (kept_own own unlost (rests_left (refuses 1100) is).1) refl
+            stays own (rests_left (refuses ER_TABLE_NOT_LOCKED) is).0 (kept_own own unlost (rests_left (refuses ER_TABLE_NOT_LOCKED) is).1) refl
             (quiet_took (length journal + 1) copier entry.answer (subst IsQuiet (sym (ap effect_answer is) ∙ sym says_so ∙ same) tt))
-        by (lost_so is_so answer) = lost_goal own is_so answer (rests_left (refuses 1100) is).0 (rests_left (refuses 1100) is).1
+        by (lost_so is_so answer) = lost_goal own is_so answer (rests_left (refuses ER_TABLE_NOT_LOCKED) is).0 (rests_left (refuses ER_TABLE_NOT_LOCKED) is).1
 
     -- ChunkEnd
     no_keys : (found : Option TableRows) (low : Bound) (top : Row) (size : ℕ) → IsNoKeys (of_table found (λ t. answers.End (chunk_end low top size t)))

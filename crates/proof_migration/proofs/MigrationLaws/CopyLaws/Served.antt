@@ -2,6 +2,7 @@
 use Rattle.std.proofs.Common.{◌≡◌, ℕ, Bool, true, false, not, List, refl, sym, ap, ◌∙◌, subst}
 use Rattle.std.specs.Prelude.{◌==◌}
 use Rattle.base_values.specs.declared.event.RowEvent.{RowEvent}
+use Rattle.base_values.specs.declared.mysql_errors.TheConstants.{ER_TABLE_NOT_LOCKED}
 use Rattle.table_store.specs.Databases.{Database}
 use Rattle.server_model.specs.declared.entry.Asked.{Asked}
 use Rattle.server_model.specs.declared.entry.Asked.TheVariants.{Call, Poll, Cut, Command}
@@ -53,7 +54,7 @@ sessions_done (Command word) number state = refl
 
 -- *The deed of a request*, by what its session holds before the turn: it is refused outside the locked tables, or is this
 pub data Deeded (state : State) (number : ℕ) (request : Request) (one : Effect) : Type 0 where
-  outside_so : one ≡ Rests (refuses 1100) → Deeded state number request one
+  outside_so : one ≡ Rests (refuses ER_TABLE_NOT_LOCKED) → Deeded state number request one
   within_so : (there : State) → there.tables ≡ state.tables → there.log ≡ state.log → one ≡ effect_within (face_of state.sessions number).busy (seen_of state number) there request → Deeded state number request one
 
 pub deeded : (entry : Entry) (state : State) (request : Request) → Deeded state entry.session request (effect (where_done entry.asked entry.session (opens entry state)) entry.session request)
