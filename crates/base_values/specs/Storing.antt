@@ -54,11 +54,11 @@ character_count text = count_by (λ byte. nat_lt byte 128 || nat_le 192 byte) te
 unfoldable pub in_range : ℕ → Bool → ℤ → Result Value Unfit
 in_range bytes unsigned n = if int_le (lowest bytes unsigned) n && int_le n (highest bytes unsigned) then Ok (Num n) else Err unfit.Range
 
--- The text where it has at most so many characters, else ER_DATA_TOO_LONG.
+-- The text where it has at most this many characters, else ER_DATA_TOO_LONG.
 unfoldable pub text_within : ℕ → List ℕ → Result Value Unfit
 text_within limit text = if nat_le (character_count text) limit then Ok (Text text) else Err unfit.Length
 
--- The bytes where they are at most so many, else ER_DATA_TOO_LONG.
+-- The bytes where they are at most this many, else ER_DATA_TOO_LONG.
 unfoldable pub bytes_within : ℕ → List ℕ → Result Value Unfit
 bytes_within limit bytes = if nat_le (length bytes) limit then Ok (Blob bytes) else Err unfit.Length
 

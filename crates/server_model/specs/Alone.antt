@@ -19,7 +19,7 @@ use Rattle.server_model.specs.declared.answer.Answer.TheVariants as answers
 use Rattle.server_model.specs.Answers.{ok}
 use Rattle.server_model.specs.Jobs.{says, after_events}
 
--- what a client is told of an answer; none where it isn't one of a client's
+-- what a client sees of an answer; none where it isn't one of a client's
 abbrev pub reply_of : Answer → Option Reply
 reply_of (answers.Ok count) = Some (replies.Ok count)
 reply_of (answers.Rows rows) = Some (replies.Rows rows)

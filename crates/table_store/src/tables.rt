@@ -16,7 +16,7 @@ use thiserror::Error;
 /// Why a table isn't added.
 #[derive(Debug, Drop, Error)]
 pub enum AddFault {
-    /// A table of its name stands already: MySQL's `ER_TABLE_EXISTS_ERROR`.
+    /// A table of its name exists already: MySQL's `ER_TABLE_EXISTS_ERROR`.
     #[error("a table of this name stands already")]
     Stands,
     /// There is no memory for one more table.

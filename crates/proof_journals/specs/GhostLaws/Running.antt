@@ -126,7 +126,7 @@ pub data ToolTurn (m : Migration) (at : Clustered m.schema) (rows : List Row) (p
   batch_is_passed : (told : EventsTold) → before.plan ≡ Resting → IsTold m.name before.stored.log before.position told → planned m (own_changes m.name told.events) ≡ [] → after.stored ≡ before.stored → after.hold ≡ before.hold → CopierStays before after → after.plan ≡ Resting → after.position ≡ told.next
       → ToolTurn m at rows place copier applier before after
   -- REPLACE; DELETE; UPDATE, not refused; UPDATE of no row with values that don't store; UPDATE refused with ER_DUP_ENTRY, the
-  -- DELETE behind it, and the REPLACE behind that
+  -- DELETE after it, and the REPLACE after that
   row_is_put : (own : SessionHold) (job : Job) (next : ℕ) (row made : Row) (rest : List Doing) → before.plan ≡ Planned next (Putting row ∷ rest) → converted_row m.columns row ≡ Ok made → DoesWork m job (works.Replace made) → DoesJob m applier job own before after → CopierStays before after → after.plan ≡ Planned next rest
       → after.position ≡ before.position → ToolTurn m at rows place copier applier before after
   row_is_removed : (own : SessionHold) (job : Job) (next : ℕ) (row : Row) (rest : List Doing) → before.plan ≡ Planned next (Removing row ∷ rest) → DoesWork m job (delete_at place (key_of (key_places m.schema) row)) → DoesJob m applier job own before after → CopierStays before after → after.plan ≡ Planned next rest

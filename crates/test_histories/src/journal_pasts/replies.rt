@@ -8,7 +8,7 @@ use base_values::mysql_errors::ER_LOCK_WAIT_TIMEOUT;
 use server_model::{Answer, Reply};
 use std::alloc::AllocError;
 
-/// What a client is told of an answer.
+/// What a client sees of an answer.
 fn reply_of(answer: &Answer) -> Result<Option<Reply>, AllocError>
     ensures { IfOk result (λ reply. reply ≡ reply_of answer.now) }
 {

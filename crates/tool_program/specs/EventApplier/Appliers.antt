@@ -164,7 +164,7 @@ abbrev pub after_part : Batch → ℕ → Part → ApplyStep
 after_part batch done Removal = Applying batch done Return
 after_part batch done part = after_statements batch (done + 1)
 
--- behind a statement that was refused: ER_DUP_ENTRY refuses an UPDATE alone, which goes on as DELETE and REPLACE
+-- after a statement that was refused: ER_DUP_ENTRY refuses an UPDATE alone, which goes on as DELETE and REPLACE
 abbrev pub after_refusal : Batch → ℕ → Part → ℕ → ApplyStep
 after_refusal batch done part number = if number == ER_DUP_ENTRY then Applying batch done Removal else Applying batch done part
 
