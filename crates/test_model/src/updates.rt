@@ -121,7 +121,7 @@ fn steps(
 }
 
 /// The changes of rows that an UPDATE reaches, or 1062.
-#[tactic(auto, using(crate::proofs::Updates::ended, crate::proofs::Updates::after_nothing))]
+#[tactic(auto, using(crate::proofs::UpdateFacts::ended, crate::proofs::UpdateFacts::after_nothing))]
 fn updates(
     alloc: Global,
     table: &PlainTable,

@@ -31,7 +31,7 @@ use Rattle.tool_program.specs.Tools.{Course, Migrating, SettingUp, is_reverting,
 use Rattle.proof_journals.specs.Plans.{IsSerialPlan}
 use Rattle.proof_journals.specs.ServerLaws.Others.{DefinitionsAreDone}
 use Rattle.proof_journals.specs.RunLaws.Kept.{IsKept}
-use Rattle.run_actors.proofs.Alters.{of_client}
+use Rattle.run_actors.proofs.AlterTurns.{of_client}
 use Rattle.proof_journals.specs.MachineLaws.Machines.{CourseStands, SetupStands}
 use Rattle.proof_journals.specs.MachineLaws.Runnable.{IsRunnable}
 use Rattle.proof_journals.specs.MachineLaws.Standings.{Standing, standing_of}

@@ -64,7 +64,7 @@ use Rattle.proof_journals.proofs.MachineLaws.Schemas.{keeps_table, schema_rests,
 use Rattle.proof_journals.proofs.MachineLaws.Seated.{IsServed, others_stand, own_lost, own_waiting, state_more}
 use Rattle.proof_journals.proofs.MachineLaws.Tabling.{Behind, behind, quiet_stay, rests, waits_on}
 use Rattle.proof_migration.proofs.CourseLaws.UnalteredLaws.Away.{IsKnownAsked, about_asked, tool_adds}
-use Rattle.run_actors.proofs.Alters.{of_client}
+use Rattle.run_actors.proofs.AlterTurns.{of_client}
 use Rattle.proof_migration.proofs.CourseLaws.CourseTurns.{AnswerKeeps, Kept, ResizeKeeps, TurnKeeps, UnfitKeeps, gives_asked, turn_kept}
 use Rattle.proof_migration.proofs.FollowLaws.LockerTurns.Quiet.{CountsNone, Quiet, quiet_served}
 use Rattle.proof_journals.proofs.SentryLaws.Serving.{exchanged}

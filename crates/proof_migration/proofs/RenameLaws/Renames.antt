@@ -44,7 +44,7 @@ use Rattle.proof_journals.proofs.GhostLaws.Undone.{effects_answer}
 use Rattle.proof_migration.proofs.MigrationLaws.CopyLaws.Served.{Deeded, deeded}
 use Rattle.proof_migration.proofs.MigrationLaws.CopyLaws.Served.Deeded.{outside_so, within_so}
 use Rattle.proof_journals.specs.RunLaws.Kept.{IsKept}
-use Rattle.run_actors.proofs.Alters.{of_client}
+use Rattle.run_actors.proofs.AlterTurns.{of_client}
 use Rattle.proof_journals.specs.MachineLaws.Machines.{CourseStands, SetupStands}
 use Rattle.proof_journals.specs.MachineLaws.Runnable.{IsRunnable}
 use Rattle.proof_journals.specs.MachineLaws.Standings.{Standing, free, standing_of}

@@ -42,7 +42,7 @@ use Rattle.tool_program.specs.Tools.{Work, Course, SettingUp, Migrating, Tool, M
 use Rattle.tool_program.proofs.ProgramLaws.Machines.{CourseIsNamed, named}
 use Rattle.proof_journals.specs.Plans.{IsSerialPlan}
 use Rattle.proof_journals.proofs.Actors.{same_actor_itself}
-use Rattle.run_actors.proofs.Alters.{of_client}
+use Rattle.run_actors.proofs.AlterTurns.{of_client}
 use Rattle.proof_journals.specs.MachineLaws.Machines.{CourseStands, WorkStands}
 use Rattle.proof_journals.specs.MachineLaws.Runnable.{IsRunnable}
 use Rattle.proof_journals.specs.MachineLaws.Standings.{Standing, standing_of, IsAbout, is_called, is_polled}

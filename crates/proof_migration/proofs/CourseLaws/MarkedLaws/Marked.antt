@@ -33,7 +33,7 @@ use Rattle.proof_journals.proofs.Naming.{migrated_named}
 use Rattle.proof_journals.proofs.PlanJournals.{journals_are_serial}
 use Rattle.proof_journals.specs.GhostLaws.Copies.{IsAltered}
 use Rattle.proof_migration.specs.MigrationLaws.PlanningLaws.Laws.{migration_of}
-use Rattle.run_actors.proofs.Alters.{of_client}
+use Rattle.run_actors.proofs.AlterTurns.{of_client}
 use Rattle.server_model.proofs.StatementLaws.Tests.{same_bytes}
 use Rattle.proof_journals.specs.MachineLaws.Runnable.{IsRunnable}
 use Rattle.proof_journals.proofs.MachineLaws.Journals.{IsRun, all_runs}
