@@ -82,6 +82,7 @@ fn is_no_sentry(table: Option<&Table>) -> bool
 {
     match table {
         None => false,
+        // The sentry of an earlier run has the old table's name, and is known by its comment. It may always be dropped.
         Some(table) => table.schema().comment.as_str() != SENTRY_COMMENT,
     }
 }
