@@ -145,7 +145,7 @@ fn altered_of(
     }
 }
 
-/// The opening of a plan. That schemas which are read are lawful is a law: `law_texts::schema_laws` proves it.
+/// The opening of a plan. That schemas which are read are lawful is a law: `law_texts::schemas` proves it.
 #[tactic(auto, unfolding(crate::specs::Openings::opening_of))]
 pub fn opening_of(alloc: Global, migrated: &Name, keys: &PlanKeys<'_>) -> Result<Opening, PlanFault>
     requires valid { ReadSchemasAreValid }

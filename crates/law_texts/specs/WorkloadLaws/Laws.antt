@@ -1,4 +1,4 @@
--- What holds of the workload of every number. The functions of the module `laws` prove each.
+-- What holds of the workload of every number. The functions of `law_texts::workload` prove each.
 use Rattle.std.specs.Prelude.{◌≡◌, ℕ, false, List, [], ◌∷◌, Ok}
 use Rattle.std.specs.List.{list_any}
 use Rattle.std.specs.Str.{bytes_eq}

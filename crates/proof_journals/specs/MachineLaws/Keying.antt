@@ -53,7 +53,7 @@ IsKeyed plan request = Unit {0}
 abbrev pub IsMapped : PlanData → Type 0
 IsMapped plan = IsMapOf (new_map plan) (old_schema plan) (ghost_schema plan)
 
--- before each turn the tables are tables with clustered keys (what server_laws' `states_hold` gives of runs)
+-- before each turn the tables are tables with clustered keys (what server_turns' `states_hold` gives of runs)
 abbrev pub StaysWellFormed : PlanData → List Entry → Type 0
 StaysWellFormed plan journal = Along (λ before entry. IsWellFormedDatabase (state_at plan before).tables) [] journal
 

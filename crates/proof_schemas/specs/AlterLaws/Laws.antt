@@ -1,4 +1,4 @@
--- What holds of all ALTERs that are taken. The functions of the module `laws` prove each.
+-- What holds of all ALTERs that are taken. The functions of `law_texts::alters` prove each.
 use Rattle.std.specs.Prelude.{◌≡◌, ℕ, Bool, true, List, length, Some, Ok}
 use Rattle.std.specs.List.{slice_get, AllByRecursion}
 use Rattle.base_values.specs.declared.value.Value.{Value}

@@ -1,4 +1,4 @@
--- What holds of the printed text of schemas. The functions of the module `laws` prove each.
+-- What holds of the printed text of schemas. The functions of `law_texts::schemas` prove each.
 use Rattle.std.specs.Prelude.{codes, ◌≡◌, ℕ, ◌<◌, ◌==◌, ◌^◌, true, false, if◌then◌else◌, List, ◌∷◌, ◌++◌, map, Option, Some, None, Ok, unsigned_abs}
 use Rattle.std.specs.Str.{bytes_eq}
 use Rattle.std.specs.List.{AllByRecursion}

@@ -1,4 +1,4 @@
--- Which schemas the printed text gives again. The functions of the module `laws` prove each.
+-- Which schemas the printed text gives again. The functions of `law_texts::schemas` prove each.
 use Rattle.std.specs.Prelude.{◌≡◌, ℕ, ◌<◌, ◌≤◌, Bool, true, false, not, ◌||◌, List, [], ◌∷◌, ◌++◌, length, is_some, Ok}
 use Rattle.std.specs.List.{filter_map, list_all, AllByRecursion}
 use Rattle.base_values.specs.declared.gho_schema.schema.Column.{Column}

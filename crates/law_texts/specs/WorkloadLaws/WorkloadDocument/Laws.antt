@@ -1,4 +1,4 @@
--- What the text of the workload of every number is. The functions of the module `laws` prove each.
+-- What the text of the workload of every number is. The functions of `law_texts::workload` prove each.
 use Rattle.std.specs.Prelude.{◌≡◌, ℕ, ◌≤◌, true, length, Some, Ok}
 use Rattle.std.specs.Str.{is_utf8}
 use Rattle.toml.specs.Parse.{parse_document}

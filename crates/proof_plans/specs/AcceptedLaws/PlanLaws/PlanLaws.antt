@@ -1,4 +1,4 @@
--- What holds of every accepted plan. The functions of the module `laws` prove each.
+-- What holds of every accepted plan. The functions of `law_journals::plans` prove each.
 use Rattle.std.specs.Prelude.{◌≡◌, ◌≤◌, ℕ, List, length, Some, Ok}
 use Rattle.std.specs.List.{AllByRecursion}
 use Rattle.table_store.specs.Databases.{TableRows, NamesDiffer, find_table}

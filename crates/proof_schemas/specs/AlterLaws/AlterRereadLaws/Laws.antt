@@ -1,4 +1,4 @@
--- That the printed text of an altered schema gives it again. The functions of the module `laws` prove each.
+-- That the printed text of an altered schema gives it again. The functions of `law_texts::alters` prove each.
 use Rattle.std.specs.Prelude.{◌≡◌, ℕ, ◌<◌, Bool, List, Ok}
 use Rattle.std.specs.List.{AllByRecursion}
 use Rattle.base_values.specs.declared.gho_schema.schema.Schema.{Schema}
