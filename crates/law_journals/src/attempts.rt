@@ -1,8 +1,8 @@
 //! What an attempt's requests are answered, what they leave of the tables, and how far an attempt is once the RENAME is
 //! done.
 
-ghost use Rattle.proof_migration.specs.AttemptLaws.Laws.{AttemptsWait};
-ghost use Rattle.proof_migration.specs.AttemptLaws.RenamedLaws.Laws.{RenamesAreSeen};
+ghost use Rattle.proof_migration.specs.Attempt.Laws.{AttemptsWait};
+ghost use Rattle.proof_migration.specs.Attempt.Renamed.{RenamesAreSeen};
 
 /// An attempt whose sentry isn't made yet waits for that, and one whose table is unlocked waits for the RENAME: neither is
 /// refused.

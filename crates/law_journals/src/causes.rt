@@ -1,8 +1,8 @@
 //! That the cause which a verdict names stands in the journal.
 
-ghost use Rattle.proof_migration.specs.AttemptLaws.VerdictLaws.Laws.{PanicsStand, SpentTasksStand, SpentAttemptsStand};
-ghost use Rattle.proof_migration.specs.AttemptLaws.CauseLaws.Laws.{SpentCutOversStand};
-ghost use Rattle.proof_migration.specs.UnfitLaws.Laws.{UnfitRowsStand};
+ghost use Rattle.proof_migration.specs.Attempt.Verdicts.{PanicsStand, SpentTasksStand, SpentAttemptsStand};
+ghost use Rattle.proof_migration.specs.Attempt.Causes.{SpentCutOversStand};
+ghost use Rattle.proof_migration.specs.Unfit.{UnfitRowsStand};
 
 use crate::plans::alterable_plans_are_runnable;
 use base_values::laws::stored_values_store_again;

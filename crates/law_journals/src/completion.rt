@@ -1,7 +1,7 @@
 //! That a run in which nothing hinders the tool ends with the table altered.
 
-ghost use Rattle.proof_plans.specs.CompleteLaws.Laws.{SmoothRunsAreDone};
-ghost use Rattle.proof_plans.specs.CompleteLaws.Quiet.{AcceptedQuietRunsAreDone, QuietRunsAreDone};
+ghost use Rattle.proof_plans.specs.Complete.Laws.{SmoothRunsAreDone};
+ghost use Rattle.proof_plans.specs.Complete.Quiet.{AcceptedQuietRunsAreDone, QuietRunsAreDone};
 
 use crate::machines::verdicts_tell_the_alter;
 use crate::plans::{read_plans_are_runnable, read_plans_are_serial, read_scripts_end};

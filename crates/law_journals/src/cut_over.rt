@@ -1,11 +1,11 @@
 //! Each turn is a turn of the cut-over, so that by the sentry relation the RENAME comes at the mark; and in every journal
 //! that is kept it is done once at most.
 
-ghost use Rattle.proof_migration.specs.FollowLaws.LockerTurns.Laws.{LockersAreTurned, RenamersAreTurned};
-ghost use Rattle.proof_migration.specs.FollowLaws.InspectorTurns.Laws.{InspectorsAreTurned};
-ghost use Rattle.proof_migration.specs.FollowLaws.BatchTurns.Laws.{AppliersAreTurned, CopiersAreTurned};
-ghost use Rattle.proof_migration.specs.RenameLaws.Laws.{ClientsAreTurned, JournalsAreTurned, OperatorsAreTurned, RenamesComeAtTheMark};
-ghost use Rattle.proof_migration.specs.OnceLaws.Laws.{RenamesComeOnce};
+ghost use Rattle.proof_migration.specs.Program.LockerTurns.{LockersAreTurned, RenamersAreTurned};
+ghost use Rattle.proof_migration.specs.Program.InspectorTurns.{InspectorsAreTurned};
+ghost use Rattle.proof_migration.specs.Program.BatchTurns.{AppliersAreTurned, CopiersAreTurned};
+ghost use Rattle.proof_migration.specs.CutOver.{ClientsAreTurned, JournalsAreTurned, OperatorsAreTurned, RenamesComeAtTheMark};
+ghost use Rattle.proof_migration.specs.Once.{RenamesComeOnce};
 
 use crate::hints::hints_are_known;
 use crate::server_turns::{

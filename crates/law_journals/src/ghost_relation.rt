@@ -1,7 +1,7 @@
 //! The ghost relation: while rows are copied and events applied in any order, each row of the new table is the image of its
 //! row at a moment that the applier hasn't passed.
 
-ghost use Rattle.proof_journals.specs.GhostLaws.GhostRelation.Laws.{MigrationsStart, LogsGrow, ChunksBegin, RowsAreCopied, RowsAreMet, ChunksCommit, ChunksRollBack, EventsApply, HalvesApply, EventsPass, BatchesCommit, BatchesRollBack, BatchesRepeat, ReplaceApplies, DeleteApplies, UpdateApplies, GhostsEnd};
+ghost use Rattle.proof_journals.specs.Ghost.Relation.Laws.{MigrationsStart, LogsGrow, ChunksBegin, RowsAreCopied, RowsAreMet, ChunksCommit, ChunksRollBack, EventsApply, HalvesApply, EventsPass, BatchesCommit, BatchesRollBack, BatchesRepeat, ReplaceApplies, DeleteApplies, UpdateApplies, GhostsEnd};
 
 /// It holds at the start, where the ghost is empty and no key is held.
 pub fn migrations_start<K, R, M>()

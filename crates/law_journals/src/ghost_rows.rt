@@ -1,7 +1,7 @@
 //! The ghost relation on rows, events and images: what every step of the copier, the applier and the clients keeps,
 //! whatever their order.
 
-ghost use Rattle.proof_journals.specs.GhostLaws.GhostRows.Laws.{TimelinesAreValid, MigrationsStart, LogsGrow, ChunksBegin, RowsAreCopied, RowsAreMet, ChunksCommit, ChunksRollBack, ChunksRepeat, RangesEnd, ReplaceApplies, DeleteApplies, UpdateApplies, UpdateMisses, HalvesApply, EventsPass, BatchesCommit, BatchesRollBack, BatchesRepeat, GhostsAreAltered};
+ghost use Rattle.proof_journals.specs.Ghost.Rows.Laws.{TimelinesAreValid, MigrationsStart, LogsGrow, ChunksBegin, RowsAreCopied, RowsAreMet, ChunksCommit, ChunksRollBack, ChunksRepeat, RangesEnd, ReplaceApplies, DeleteApplies, UpdateApplies, UpdateMisses, HalvesApply, EventsPass, BatchesCommit, BatchesRollBack, BatchesRepeat, GhostsAreAltered};
 
 /// The rows at each moment of a log that fits them are a table, and images clash only where they do.
 pub fn timelines_are_valid()

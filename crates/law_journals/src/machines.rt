@@ -1,6 +1,6 @@
 //! What holds of the tool's machines and their sessions.
 
-ghost use Rattle.proof_journals.specs.MachineLaws.Laws.{AnswersTellStandings, SessionsAreNumbered, MachinesStand, GivenCallsComeWell, GivenCallsMayBeMade, GivenPollsMayBeMade, TablesStandUncopied, TablesStayTables, GivenCallsMayBeCalled, GivenPollsMayBeCalled, LossesMayBe, VerdictsTellTheAlter};
+ghost use Rattle.proof_journals.specs.Machine.Laws.{AnswersTellStandings, SessionsAreNumbered, MachinesStand, GivenCallsComeWell, GivenCallsMayBeMade, GivenPollsMayBeMade, TablesStandUncopied, TablesStayTables, GivenCallsMayBeCalled, GivenPollsMayBeCalled, LossesMayBe, VerdictsTellTheAlter};
 
 /// What a session has on the server follows from its turns' answers alone, and each answer is one that its request may
 /// have.

@@ -1,10 +1,10 @@
 //! The copier, the applier and all other sessions together: over journals that follow the program each turn keeps the ghost
 //! relation, and at the end the new table is the altered one.
 
-ghost use Rattle.proof_migration.specs.MigrationLaws.PlanningLaws.Laws.{AltersArePlanned};
-ghost use Rattle.proof_migration.specs.MigrationLaws.CopyLaws.Laws.{CopiersKeep};
-ghost use Rattle.proof_migration.specs.MigrationLaws.ApplyLaws.Laws.{AltersFindRows, AppliersKeep};
-ghost use Rattle.proof_migration.specs.MigrationLaws.Laws.{JournalsAlter, MovesKeep, OthersKeep, TurnsKeep};
+ghost use Rattle.proof_migration.specs.Migration.Planning.{AltersArePlanned};
+ghost use Rattle.proof_migration.specs.Migration.Copier.Laws.{CopiersKeep};
+ghost use Rattle.proof_migration.specs.Migration.Applier.Laws.{AltersFindRows, AppliersKeep};
+ghost use Rattle.proof_migration.specs.Migration.Laws.{JournalsAlter, MovesKeep, OthersKeep, TurnsKeep};
 
 use base_values::laws::stored_values_store_again;
 

@@ -1,10 +1,10 @@
 //! What every accepted plan has, so that the laws over journals speak of it; what its options allow; and what the program
 //! of an alterable plan may ask.
 
-ghost use Rattle.proof_plans.specs.AcceptedLaws.PlanLaws.PlanLaws.{ReadPlansAreAccepted};
-ghost use Rattle.proof_plans.specs.AcceptedLaws.Laws.{ReadPlansAreSerial, ReadTablesStand, ReadScriptsEnd, ReadPlansAreAlterable, ReadPlansAreWorded, ReadAttemptsDrain, ReadPlansAreRunnable};
-ghost use Rattle.proof_plans.specs.AcceptedLaws.OptionLaws.Laws.{ReadOptionsAllow};
-ghost use Rattle.proof_migration.specs.CourseLaws.RunnableLaws.Laws.{AlterablePlansAreRunnable};
+ghost use Rattle.proof_plans.specs.ReadPlans.Schemas.{ReadPlansAreAccepted};
+ghost use Rattle.proof_plans.specs.ReadPlans.Laws.{ReadPlansAreSerial, ReadTablesStand, ReadScriptsEnd, ReadPlansAreAlterable, ReadPlansAreWorded, ReadAttemptsDrain, ReadPlansAreRunnable};
+ghost use Rattle.proof_plans.specs.ReadPlans.Options.{ReadOptionsAllow};
+ghost use Rattle.proof_migration.specs.Course.Runnable.{AlterablePlansAreRunnable};
 
 use base_values::laws::stored_values_store_again;
 

@@ -1,8 +1,8 @@
 //! In every journal that follows an alterable plan's program the new table becomes the altered one: each of its turns is
 //! one of the migration's, so that the ghost relation goes on to the mark.
 
-ghost use Rattle.proof_migration.specs.FollowLaws.FollowTurns.Laws.{FollowersGoOn, MarksAreAltered};
-ghost use Rattle.proof_migration.specs.FollowLaws.Laws.{FollowersAlter, FollowersGo};
+ghost use Rattle.proof_migration.specs.Program.Turns.Laws.{FollowersGoOn, MarksAreAltered};
+ghost use Rattle.proof_migration.specs.Program.Laws.{FollowersAlter, FollowersGo};
 
 use crate::plans::alterable_plans_are_runnable;
 use base_values::laws::stored_values_store_again;

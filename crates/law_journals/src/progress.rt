@@ -1,7 +1,7 @@
 //! While a run hasn't ended some actor is ready.
 
-ghost use Rattle.proof_migration.specs.CourseLaws.ReadyLaws.Laws.{SomeoneIsReady, ReadyRunsGoOn};
-ghost use Rattle.proof_migration.specs.GoingLaws.Laws.{SomeoneGoes};
+ghost use Rattle.proof_migration.specs.Course.Ready.{SomeoneIsReady, ReadyRunsGoOn};
+ghost use Rattle.proof_migration.specs.Going.{SomeoneGoes};
 
 use crate::server_turns::entries_are_turns;
 

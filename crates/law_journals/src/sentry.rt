@@ -1,8 +1,8 @@
 //! The sentry relation: where the tool's RENAME may run, the sentry stands, or all of the table is in the new one and
 //! nobody else holds it.
 
-ghost use Rattle.proof_journals.specs.SentryLaws.Turning.{RenamesAreWhole, RenamesFollow};
-ghost use Rattle.proof_journals.specs.SentryLaws.Laws.{JournalsAreGuarded, SessionsDiffer, LiveIsLast};
+ghost use Rattle.proof_journals.specs.Sentry.Turning.{RenamesAreWhole, RenamesFollow};
+ghost use Rattle.proof_journals.specs.Sentry.Laws.{JournalsAreGuarded, SessionsDiffer, LiveIsLast};
 
 /// Behind every journal of such turns the sentry relation holds.
 pub fn journals_are_guarded()

@@ -1,6 +1,6 @@
 //! What one turn of a session leaves to the others: names, waits, rows under locks, and the tables that stand.
 
-ghost use Rattle.proof_journals.specs.ServerLaws.Others.{EntriesAreTurns, ExclusiveIsAlone, OthersAgree, OthersStay, RowsStay, SpanStays, LocksAreTaken, SpansAreHeld, DefinitionsAreDone, StatesHold};
+ghost use Rattle.proof_journals.specs.ServerTurns.Others.{EntriesAreTurns, ExclusiveIsAlone, OthersAgree, OthersStay, RowsStay, SpanStays, LocksAreTaken, SpansAreHeld, DefinitionsAreDone, StatesHold};
 
 /// What a turn does to names that are held and waited for, to the log, and to which tables stand.
 pub fn entries_are_turns()

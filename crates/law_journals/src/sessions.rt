@@ -1,8 +1,8 @@
 //! Whose the server's sessions are, what those of the tool wait for, and that the cut-over goes on in the live ones.
 
-ghost use Rattle.proof_migration.specs.CourseLaws.Laws.{SessionsAreOwned};
-ghost use Rattle.proof_migration.specs.CourseLaws.WaitsLaws.Laws.{WaitsAreTold};
-ghost use Rattle.proof_migration.specs.FollowLaws.HoldLaws.Laws.{HoldsAreLive, LockersGoOn, RenamersGoOn};
+ghost use Rattle.proof_migration.specs.Course.Laws.{SessionsAreOwned};
+ghost use Rattle.proof_migration.specs.Course.Waits.{WaitsAreTold};
+ghost use Rattle.proof_migration.specs.Program.Holds.{HoldsAreLive, LockersGoOn, RenamersGoOn};
 
 /// Each session that is live on the server is some actor's.
 pub fn sessions_are_owned()

@@ -1,6 +1,6 @@
 //! What holds of a run turn by turn, of journals and of the server's states.
 
-ghost use Rattle.proof_journals.specs.RunLaws.Laws.{SessionsAreKnown, CountsAreOwn, BusyIsCounted, NumbersDontMatter, WaitsAreLive, NothingIsLeft, MomentsAreOfJournals, GivenIsPlanned, JournalsGrow};
+ghost use Rattle.proof_journals.specs.Run.Laws.{SessionsAreKnown, CountsAreOwn, BusyIsCounted, NumbersDontMatter, WaitsAreLive, NothingIsLeft, MomentsAreOfJournals, GivenIsPlanned, JournalsGrow};
 
 /// Whose each live session is on the server, and which counts a turn of a session changes.
 pub fn sessions_are_known()

@@ -1,7 +1,7 @@
 //! What holds of all ALTERs that are taken, and that the printed text of an altered schema is read as that schema.
 
-ghost use Rattle.proof_schemas.specs.AlterLaws.Laws.{ConvertedRowsKeepKeys, ConvertedRowsStayApart, ClusteredKeysStay, ConvertedRowsKeepClusteredKeys, AlteredTablesKeepNames, AlteredSchemasAreValid, ReadClausesWriteKinds, ConvertedRowsAreRows, MapsFit, AlteredTablesAreTables};
-ghost use Rattle.proof_schemas.specs.AlterLaws.AlterRereadLaws.Laws.{AlteredSchemasAreDeclared, AlteredSchemasAreReadAgain};
+ghost use Rattle.proof_schemas.specs.Alters.Laws.{ConvertedRowsKeepKeys, ConvertedRowsStayApart, ClusteredKeysStay, ConvertedRowsKeepClusteredKeys, AlteredTablesKeepNames, AlteredSchemasAreValid, ReadClausesWriteKinds, ConvertedRowsAreRows, MapsFit, AlteredTablesAreTables};
+ghost use Rattle.proof_schemas.specs.Alters.ReadAgain.{AlteredSchemasAreDeclared, AlteredSchemasAreReadAgain};
 
 use base_values::laws::stored_values_store_again;
 

@@ -1,6 +1,6 @@
 //! What a report prints of the order of turns is read as that order.
 
-ghost use Rattle.law_texts.specs.OrderLaws.Laws.{PrintedOrdersAreRead, PrintedOrdersAreThoseTurns};
+ghost use Rattle.law_texts.specs.TurnOrders.{PrintedOrdersAreRead, PrintedOrdersAreThoseTurns};
 
 /// The order that a report prints is read by a plan's reader of orders, run by run.
 pub fn printed_orders_are_read()

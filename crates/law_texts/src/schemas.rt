@@ -1,8 +1,8 @@
 //! What holds of all schemas that are read, and that the printed text of a schema is read as that schema.
 
 ghost use Rattle.sql_create.specs.Laws.{ReadSchemasAreValid};
-ghost use Rattle.proof_schemas.specs.PrintLaws.Laws.{PrintedSchemasHaveWords, PrintedColumnsAreRead, PrintedSchemasAreWritten};
-ghost use Rattle.proof_schemas.specs.RereadLaws.Laws.{PrintedSchemasAreReadAgain, ReadSchemasAreDeclared, ReadSchemasCanPrint, ReadSchemasAreReadAgain};
+ghost use Rattle.proof_schemas.specs.Printed.Laws.{PrintedSchemasHaveWords, PrintedColumnsAreRead, PrintedSchemasAreWritten};
+ghost use Rattle.proof_schemas.specs.ReadAgain.{PrintedSchemasAreReadAgain, ReadSchemasAreDeclared, ReadSchemasCanPrint, ReadSchemasAreReadAgain};
 
 use base_values::laws::stored_values_store_again;
 

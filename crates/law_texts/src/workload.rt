@@ -1,8 +1,8 @@
 //! What the text of the workload of every number is, and that it is a plan.
 
-ghost use Rattle.law_texts.specs.WorkloadLaws.WorkloadDocument.Laws.{WorkloadsAreDocuments, WorkloadsAreUtf8, WorkloadsAreShort, KeysAreInRange};
-ghost use Rattle.law_texts.specs.WorkloadLaws.Laws.{AltersAreTaken, TablesAreRead, TablesAreTables, ScriptsAreRead};
-ghost use Rattle.law_texts.specs.WorkloadLaws.WorkloadPlans.Laws.{WorkloadsAreRead};
+ghost use Rattle.law_texts.specs.Workloads.Document.Laws.{WorkloadsAreDocuments, WorkloadsAreUtf8, WorkloadsAreShort, KeysAreInRange};
+ghost use Rattle.law_texts.specs.Workloads.Laws.{AltersAreTaken, TablesAreRead, TablesAreTables, ScriptsAreRead};
+ghost use Rattle.law_texts.specs.Workloads.Plans.{WorkloadsAreRead};
 
 use base_values::laws::stored_values_store_again;
 use table_store::laws::put_keeps_tables;

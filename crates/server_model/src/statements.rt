@@ -1,7 +1,7 @@
 //! What holds of every statement: what it says depends on what its locks cover, and what it writes is covered by them. Each
 //! function's contract is a law.
 
-ghost use Rattle.server_model.specs.StatementLaws.Laws.{LockedRowsDecide, WritesAreCovered, WorkIsSound, SoundWorkKeepsTables, StatementsKeepDatabases, OthersSeeTheSame};
+ghost use Rattle.server_model.specs.LockedRows.Laws.{LockedRowsDecide, WritesAreCovered, WorkIsSound, SoundWorkKeepsTables, StatementsKeepDatabases, OthersSeeTheSame};
 
 /// What a statement says and needs is decided by the rows under the locks that it needs.
 pub fn locked_rows_decide()

@@ -2,7 +2,7 @@
 //! transaction while it and the others go on: it stays one of the database's. Each function's contract is a law.
 
 ghost use Rattle.server_storage.specs.KeptTxns.Laws.{BeginningKeeps, OpeningKeeps, ReservingKeeps, MakingRoomKeeps, RoomMakesReady, WritingKeeps, KeptMayBeCommitted, CommittingKeeps, RollingBackKeeps, CreatingKeeps, DroppingKeeps, RenamingKeeps};
-ghost use Rattle.server_storage.specs.KeptTxns.TxnLaws.Laws.{TransactionsBegin, TransactionsGrow, TransactionsOutlastCommits, TransactionsOutlastCreations, TransactionsOutlastDrops, TransactionsOutlastRenames};
+ghost use Rattle.server_storage.specs.KeptTxns.Transactions.{TransactionsBegin, TransactionsGrow, TransactionsOutlastCommits, TransactionsOutlastCreations, TransactionsOutlastDrops, TransactionsOutlastRenames};
 
 /// Orderly tables without an open transaction keep what is kept.
 pub fn beginning_keeps()

@@ -31,7 +31,7 @@ fn set_or(set: &Option<Value>, value: &Value) -> Result<Value, AllocError>
 }
 
 /// Adds copies of the row's values, with its columns set to these, where there are such.
-#[tactic(auto, using(server_model::proofs::StatementLaws::Sets::with_sets_more, crate::proofs::Sets::with_no_sets), unfolding(server_model::specs::Saying::with_sets))]
+#[tactic(auto, using(server_model::proofs::LockedRows::Sets::with_sets_more, crate::proofs::Sets::with_no_sets), unfolding(server_model::specs::Saying::with_sets))]
 fn push_with_sets(into: &mut Row, sets: &[Option<Value>], row: &[Value]) -> Result<(), AllocError>
     ensures { OnOk result (into.new ≡ into.old ++ with_sets sets.now row.now) }
 {

@@ -1,6 +1,6 @@
 //! That what the tool asks is online: laws over journals, as contracts of functions that do nothing.
 
-ghost use Rattle.tool_program.specs.ProgramLaws.Laws.{GivenCallsAreOnline, FollowedCallsAreOnline};
+ghost use Rattle.tool_program.specs.OnlineCalls.{GivenCallsAreOnline, FollowedCallsAreOnline};
 
 /// What is given to an actor of the tool is online; and so is each call of the tool's in a journal that follows the
 /// program. That no chunk copies more rows than its size is not among it.

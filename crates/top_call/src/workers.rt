@@ -1,6 +1,6 @@
 //! What worker threads ask of a plan, every plan that is read has: each function's contract is a law.
 
-ghost use Rattle.top_call.specs.WorkerLaws.Laws.{ReadPlansGo};
+ghost use Rattle.top_call.specs.WorkerPlans.{ReadPlansGo};
 
 use law_journals::plans::read_plans_are_runnable;
 use law_journals::runs::accepted_runs_go_on;

@@ -3,7 +3,7 @@
 ghost use Rattle.std.specs.Prelude.{◌≡◌, ◌≤◌, Some, IfSome, IfOk};
 ghost use Rattle.tool_program.specs.JournalWords.Journals.{opening};
 ghost use Rattle.tool_program.specs.Verdicts.{verdict_of};
-ghost use Rattle.proof_plans.specs.AcceptedLaws.Laws.{WasRead};
+ghost use Rattle.proof_plans.specs.ReadPlans.Laws.{WasRead};
 ghost use Rattle.run_desk.specs.declared.turn_queue_workers.ending.Ending.TheVariants as endings;
 ghost use Rattle.top_call.specs.WholeReplays.Replays.{IsEnd};
 ghost use Rattle.top_call.specs.PlanWorks.Works.{IsWholeRun};

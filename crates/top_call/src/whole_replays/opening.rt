@@ -3,7 +3,7 @@
 ghost use Rattle.std.specs.Prelude.{◌≡◌, [], ◌∷◌, IfOk};
 ghost use Rattle.tool_program.specs.JournalWords.Journals.{opening};
 ghost use Rattle.base_values.specs.ToolNames.{log_name};
-ghost use Rattle.proof_plans.specs.AcceptedLaws.Laws.{WasRead};
+ghost use Rattle.proof_plans.specs.ReadPlans.Laws.{WasRead};
 
 use base_values::tool_names::log_name;
 use base_values::{Duplicate, Names, Sequence};

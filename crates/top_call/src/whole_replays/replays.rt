@@ -3,7 +3,7 @@
 ghost use Rattle.std.specs.Prelude.{◌≡◌, ◌≢◌, is_some, Some, IfSome, IfOk};
 ghost use Rattle.tool_program.specs.JournalWords.Journals.{opening};
 ghost use Rattle.tool_program.specs.Verdicts.{verdict_of};
-ghost use Rattle.proof_plans.specs.AcceptedLaws.Laws.{WasRead};
+ghost use Rattle.proof_plans.specs.ReadPlans.Laws.{WasRead};
 ghost use Rattle.run_replay.specs.declared.whole_replay.replays.Replayed.TheVariants as answers;
 ghost use Rattle.top_call.specs.WholeReplays.Replays.{IsWholeReplay, IsEnd};
 

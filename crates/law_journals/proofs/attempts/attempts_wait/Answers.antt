@@ -1,4 +1,4 @@
-use Rattle.proof_migration.proofs.AttemptLaws.Standing.{all_wait}
+use Rattle.proof_migration.proofs.Attempt.Standing.{all_wait}
 use Rattle.law_journals.proofs.attempts.attempts_wait.Goals as goal
 
 pub returns : goal.returns

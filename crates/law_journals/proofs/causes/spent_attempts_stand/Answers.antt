@@ -1,4 +1,4 @@
-use Rattle.proof_migration.proofs.AttemptLaws.VerdictLaws.Standing.{all_attempts}
+use Rattle.proof_migration.proofs.Attempt.Verdicts.Standing.{all_attempts}
 use Rattle.law_journals.proofs.causes.spent_attempts_stand.Goals as goal
 
 pub returns : goal.returns

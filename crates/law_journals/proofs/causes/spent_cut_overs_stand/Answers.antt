@@ -1,4 +1,4 @@
-use Rattle.proof_migration.proofs.AttemptLaws.CauseLaws.Spent.{all_spent_attempts}
+use Rattle.proof_migration.proofs.Attempt.Causes.Spent.{all_spent_attempts}
 use Rattle.law_journals.proofs.causes.spent_cut_overs_stand.Goals as goal
 
 pub returns : goal.returns

@@ -1,4 +1,4 @@
-use Rattle.proof_migration.proofs.AttemptLaws.VerdictLaws.Standing.{all_spent}
+use Rattle.proof_migration.proofs.Attempt.Verdicts.Standing.{all_spent}
 use Rattle.law_journals.proofs.causes.spent_tasks_stand.Goals as goal
 
 pub returns : goal.returns

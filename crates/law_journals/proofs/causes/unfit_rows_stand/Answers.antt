@@ -1,4 +1,4 @@
-use Rattle.proof_migration.proofs.UnfitLaws.Unfit.{rows_stand}
+use Rattle.proof_migration.proofs.Unfit.Rows.{rows_stand}
 use Rattle.law_journals.proofs.causes.unfit_rows_stand.Goals as goal
 
 pub returns : goal.returns

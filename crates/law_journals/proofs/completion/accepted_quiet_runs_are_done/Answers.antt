@@ -1,4 +1,4 @@
-use Rattle.proof_plans.proofs.CompleteLaws.Accepted.{accepted_are_done}
+use Rattle.proof_plans.proofs.Complete.Accepted.{accepted_are_done}
 use Rattle.law_journals.proofs.completion.accepted_quiet_runs_are_done.Goals as goal
 
 pub returns : goal.returns

@@ -1,4 +1,4 @@
-use Rattle.proof_plans.proofs.CompleteLaws.WaitsOver.{quiet_are_done}
+use Rattle.proof_plans.proofs.Complete.WaitsOver.{quiet_are_done}
 use Rattle.law_journals.proofs.completion.quiet_runs_are_done.Goals as goal
 
 pub returns : goal.returns

@@ -1,4 +1,4 @@
-use Rattle.proof_plans.proofs.CompleteLaws.Smooth.{smooth_are_done}
+use Rattle.proof_plans.proofs.Complete.Smooth.{smooth_are_done}
 use Rattle.law_journals.proofs.completion.smooth_runs_are_done.Goals as goal
 
 pub returns : goal.returns

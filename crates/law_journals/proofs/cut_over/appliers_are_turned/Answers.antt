@@ -1,4 +1,4 @@
-use Rattle.proof_migration.proofs.FollowLaws.BatchTurns.Turns.{appliers_turned}
+use Rattle.proof_migration.proofs.Program.BatchTurns.Turns.{appliers_turned}
 use Rattle.law_journals.proofs.cut_over.appliers_are_turned.Goals as goal
 
 pub returns : goal.returns

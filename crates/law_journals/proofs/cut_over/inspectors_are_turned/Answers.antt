@@ -1,4 +1,4 @@
-use Rattle.proof_migration.proofs.FollowLaws.InspectorTurns.Inspectors.{inspectors_turned}
+use Rattle.proof_migration.proofs.Program.InspectorTurns.Inspectors.{inspectors_turned}
 use Rattle.law_journals.proofs.cut_over.inspectors_are_turned.Goals as goal
 
 pub returns : goal.returns

@@ -1,4 +1,4 @@
-use Rattle.proof_migration.proofs.RenameLaws.Renames.{journals_turned}
+use Rattle.proof_migration.proofs.CutOver.Renames.{journals_turned}
 use Rattle.law_journals.proofs.cut_over.journals_are_turned.Goals as goal
 
 pub returns : goal.returns

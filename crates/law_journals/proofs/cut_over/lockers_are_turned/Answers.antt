@@ -1,4 +1,4 @@
-use Rattle.proof_migration.proofs.FollowLaws.LockerTurns.Lockers.{lockers_turned}
+use Rattle.proof_migration.proofs.Program.LockerTurns.Lockers.{lockers_turned}
 use Rattle.law_journals.proofs.cut_over.lockers_are_turned.Goals as goal
 
 pub returns : goal.returns

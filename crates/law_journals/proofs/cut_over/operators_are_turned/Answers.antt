@@ -1,4 +1,4 @@
-use Rattle.proof_migration.proofs.RenameLaws.Clients.{operators_turned}
+use Rattle.proof_migration.proofs.CutOver.Clients.{operators_turned}
 use Rattle.law_journals.proofs.cut_over.operators_are_turned.Goals as goal
 
 pub returns : goal.returns

@@ -1,4 +1,4 @@
-use Rattle.proof_migration.proofs.RenameLaws.Renames.{renames_marked}
+use Rattle.proof_migration.proofs.CutOver.Renames.{renames_marked}
 use Rattle.law_journals.proofs.cut_over.renames_come_at_the_mark.Goals as goal
 
 pub returns : goal.returns

@@ -1,4 +1,4 @@
-use Rattle.proof_migration.proofs.OnceLaws.Whole.{come_once}
+use Rattle.proof_migration.proofs.Once.Whole.{come_once}
 use Rattle.law_journals.proofs.cut_over.renames_come_once.Goals as goal
 
 pub returns : goal.returns

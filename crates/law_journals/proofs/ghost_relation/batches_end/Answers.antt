@@ -1,4 +1,4 @@
-use Rattle.proof_journals.proofs.GhostLaws.GhostRelation.AllViews.{batch_commits, batch_rolls_back, lowers_all}
+use Rattle.proof_journals.proofs.Ghost.Relation.AllViews.{batch_commits, batch_rolls_back, lowers_all}
 use Rattle.law_journals.proofs.ghost_relation.batches_end.Goals as goal
 
 pub returns-clause-committed : goal.returns-clause-committed

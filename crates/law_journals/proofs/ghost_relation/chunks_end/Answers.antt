@@ -1,4 +1,4 @@
-use Rattle.proof_journals.proofs.GhostLaws.GhostRelation.AllViews.{chunk_is_committed, chunk_rolls_back}
+use Rattle.proof_journals.proofs.Ghost.Relation.AllViews.{chunk_is_committed, chunk_rolls_back}
 use Rattle.law_journals.proofs.ghost_relation.chunks_end.Goals as goal
 
 pub returns-clause-committed : goal.returns-clause-committed

@@ -1,4 +1,4 @@
-use Rattle.proof_journals.proofs.GhostLaws.GhostRelation.AllViews.{event_applied, half_applied, event_passes}
+use Rattle.proof_journals.proofs.Ghost.Relation.AllViews.{event_applied, half_applied, event_passes}
 use Rattle.law_journals.proofs.ghost_relation.events_apply.Goals as goal
 
 pub returns-clause-whole : goal.returns-clause-whole

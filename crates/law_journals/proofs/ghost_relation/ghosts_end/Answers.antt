@@ -1,4 +1,4 @@
-use Rattle.proof_journals.proofs.GhostLaws.GhostRelation.OneView.{ends, ends_row}
+use Rattle.proof_journals.proofs.Ghost.Relation.OneView.{ends, ends_row}
 use Rattle.law_journals.proofs.ghost_relation.ghosts_end.Goals as goal
 
 pub returns : goal.returns

@@ -1,4 +1,4 @@
-use Rattle.proof_journals.proofs.GhostLaws.GhostRelation.AllViews.{logs_grow}
+use Rattle.proof_journals.proofs.Ghost.Relation.AllViews.{logs_grow}
 use Rattle.law_journals.proofs.ghost_relation.logs_grow.Goals as goal
 
 pub returns : goal.returns

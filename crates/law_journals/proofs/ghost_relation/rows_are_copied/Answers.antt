@@ -1,4 +1,4 @@
-use Rattle.proof_journals.proofs.GhostLaws.GhostRelation.AllViews.{more_done, copies_new, copies_none}
+use Rattle.proof_journals.proofs.Ghost.Relation.AllViews.{more_done, copies_new, copies_none}
 use Rattle.law_journals.proofs.ghost_relation.rows_are_copied.Goals as goal
 
 pub returns-clause-begun : goal.returns-clause-begun

@@ -1,4 +1,4 @@
-use Rattle.proof_journals.proofs.GhostLaws.GhostRelation.Statements.{replaces, deletes, updates}
+use Rattle.proof_journals.proofs.Ghost.Relation.Statements.{replaces, deletes, updates}
 use Rattle.law_journals.proofs.ghost_relation.statements_apply.Goals as goal
 
 pub returns-clause-replace : goal.returns-clause-replace

@@ -1,4 +1,4 @@
-use Rattle.proof_journals.proofs.GhostLaws.GhostRows.Steps.{batch_commits_on, batch_rolls_back_on, batch_is_to_repeat}
+use Rattle.proof_journals.proofs.Ghost.Rows.Steps.{batch_commits_on, batch_rolls_back_on, batch_is_to_repeat}
 use Rattle.law_journals.proofs.ghost_rows.batches_end.Goals as goal
 
 pub returns-clause-committed : goal.returns-clause-committed

@@ -1,4 +1,4 @@
-use Rattle.proof_journals.proofs.GhostLaws.GhostRows.Steps.{chunk_commits_on, chunk_rolls_back_on, chunk_is_to_repeat, range_ends}
+use Rattle.proof_journals.proofs.Ghost.Rows.Steps.{chunk_commits_on, chunk_rolls_back_on, chunk_is_to_repeat, range_ends}
 use Rattle.law_journals.proofs.ghost_rows.chunks_end.Goals as goal
 
 pub returns-clause-committed : goal.returns-clause-committed

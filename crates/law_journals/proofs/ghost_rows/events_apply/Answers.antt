@@ -1,4 +1,4 @@
-use Rattle.proof_journals.proofs.GhostLaws.GhostRows.Steps.{replace_is_applied, delete_is_applied, update_is_applied, update_is_missed, half_is_applied, event_is_passed}
+use Rattle.proof_journals.proofs.Ghost.Rows.Steps.{replace_is_applied, delete_is_applied, update_is_applied, update_is_missed, half_is_applied, event_is_passed}
 use Rattle.law_journals.proofs.ghost_rows.events_apply.Goals as goal
 
 pub returns-clause-replace : goal.returns-clause-replace

@@ -1,4 +1,4 @@
-use Rattle.proof_journals.proofs.GhostLaws.GhostRows.Steps.{ghost_is_the_altered}
+use Rattle.proof_journals.proofs.Ghost.Rows.Steps.{ghost_is_the_altered}
 use Rattle.law_journals.proofs.ghost_rows.ghosts_are_altered.Goals as goal
 
 pub returns : goal.returns

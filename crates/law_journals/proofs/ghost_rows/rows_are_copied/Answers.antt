@@ -1,4 +1,4 @@
-use Rattle.proof_journals.proofs.GhostLaws.GhostRows.Steps.{chunk_begins_on, row_is_copied, row_is_met}
+use Rattle.proof_journals.proofs.Ghost.Rows.Steps.{chunk_begins_on, row_is_copied, row_is_met}
 use Rattle.law_journals.proofs.ghost_rows.rows_are_copied.Goals as goal
 
 pub returns-clause-begun : goal.returns-clause-begun

@@ -1,4 +1,4 @@
-use Rattle.proof_journals.proofs.GhostLaws.Tooling.{tool_reads, tool_passes}
+use Rattle.proof_journals.proofs.Ghost.Tooling.{tool_reads, tool_passes}
 use Rattle.law_journals.proofs.ghost_turns.batches_begin.Goals as goal
 
 pub returns-clause-read : goal.returns-clause-read

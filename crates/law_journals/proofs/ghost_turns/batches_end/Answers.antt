@@ -1,4 +1,4 @@
-use Rattle.proof_journals.proofs.GhostLaws.Tooling.{tool_commits_batch, tool_repeats_batch, tool_loses_batch}
+use Rattle.proof_journals.proofs.Ghost.Tooling.{tool_commits_batch, tool_repeats_batch, tool_loses_batch}
 use Rattle.law_journals.proofs.ghost_turns.batches_end.Goals as goal
 
 pub returns-clause-committed : goal.returns-clause-committed

@@ -1,4 +1,4 @@
-use Rattle.proof_journals.proofs.GhostLaws.Tooling.{tool_commits_chunk, tool_copied, tool_loses_chunk, tool_repeats_chunk}
+use Rattle.proof_journals.proofs.Ghost.Tooling.{tool_commits_chunk, tool_copied, tool_loses_chunk, tool_repeats_chunk}
 use Rattle.law_journals.proofs.ghost_turns.chunks_end.Goals as goal
 
 pub returns-clause-committed : goal.returns-clause-committed

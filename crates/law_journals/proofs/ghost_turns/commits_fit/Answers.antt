@@ -1,5 +1,5 @@
-use Rattle.proof_journals.proofs.GhostLaws.Changing.{same_change}
-use Rattle.proof_journals.proofs.GhostLaws.Placed.{commits_fit}
+use Rattle.proof_journals.proofs.Ghost.Changing.{same_change}
+use Rattle.proof_journals.proofs.Ghost.Placed.{commits_fit}
 use Rattle.law_journals.proofs.ghost_turns.commits_fit.Goals as goal
 
 pub returns-clause-changes : goal.returns-clause-changes

@@ -1,4 +1,4 @@
-use Rattle.proof_journals.proofs.GhostLaws.Copies.{copies_alter, scene_copies_alter}
+use Rattle.proof_journals.proofs.Ghost.Copies.{copies_alter, scene_copies_alter}
 use Rattle.law_journals.proofs.ghost_turns.copies_alter.Goals as goal
 
 pub returns-clause-served : goal.returns-clause-served

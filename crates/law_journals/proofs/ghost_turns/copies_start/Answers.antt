@@ -1,4 +1,4 @@
-use Rattle.proof_journals.proofs.GhostLaws.Starting.{tool_starts, tool_starts_empty}
+use Rattle.proof_journals.proofs.Ghost.Starting.{tool_starts, tool_starts_empty}
 use Rattle.law_journals.proofs.ghost_turns.copies_start.Goals as goal
 
 pub returns-clause-started : goal.returns-clause-started

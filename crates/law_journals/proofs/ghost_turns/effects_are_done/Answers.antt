@@ -1,5 +1,5 @@
-use Rattle.proof_journals.proofs.GhostLaws.Leaving.{effects_are_done}
-use Rattle.proof_journals.proofs.GhostLaws.Undone.{cuts_are_left, effects_answer, undone_is_left}
+use Rattle.proof_journals.proofs.Ghost.Leaving.{effects_are_done}
+use Rattle.proof_journals.proofs.Ghost.Undone.{cuts_are_left, effects_answer, undone_is_left}
 use Rattle.law_journals.proofs.ghost_turns.effects_are_done.Goals as goal
 
 pub returns-clause-done : goal.returns-clause-done

@@ -1,4 +1,4 @@
-use Rattle.proof_journals.proofs.GhostLaws.Tooling.{client_commits, tool_rests, tool_moves}
+use Rattle.proof_journals.proofs.Ghost.Tooling.{client_commits, tool_rests, tool_moves}
 use Rattle.law_journals.proofs.ghost_turns.others_go_on.Goals as goal
 
 pub returns-clause-committed : goal.returns-clause-committed

@@ -1,5 +1,5 @@
-use Rattle.proof_journals.proofs.GhostLaws.Tooling.{tool_puts, tool_puts_second, tool_refused}
-use Rattle.proof_journals.proofs.GhostLaws.Placed.{row_is_removed, row_is_changed, unfit_row_is_missed, refused_row_is_removed}
+use Rattle.proof_journals.proofs.Ghost.Tooling.{tool_puts, tool_puts_second, tool_refused}
+use Rattle.proof_journals.proofs.Ghost.Placed.{row_is_removed, row_is_changed, unfit_row_is_missed, refused_row_is_removed}
 use Rattle.law_journals.proofs.ghost_turns.rows_are_applied.Goals as goal
 
 pub returns-clause-put : goal.returns-clause-put

@@ -1,5 +1,5 @@
-use Rattle.proof_journals.proofs.GhostLaws.Starting.{chunk_told, key_told}
-use Rattle.proof_journals.proofs.GhostLaws.Tooling.{tool_begins, tool_copies}
+use Rattle.proof_journals.proofs.Ghost.Starting.{chunk_told, key_told}
+use Rattle.proof_journals.proofs.Ghost.Tooling.{tool_begins, tool_copies}
 use Rattle.law_journals.proofs.ghost_turns.rows_are_copied.Goals as goal
 
 pub returns-clause-told : goal.returns-clause-told

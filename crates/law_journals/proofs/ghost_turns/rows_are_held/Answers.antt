@@ -1,5 +1,5 @@
-use Rattle.proof_journals.proofs.GhostLaws.Keys.{row_locked, locked_apart}
-use Rattle.proof_journals.proofs.GhostLaws.Disjoint.{disjoint_rows}
+use Rattle.proof_journals.proofs.Ghost.Keys.{row_locked, locked_apart}
+use Rattle.proof_journals.proofs.Ghost.Disjoint.{disjoint_rows}
 use Rattle.law_journals.proofs.ghost_turns.rows_are_held.Goals as goal
 
 pub returns-clause-held : goal.returns-clause-held

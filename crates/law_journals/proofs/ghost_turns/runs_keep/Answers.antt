@@ -1,4 +1,4 @@
-use Rattle.proof_journals.proofs.GhostLaws.Running.{runs_keep}
+use Rattle.proof_journals.proofs.Ghost.Running.{runs_keep}
 use Rattle.law_journals.proofs.ghost_turns.runs_keep.Goals as goal
 
 pub returns : goal.returns

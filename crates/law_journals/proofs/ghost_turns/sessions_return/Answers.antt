@@ -1,4 +1,4 @@
-use Rattle.proof_journals.proofs.GhostLaws.Returning.{copier_returns, applier_returns}
+use Rattle.proof_journals.proofs.Ghost.Returning.{copier_returns, applier_returns}
 use Rattle.law_journals.proofs.ghost_turns.sessions_return.Goals as goal
 
 pub returns-clause-copier : goal.returns-clause-copier

@@ -1,4 +1,4 @@
-use Rattle.proof_journals.proofs.GhostLaws.Turns.{writes_fit}
+use Rattle.proof_journals.proofs.Ghost.Turns.{writes_fit}
 use Rattle.law_journals.proofs.ghost_turns.writes_fit.Goals as goal
 
 pub returns : goal.returns

@@ -1,4 +1,4 @@
-use Rattle.proof_migration.proofs.FollowLaws.HintLaws.Known.{hints_known}
+use Rattle.proof_migration.proofs.Program.Hints.Known.{hints_known}
 use Rattle.law_journals.proofs.hints.hints_are_known.Goals as goal
 
 pub returns : goal.returns

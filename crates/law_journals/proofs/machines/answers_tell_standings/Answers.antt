@@ -1,4 +1,4 @@
-use Rattle.proof_journals.proofs.MachineLaws.Calling.{answers_tell}
+use Rattle.proof_journals.proofs.Machine.Calling.{answers_tell}
 use Rattle.law_journals.proofs.machines.answers_tell_standings.Goals as goal
 
 pub returns : goal.returns

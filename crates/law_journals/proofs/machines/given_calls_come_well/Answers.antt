@@ -1,4 +1,4 @@
-use Rattle.proof_journals.proofs.MachineLaws.Calling.{given_calls}
+use Rattle.proof_journals.proofs.Machine.Calling.{given_calls}
 use Rattle.law_journals.proofs.machines.given_calls_come_well.Goals as goal
 
 pub returns : goal.returns

@@ -1,4 +1,4 @@
-use Rattle.proof_journals.proofs.MachineLaws.Making.{given_may}
+use Rattle.proof_journals.proofs.Machine.Making.{given_may}
 use Rattle.law_journals.proofs.machines.given_calls_may_be_made.Goals as goal
 
 pub returns : goal.returns

@@ -1,4 +1,4 @@
-use Rattle.proof_journals.proofs.MachineLaws.Whole.{losses}
+use Rattle.proof_journals.proofs.Machine.Whole.{losses}
 use Rattle.law_journals.proofs.machines.losses_may_be.Goals as goal
 
 pub returns : goal.returns

@@ -1,4 +1,4 @@
-use Rattle.proof_journals.proofs.MachineLaws.Calling.{machines_stand}
+use Rattle.proof_journals.proofs.Machine.Calling.{machines_stand}
 use Rattle.law_journals.proofs.machines.machines_stand.Goals as goal
 
 pub returns : goal.returns

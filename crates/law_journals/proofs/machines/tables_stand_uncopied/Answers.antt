@@ -1,4 +1,4 @@
-use Rattle.proof_journals.proofs.MachineLaws.Tabling.{tables_stand}
+use Rattle.proof_journals.proofs.Machine.Tabling.{tables_stand}
 use Rattle.law_journals.proofs.machines.tables_stand_uncopied.Goals as goal
 
 pub returns : goal.returns

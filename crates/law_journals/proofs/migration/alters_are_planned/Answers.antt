@@ -1,4 +1,4 @@
-use Rattle.proof_migration.proofs.MigrationLaws.PlanningLaws.Planned.{alters_planned}
+use Rattle.proof_migration.proofs.Migration.Planning.Planned.{alters_planned}
 use Rattle.law_journals.proofs.migration.alters_are_planned.Goals as goal
 
 pub returns : goal.returns

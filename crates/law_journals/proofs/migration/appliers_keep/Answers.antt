@@ -1,4 +1,4 @@
-use Rattle.proof_migration.proofs.MigrationLaws.ApplyLaws.Appliers.{appliers_keep}
+use Rattle.proof_migration.proofs.Migration.Applier.Appliers.{appliers_keep}
 use Rattle.law_journals.proofs.migration.appliers_keep.Goals as goal
 
 pub returns : goal.returns

@@ -1,4 +1,4 @@
-use Rattle.proof_migration.proofs.MigrationLaws.CopyLaws.Copiers.{copiers_keep}
+use Rattle.proof_migration.proofs.Migration.Copier.Copiers.{copiers_keep}
 use Rattle.law_journals.proofs.migration.copiers_keep.Goals as goal
 
 pub returns : goal.returns

@@ -1,4 +1,4 @@
-use Rattle.proof_migration.proofs.MigrationLaws.Migrating.{journals_alter}
+use Rattle.proof_migration.proofs.Migration.Migrating.{journals_alter}
 use Rattle.law_journals.proofs.migration.journals_alter.Goals as goal
 
 pub returns : goal.returns

@@ -1,4 +1,4 @@
-use Rattle.proof_migration.proofs.MigrationLaws.Migrating.{moves_keep, turns_keep}
+use Rattle.proof_migration.proofs.Migration.Migrating.{moves_keep, turns_keep}
 use Rattle.law_journals.proofs.migration.migrations_go_on.Goals as goal
 
 pub returns-clause-turns : goal.returns-clause-turns

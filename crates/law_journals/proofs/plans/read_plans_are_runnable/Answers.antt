@@ -1,4 +1,4 @@
-use Rattle.proof_plans.proofs.AcceptedLaws.Plans.{plans_runnable}
+use Rattle.proof_plans.proofs.ReadPlans.Plans.{plans_runnable}
 use Rattle.law_journals.proofs.plans.read_plans_are_runnable.Goals as goal
 
 pub returns : goal.returns

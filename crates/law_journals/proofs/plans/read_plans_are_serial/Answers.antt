@@ -1,4 +1,4 @@
-use Rattle.proof_plans.proofs.AcceptedLaws.Plans.{plans_alterable, plans_serial, tables_stand}
+use Rattle.proof_plans.proofs.ReadPlans.Plans.{plans_alterable, plans_serial, tables_stand}
 use Rattle.law_journals.proofs.plans.read_plans_are_serial.Goals as goal
 
 pub returns : goal.returns

@@ -1,5 +1,5 @@
-use Rattle.proof_plans.proofs.AcceptedLaws.Plans.{attempts_drain}
-use Rattle.proof_plans.proofs.AcceptedLaws.Stated.{read_worded}
+use Rattle.proof_plans.proofs.ReadPlans.Plans.{attempts_drain}
+use Rattle.proof_plans.proofs.ReadPlans.Stated.{read_worded}
 use Rattle.law_journals.proofs.plans.read_plans_are_worded.Goals as goal
 
 pub returns : goal.returns

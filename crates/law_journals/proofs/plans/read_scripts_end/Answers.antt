@@ -1,4 +1,4 @@
-use Rattle.proof_plans.proofs.AcceptedLaws.Plans.{scripts_end}
+use Rattle.proof_plans.proofs.ReadPlans.Plans.{scripts_end}
 use Rattle.law_journals.proofs.plans.read_scripts_end.Goals as goal
 
 pub returns : goal.returns

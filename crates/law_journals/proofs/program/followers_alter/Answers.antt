@@ -1,4 +1,4 @@
-use Rattle.proof_migration.proofs.FollowLaws.Follows.{followers_alter}
+use Rattle.proof_migration.proofs.Program.Follows.{followers_alter}
 use Rattle.law_journals.proofs.program.followers_alter.Goals as goal
 
 pub returns : goal.returns

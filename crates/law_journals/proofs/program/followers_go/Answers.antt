@@ -1,4 +1,4 @@
-use Rattle.proof_migration.proofs.FollowLaws.Starts.{followers_go}
+use Rattle.proof_migration.proofs.Program.Starts.{followers_go}
 use Rattle.law_journals.proofs.program.followers_go.Goals as goal
 
 pub returns : goal.returns

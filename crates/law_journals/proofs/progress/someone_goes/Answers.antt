@@ -1,4 +1,4 @@
-use Rattle.proof_migration.proofs.GoingLaws.Goes.{someone_goes}
+use Rattle.proof_migration.proofs.Going.Goes.{someone_goes}
 use Rattle.law_journals.proofs.progress.someone_goes.Goals as goal
 
 pub returns : goal.returns

@@ -1,4 +1,4 @@
-use Rattle.proof_journals.proofs.SentryLaws.Inductions.{all_guarded}
+use Rattle.proof_journals.proofs.Sentry.Inductions.{all_guarded}
 use Rattle.law_journals.proofs.sentry.journals_are_guarded.Goals as goal
 
 pub returns : goal.returns

@@ -1,5 +1,5 @@
-use Rattle.proof_journals.proofs.SentryLaws.Agreeing.{renames_follow}
-use Rattle.proof_journals.proofs.SentryLaws.Inductions.{renames_are_whole}
+use Rattle.proof_journals.proofs.Sentry.Agreeing.{renames_follow}
+use Rattle.proof_journals.proofs.Sentry.Inductions.{renames_are_whole}
 use Rattle.law_journals.proofs.sentry.renames_are_whole.Goals as goal
 
 pub returns-clause-whole : goal.returns-clause-whole

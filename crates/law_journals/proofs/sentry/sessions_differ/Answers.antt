@@ -1,4 +1,4 @@
-use Rattle.proof_journals.proofs.SentryLaws.Sessions.{live_is_last, sessions_differ}
+use Rattle.proof_journals.proofs.Sentry.Sessions.{live_is_last, sessions_differ}
 use Rattle.law_journals.proofs.sentry.sessions_differ.Goals as goal
 
 pub returns-clause-differ : goal.returns-clause-differ

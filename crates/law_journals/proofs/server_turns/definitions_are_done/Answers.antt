@@ -1,4 +1,4 @@
-use Rattle.proof_journals.proofs.ServerLaws.Defining.{definitions_are_done}
+use Rattle.proof_journals.proofs.ServerTurns.Defining.{definitions_are_done}
 use Rattle.law_journals.proofs.server_turns.definitions_are_done.Goals as goal
 
 pub returns : goal.returns

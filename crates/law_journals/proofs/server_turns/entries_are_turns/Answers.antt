@@ -1,4 +1,4 @@
-use Rattle.proof_journals.proofs.ServerLaws.Others.{entries_are_turns}
+use Rattle.proof_journals.proofs.ServerTurns.Others.{entries_are_turns}
 use Rattle.law_journals.proofs.server_turns.entries_are_turns.Goals as goal
 
 pub returns : goal.returns

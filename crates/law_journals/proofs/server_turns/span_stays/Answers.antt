@@ -1,4 +1,4 @@
-use Rattle.proof_journals.proofs.ServerLaws.Spans.{span_stays}
+use Rattle.proof_journals.proofs.ServerTurns.Spans.{span_stays}
 use Rattle.law_journals.proofs.server_turns.span_stays.Goals as goal
 
 pub returns : goal.returns

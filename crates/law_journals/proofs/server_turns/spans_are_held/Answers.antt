@@ -1,4 +1,4 @@
-use Rattle.proof_journals.proofs.ServerLaws.Beginning.{spans_are_held}
+use Rattle.proof_journals.proofs.ServerTurns.Beginning.{spans_are_held}
 use Rattle.law_journals.proofs.server_turns.spans_are_held.Goals as goal
 
 pub returns : goal.returns

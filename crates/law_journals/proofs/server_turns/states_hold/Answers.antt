@@ -1,4 +1,4 @@
-use Rattle.proof_journals.proofs.ServerLaws.Holding.{states_hold}
+use Rattle.proof_journals.proofs.ServerTurns.Holding.{states_hold}
 use Rattle.law_journals.proofs.server_turns.states_hold.Goals as goal
 
 pub returns : goal.returns

@@ -1,4 +1,4 @@
-use Rattle.proof_migration.proofs.FollowLaws.HoldLaws.Holds.{holds_live}
+use Rattle.proof_migration.proofs.Program.Holds.Live.{holds_live}
 use Rattle.law_journals.proofs.sessions.holds_are_live.Goals as goal
 
 pub returns : goal.returns

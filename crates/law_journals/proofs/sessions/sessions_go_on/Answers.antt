@@ -1,4 +1,4 @@
-use Rattle.proof_migration.proofs.FollowLaws.HoldLaws.Holds.{lockers_go_on, renamers_go_on}
+use Rattle.proof_migration.proofs.Program.Holds.Live.{lockers_go_on, renamers_go_on}
 use Rattle.law_journals.proofs.sessions.sessions_go_on.Goals as goal
 
 pub returns-clause-locker : goal.returns-clause-locker

@@ -1,4 +1,4 @@
-use Rattle.proof_migration.proofs.CourseLaws.WaitsLaws.Told.{all_told}
+use Rattle.proof_migration.proofs.Course.Waits.Told.{all_told}
 use Rattle.law_journals.proofs.sessions.waits_are_told.Goals as goal
 
 pub returns : goal.returns

@@ -1,5 +1,5 @@
-use Rattle.proof_journals.proofs.RunLaws.Taking.{server_is, turns_are, taken_are}
-use Rattle.proof_journals.proofs.RunLaws.Keeping.{next_of, kept_more}
+use Rattle.proof_journals.proofs.Run.Taking.{server_is, turns_are, taken_are}
+use Rattle.proof_journals.proofs.Run.Keeping.{next_of, kept_more}
 use Rattle.law_journals.proofs.turns.journals_grow.Goals as goal
 
 pub returns-clause-moments : goal.returns-clause-moments

@@ -1,8 +1,8 @@
-use Rattle.proof_journals.proofs.RunLaws.Living.{all_living}
-use Rattle.proof_journals.proofs.RunLaws.Tallies.{load_turns, busy_turns, busy_counted}
-use Rattle.proof_journals.proofs.RunLaws.Turns.{entry_turned}
-use Rattle.proof_journals.proofs.RunLaws.Waits.{all_waits, lost_at_once}
-use Rattle.proof_journals.proofs.RunLaws.Numbering.{serves_numbered, leaves_numbered}
+use Rattle.proof_journals.proofs.Run.Living.{all_living}
+use Rattle.proof_journals.proofs.Run.Tallies.{load_turns, busy_turns, busy_counted}
+use Rattle.proof_journals.proofs.Run.Turns.{entry_turned}
+use Rattle.proof_journals.proofs.Run.Waits.{all_waits, lost_at_once}
+use Rattle.proof_journals.proofs.Run.Numbering.{serves_numbered, leaves_numbered}
 use Rattle.server_model.specs.Serving.{Served}
 use Rattle.tool_program.specs.JournalWords.Journals.{after_entry}
 use Rattle.std.proofs.Common.{ap}

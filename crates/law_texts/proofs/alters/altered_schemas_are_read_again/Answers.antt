@@ -1,4 +1,4 @@
-use Rattle.proof_schemas.proofs.AlterLaws.AlterRereadLaws.Whole.{altered-again}
+use Rattle.proof_schemas.proofs.Alters.ReadAgain.Whole.{altered-again}
 use Rattle.law_texts.proofs.alters.altered_schemas_are_read_again.Goals as goal
 
 pub returns : goal.returns

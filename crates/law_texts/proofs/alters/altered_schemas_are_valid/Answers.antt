@@ -1,4 +1,4 @@
-use Rattle.proof_schemas.proofs.AlterLaws.KeepingLaws.{altered-valid}
+use Rattle.proof_schemas.proofs.Alters.KeepingLaws.{altered-valid}
 use Rattle.law_texts.proofs.alters.altered_schemas_are_valid.Goals as goal
 
 pub returns : goal.returns

@@ -1,4 +1,4 @@
-use Rattle.proof_schemas.proofs.AlterLaws.ConvertedRowTables.{altered_tables_are}
+use Rattle.proof_schemas.proofs.Alters.ConvertedRowTables.{altered_tables_are}
 use Rattle.law_texts.proofs.alters.altered_tables_are_tables.Goals as goal
 
 pub returns : goal.returns

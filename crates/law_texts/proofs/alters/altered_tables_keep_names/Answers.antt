@@ -1,4 +1,4 @@
-use Rattle.proof_schemas.proofs.AlterLaws.TableNames.{keep_names}
+use Rattle.proof_schemas.proofs.Alters.TableNames.{keep_names}
 use Rattle.law_texts.proofs.alters.altered_tables_keep_names.Goals as goal
 
 pub returns : goal.returns

@@ -1,4 +1,4 @@
-use Rattle.proof_schemas.proofs.AlterLaws.ConvertedRowRows.{converted_rows_are_rows, maps_fit}
+use Rattle.proof_schemas.proofs.Alters.ConvertedRowRows.{converted_rows_are_rows, maps_fit}
 use Rattle.law_texts.proofs.alters.converted_rows_are_rows.Goals as goal
 
 pub returns-clause-rows : goal.returns-clause-rows

@@ -1,5 +1,5 @@
-use Rattle.proof_schemas.proofs.AlterLaws.ConvertedRowTables.{clustered_keys_kept}
-use Rattle.proof_schemas.proofs.AlterLaws.KeepingKeys.{keeps_keys, stay_apart, clustered_stay}
+use Rattle.proof_schemas.proofs.Alters.ConvertedRowTables.{clustered_keys_kept}
+use Rattle.proof_schemas.proofs.Alters.KeepingKeys.{keeps_keys, stay_apart, clustered_stay}
 use Rattle.law_texts.proofs.alters.converted_rows_keep_keys.Goals as goal
 
 pub returns-clause-keys : goal.returns-clause-keys

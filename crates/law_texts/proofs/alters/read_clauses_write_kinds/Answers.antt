@@ -1,4 +1,4 @@
-use Rattle.proof_schemas.proofs.AlterLaws.Clauses.{read-clauses}
+use Rattle.proof_schemas.proofs.Alters.Clauses.{read-clauses}
 use Rattle.law_texts.proofs.alters.read_clauses_write_kinds.Goals as goal
 
 pub returns : goal.returns

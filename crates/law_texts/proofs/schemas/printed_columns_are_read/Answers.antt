@@ -1,4 +1,4 @@
-use Rattle.proof_schemas.proofs.PrintLaws.Reading.{column-read}
+use Rattle.proof_schemas.proofs.Printed.Reading.{column-read}
 use Rattle.law_texts.proofs.schemas.printed_columns_are_read.Goals as goal
 
 pub returns : goal.returns

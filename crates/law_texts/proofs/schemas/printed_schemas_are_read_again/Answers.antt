@@ -1,4 +1,4 @@
-use Rattle.proof_schemas.proofs.RereadLaws.Reread.{printed-again}
+use Rattle.proof_schemas.proofs.ReadAgain.Reread.{printed-again}
 use Rattle.law_texts.proofs.schemas.printed_schemas_are_read_again.Goals as goal
 
 pub returns : goal.returns

@@ -1,4 +1,4 @@
-use Rattle.proof_schemas.proofs.RereadLaws.SoundSchemas.{read-again}
+use Rattle.proof_schemas.proofs.ReadAgain.SoundSchemas.{read-again}
 use Rattle.law_texts.proofs.schemas.read_schemas_are_read_again.Goals as goal
 
 pub returns : goal.returns

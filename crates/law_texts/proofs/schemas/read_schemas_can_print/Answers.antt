@@ -1,4 +1,4 @@
-use Rattle.proof_schemas.proofs.RereadLaws.SoundSchemas.{read-prints}
+use Rattle.proof_schemas.proofs.ReadAgain.SoundSchemas.{read-prints}
 use Rattle.law_texts.proofs.schemas.read_schemas_can_print.Goals as goal
 
 pub returns : goal.returns

@@ -1,4 +1,4 @@
-use Rattle.law_texts.proofs.WorkloadLaws.Computed.{schema_read, table_valid, alter_read, alter_taken, altered_valid}
+use Rattle.law_texts.proofs.Workloads.Computed.{schema_read, table_valid, alter_read, alter_taken, altered_valid}
 use Rattle.law_texts.proofs.workload.workload_alters_are_taken.Goals as goal
 
 pub returns : goal.returns

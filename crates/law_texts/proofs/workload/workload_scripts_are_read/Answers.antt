@@ -1,7 +1,7 @@
 use Rattle.top_workload.specs.Workloads.{row_count}
-use Rattle.law_texts.specs.WorkloadLaws.WorkloadDocument.Texts.{client_state}
-use Rattle.law_texts.proofs.WorkloadLaws.WorkloadDocument.Texts.{rows_counted}
-use Rattle.law_texts.proofs.WorkloadLaws.ScriptsRead.{script_read}
+use Rattle.law_texts.specs.Workloads.Document.Texts.{client_state}
+use Rattle.law_texts.proofs.Workloads.Document.Texts.{rows_counted}
+use Rattle.law_texts.proofs.Workloads.ScriptsRead.{script_read}
 use Rattle.law_texts.proofs.workload.workload_scripts_are_read.Goals as goal
 
 pub returns : goal.returns

@@ -1,5 +1,5 @@
-use Rattle.law_texts.proofs.WorkloadLaws.TablesRead.{tables_read}
-use Rattle.law_texts.proofs.WorkloadLaws.TablesSound.{tables_sound}
+use Rattle.law_texts.proofs.Workloads.TablesRead.{tables_read}
+use Rattle.law_texts.proofs.Workloads.TablesSound.{tables_sound}
 use Rattle.proof_schemas.proofs.Stored.{schemas_valid}
 use Rattle.law_texts.proofs.workload.workload_tables_are_read.Goals as goal
 

@@ -1,5 +1,5 @@
-use Rattle.law_texts.proofs.WorkloadLaws.WorkloadDocument.DocumentRead.{workload_read}
-use Rattle.law_texts.proofs.WorkloadLaws.WorkloadDocument.Sizes.{text_is_short, text_is_utf8}
+use Rattle.law_texts.proofs.Workloads.Document.DocumentRead.{workload_read}
+use Rattle.law_texts.proofs.Workloads.Document.Sizes.{text_is_short, text_is_utf8}
 use Rattle.law_texts.proofs.workload.workloads_are_documents.Goals as goal
 
 pub returns : goal.returns

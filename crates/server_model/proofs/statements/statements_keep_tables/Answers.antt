@@ -1,6 +1,6 @@
-use Rattle.server_model.proofs.StatementLaws.Sound.{work_sound}
-use Rattle.server_model.proofs.StatementLaws.WellFormed.{tells_well_formed}
-use Rattle.server_model.proofs.StatementLaws.Stables.{statements_keep}
+use Rattle.server_model.proofs.LockedRows.Sound.{work_sound}
+use Rattle.server_model.proofs.LockedRows.WellFormed.{tells_well_formed}
+use Rattle.server_model.proofs.LockedRows.Stables.{statements_keep}
 use Rattle.server_model.proofs.statements.statements_keep_tables.Goals as goal
 
 pub returns-clause-sound : goal.returns-clause-sound

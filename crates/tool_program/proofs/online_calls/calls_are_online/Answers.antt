@@ -1,4 +1,4 @@
-use Rattle.tool_program.proofs.ProgramLaws.Given.{given_calls, followed_calls}
+use Rattle.tool_program.proofs.OnlineCalls.Given.{given_calls, followed_calls}
 use Rattle.tool_program.proofs.online_calls.calls_are_online.Goals as goal
 
 pub returns-clause-given : goal.returns-clause-given

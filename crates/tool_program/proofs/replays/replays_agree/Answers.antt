@@ -1,4 +1,4 @@
-use Rattle.tool_program.proofs.ReplayLaws.Replays.{replays_agree, one_replay}
+use Rattle.tool_program.proofs.Replay.Replays.{replays_agree, one_replay}
 use Rattle.tool_program.proofs.replays.replays_agree.Goals as goal
 
 pub returns-clause-prefix : goal.returns-clause-prefix

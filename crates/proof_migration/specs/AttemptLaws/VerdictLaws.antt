@@ -1,2 +1,0 @@
--- A revert's cause stands in the journal: each function's contract is a law.
-pub mod Laws
