@@ -54,6 +54,7 @@ fn read_through<R: Read>(reader: &mut R, into: &mut [u8]) -> Option<usize>
     for _ in 0..u64::MAX {
         match reader.read(into) {
             Ok(taken) => return Some(taken),
+            // The system was interrupted, which is no fault: the call is made again.
             Err(error) if error.kind() == ErrorKind::Interrupted => {}
             Err(_) => return None,
         }

@@ -51,6 +51,8 @@ impl Ord for Value {
             (Value::Num(a), Value::Num(b)) => a.cmp(b),
             (Value::Text(a), Value::Text(b)) => a.as_str().cmp(b.as_str()),
             (Value::Blob(a), Value::Blob(b)) => a.as_slice().cmp(&b.as_slice()),
+            // By kind first: so the order is total, and keys can be those of a map. Keys of one table have one kind a
+            // column.
             _ => rank(self).cmp(&rank(other)),
         }
     }

@@ -19,6 +19,7 @@ pub fn print_value(value: &Value, into: &mut Text) -> Result<(), AllocError>
         Value::Null => into.push_str("NULL"),
         Value::Num(number) => into.push_number(*number),
         Value::Text(chars) => {
+            // Built aside and added once: where memory runs out, the text is as it was.
             let quoted = quoted_text(into.allocator(), chars.as_str())?;
             into.push_str(quoted.as_str())
         }

@@ -32,6 +32,7 @@ pub fn store(alloc: Global, value: &Value, kind: Kind, nullable: bool) -> Result
         },
         Value::Text(chars) => match kind {
             Kind::Int { bytes, unsigned } => match number_of(chars.as_str()) {
+                // A text's number has its range tested like any number: '300' in TINYINT UNSIGNED is refused, and not cut.
                 Some(number) => number_in_range(number, bytes, unsigned),
                 None => Err(StoreFault::Refused(Unfit::Kind)),
             },
@@ -147,6 +148,7 @@ fn half(bytes: u8) -> u64
         2 => 1 << 15,
         3 => 1 << 23,
         4 => 1 << 31,
+        // A number of bytes that no kind of MySQL's has counts as that of BIGINT, so that the function is total.
         _ => 1 << 63,
     }
 }

@@ -99,6 +99,7 @@ fn has_text(value: &Option<Value>, text: &str) -> bool
 fn checked(alloc: Global, text: &str, note: Checkpoint) -> Result<Option<Checkpoint>, AllocError>
     ensures { IfOk result (λ found. found ≡ checked text.now note) }
 {
+    // Made again and compared: so a position with a nought in front, say, is no checkpoint's.
     let value = checkpoint_value(alloc, note.position, &note.reach)?;
     if has_text(&value, text) {
         Ok(Some(note))

@@ -1,2 +1,2 @@
-pub mod OrderLaws
-pub mod WorkloadLaws
+pub mod TurnOrders
+pub mod Workloads

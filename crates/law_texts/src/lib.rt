@@ -1,6 +1,9 @@
-//! Theorems over texts: of schemas, of orders of turns, and of what `generate` prints.
+//! Theorems over texts, of functions that do nothing and whose contracts are the laws: of schemas that are read, printed or
+//! altered (`schemas`, `alters`, `values`), of orders of turns (`orders`), and of what `generate` prints (`workload`).
 #![tactic(auto)]
 
-pub mod order_laws;
-pub mod schema_laws;
-pub mod workload_laws;
+pub mod alters;
+pub mod orders;
+pub mod schemas;
+pub mod values;
+pub mod workload;

@@ -26,6 +26,7 @@ fn value_of(digits: &[u8]) -> u32
     requires { list_all is_ascii_digit digits.now ≡ true }
     ensures { result ≡ min (digits_value 10 digits.now) (2 ^ 32 - 1) }
 {
+    // Past 32 bits the greatest stands for all: it is out of every range, and the number of no client.
     let mut value: u32 = 0;
     for digit in digits {
         value = value

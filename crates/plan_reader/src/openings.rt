@@ -79,6 +79,7 @@ fn is_no_sentry(table: Option<&Table>) -> bool
 {
     match table {
         None => false,
+        // The sentry of an earlier run has the old table's name, and is known by its comment. It may always be dropped.
         Some(table) => table.schema().comment.as_str() != SENTRY_COMMENT,
     }
 }
@@ -135,7 +136,7 @@ fn altered_of(
     Ok(AlteredSchema { schema, map })
 }
 
-/// The opening of a plan. That schemas which are read are valid is a law: `law_texts::schema_laws` proves it.
+/// The opening of a plan. That schemas which are read are lawful is a law: `law_texts::schemas` proves it.
 #[tactic(auto, unfolding(crate::specs::Openings::opening_of))]
 pub fn opening_of(alloc: Global, migrated: &Name, keys: &PlanKeys<'_>) -> Result<Opening, PlanFault>
     requires valid { ReadSchemasAreValid }

@@ -18,7 +18,7 @@ use Rattle.server_model.specs.Entries.{same_actor, is_client, is_command, is_cut
 use Rattle.server_model.specs.Along.{Along-keeps}
 use Rattle.tool_program.specs.JournalWords.Sessions.{session_left, session_in, live_session, sessions_named, IsInSession, IsSeated, KeepsSessions}
 use Rattle.proof_journals.specs.Plans.{is_client_session}
-use Rattle.server_model.proofs.StatementLaws.Tests.{same_number, are_one}
+use Rattle.server_model.proofs.LockedRows.Tests.{same_number, are_one}
 
 -- ACTORS
 

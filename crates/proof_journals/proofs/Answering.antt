@@ -24,7 +24,7 @@ use Rattle.std.specs.Prelude.{option_to_list}
 use Rattle.server_model.specs.Alone.{reply_of}
 use Rattle.proof_journals.specs.Scenes.{PlainItem, Stored, Scene, NamesTable, EventsMine, SessionHold, Going, no_hold, not_going, IsSteady, IsFine, Besides}
 use Rattle.server_model.specs.Alone.{stays, commit_was_done, is_commit, is_done, is_statement, line_says, line_events, line_replies}
-use Rattle.server_model.specs.StatementLaws.Covering.{Apart}
+use Rattle.server_model.specs.LockedRows.Covering.{Apart}
 use Rattle.proof_journals.proofs.Held.{hold_in, holding_face, rests_face, said_mine, mine_both}
 use Rattle.server_model.specs.Jobs.{job_of, says, after_events}
 use Rattle.proof_journals.specs.Turns.{Adds, Ends, Breaks, line_outcome_answered}
@@ -36,7 +36,7 @@ use Rattle.server_model.specs.declared.need.Need.{Need}
 use Rattle.server_model.specs.States.{State, is_in_transaction, locked_names, session_of, view, with_session, writes_of}
 use Rattle.server_model.specs.Serving.{at_rest, commits, goes_on, holding, loses}
 use Rattle.proof_journals.specs.Asking.{does_word, need_of_word}
-use Rattle.server_model.proofs.StatementLaws.Tests.{turned}
+use Rattle.server_model.proofs.LockedRows.Tests.{turned}
 
 -- the last line of a lost transaction decides whether it was done
 commit_last : (first : TxnLine) (lines : List TxnLine) (line : TxnLine) → commit_was_done first (lines ++ line ∷ []) ≡ (is_commit line.word && is_done line.mark)

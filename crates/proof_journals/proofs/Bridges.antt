@@ -9,8 +9,8 @@ use Rattle.server_model.specs.declared.transaction.TxnLine.{TxnLine}
 use Rattle.server_model.specs.Jobs.{table_of, job_says, after_events, change_table}
 use Rattle.proof_journals.specs.Scenes.{FoundAlike, NamesTable}
 use Rattle.server_model.specs.Alone.{line_says, Ran, lines_run}
-use Rattle.server_model.proofs.StatementLaws.Finding.{found_after}
-use Rattle.server_model.proofs.StatementLaws.Stables.{one_more, more_alike}
+use Rattle.server_model.proofs.LockedRows.Finding.{found_after}
+use Rattle.server_model.proofs.LockedRows.Stables.{one_more, more_alike}
 
 pub alike_events : (names : List (List ℕ)) (a b : Database) (events : List RowEvent) → FoundAlike names a b → FoundAlike names (after_events a events) (after_events b events)
 unfolding after_events

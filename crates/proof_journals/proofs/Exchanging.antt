@@ -12,7 +12,7 @@ use Rattle.proof_journals.specs.Turns.{IsExchange}
 use Rattle.proof_journals.specs.Laws.{ExchangeAlters}
 use Rattle.proof_journals.proofs.Kept.{unfound}
 use Rattle.proof_journals.proofs.Moves.{renamed_other, renamed_new}
-use Rattle.server_model.proofs.StatementLaws.Tests.{are_same, turned_bytes}
+use Rattle.server_model.proofs.LockedRows.Tests.{are_same, turned_bytes}
 
 -- what each of two pairs that are renamed found
 pub record Both (old kept ghost : List ℕ) (tables after : Database) : Type 0 where

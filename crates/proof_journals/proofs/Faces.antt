@@ -10,14 +10,14 @@ use Rattle.server_locks.specs.RowLocks.Granting.{conflict, refusal, blocker_of_l
 use Rattle.server_locks.proofs.LeastSession.Sessions.{none_of, not_refused}
 use Rattle.server_locks.proofs.RowLocks.HeldLocks.{conflict_both_ways}
 use Rattle.server_model.specs.declared.session.Session.{Session}
-use Rattle.server_model.specs.StatementLaws.Agreeing.{Among}
-use Rattle.server_model.specs.StatementLaws.Covering.{Apart}
+use Rattle.server_model.specs.LockedRows.Agreeing.{Among}
+use Rattle.server_model.specs.LockedRows.Covering.{Apart}
 use Rattle.proof_journals.specs.Scenes.{Besides}
 use Rattle.proof_journals.specs.Holdings.{no_face, face_in, face_of}
 use Rattle.std.specs.Prelude.{is_some}
 use Rattle.server_model.specs.States.{connected, State, locks_held, new_session, session_of, with_session, writes_of, is_in_transaction}
 use Rattle.tool_program.specs.JournalWords.Journals.{opens_if}
-use Rattle.server_model.proofs.StatementLaws.Tests.{same_number, are_one}
+use Rattle.server_model.proofs.LockedRows.Tests.{same_number, are_one}
 
 -- the session that is changed, and the others
 pub changed_here : (number : ℕ) (change : Session → Session) (sessions : List Session) (found : Session) → ((s : Session) → (change s).number ≡ s.number) → session_of number sessions ≡ Some found → session_of number (with_session number change sessions) ≡ Some (change found)

@@ -10,9 +10,9 @@ use Rattle.base_script.specs.declared.script.ScriptWord.TheVariants as words
 use Rattle.server_model.specs.declared.session.Limits.{Limits}
 use Rattle.server_model.specs.declared.session.Session.{Session}
 use Rattle.server_model.specs.Along.{Along, Along-both, Along-keeps, gathered-more}
-use Rattle.server_model.specs.StatementLaws.Databases.{IsWellFormedDatabase}
+use Rattle.server_model.specs.LockedRows.Databases.{IsWellFormedDatabase}
 use Rattle.server_model.specs.Alone.{Ran, lines_run, nothing_ran}
-use Rattle.server_model.specs.StatementLaws.Stability.{RunSo}
+use Rattle.server_model.specs.LockedRows.Stability.{RunSo}
 use Rattle.proof_journals.specs.Scenes.{PlainItem, Stored, Scene, is_mine, tables_left, left, seen, NamesTable, SessionHold, Going, no_hold, not_going, IsFine, Besides}
 use Rattle.server_model.specs.declared.answer.Answer.{Answer}
 use Rattle.server_model.specs.declared.answer.Answer.TheVariants as answers
@@ -25,7 +25,7 @@ use Rattle.server_model.specs.declared.entry.Entry.{Entry}
 use Rattle.server_model.specs.Entries.{is_command, is_client}
 use Rattle.proof_journals.specs.Holdings.{Face, no_face, face_in, face_of, stored, Holds, ProperWaits}
 use Rattle.proof_journals.specs.Laws.{SceneSerial, ScenesAreSerial, IsPlain, PlainScenesAreSerial}
-use Rattle.server_model.proofs.StatementLaws.Stables.{stable_end}
+use Rattle.server_model.proofs.LockedRows.Stables.{stable_end}
 use Rattle.proof_journals.proofs.Left.{serial_left, left_found, none_alters}
 use Rattle.proof_journals.proofs.Bridges.{lines_alike}
 use Rattle.proof_journals.proofs.Kept.{kept_same, fine_rest}
@@ -47,7 +47,7 @@ use Rattle.proof_journals.specs.Asking.{word_in}
 use Rattle.tool_program.specs.JournalWords.Clients.{word_asks}
 use Rattle.server_model.specs.Locking.{need, blocker}
 use Rattle.tool_program.specs.JournalWords.Journals.{after_entry, opens, opens_if, state_after}
-use Rattle.server_model.proofs.StatementLaws.Tests.{are_one}
+use Rattle.server_model.proofs.LockedRows.Tests.{are_one}
 
 -- A CLIENT'S TURN
 

@@ -12,17 +12,17 @@ use Rattle.server_locks.proofs.RowLocks.HeldLocks.{conflict_both_ways}
 use Rattle.table_store.specs.Databases.{TableRows, Database, find_table, with_change}
 use Rattle.server_model.specs.declared.transaction.TxnEnd.{TxnEnd}
 use Rattle.server_model.specs.Alone.{stays, lines_run, nothing_ran, outcome_if, alone}
-use Rattle.server_model.specs.StatementLaws.Agreeing.{Agree}
-use Rattle.server_model.specs.StatementLaws.Covering.{Apart}
-use Rattle.server_model.specs.StatementLaws.Databases.{IsWellFormedDatabase}
+use Rattle.server_model.specs.LockedRows.Agreeing.{Agree}
+use Rattle.server_model.specs.LockedRows.Covering.{Apart}
+use Rattle.server_model.specs.LockedRows.Databases.{IsWellFormedDatabase}
 use Rattle.server_model.specs.Jobs.{after_events, change_table}
-use Rattle.server_model.specs.StatementLaws.Stability.{RunSo}
+use Rattle.server_model.specs.LockedRows.Stability.{RunSo}
 use Rattle.proof_journals.specs.Scenes.{PlainItem, Txn, Stored, Scene, is_mine, logged, seen, FoundAlike, Alike, NamesTable, Leads, Serial, SessionHold, Going, no_hold, not_going, IsLasting, EventsMine, IsFine, IsKept, Besides}
-use Rattle.server_model.proofs.StatementLaws.Finding.{agree_itself, tables_itself, found_after, change_if}
-use Rattle.server_model.proofs.StatementLaws.Stables.{stable_begin, stable_others, stable_end, covered_others, others_agree}
+use Rattle.server_model.proofs.LockedRows.Finding.{agree_itself, tables_itself, found_after, change_if}
+use Rattle.server_model.proofs.LockedRows.Stables.{stable_begin, stable_others, stable_end, covered_others, others_agree}
 use Rattle.base_values.specs.declared.event.Change.{Change}
 use Rattle.proof_journals.proofs.Tools.{safe_begin, safe_others}
-use Rattle.server_model.proofs.StatementLaws.Tests.{are_one, are_same}
+use Rattle.server_model.proofs.LockedRows.Tests.{are_one, are_same}
 
 pub apart-turn : (a b : List Lock) → Apart a b → Apart b a
 apart-turn a b apart lock other one two = conflict_both_ways lock other ∙ apart other lock two one

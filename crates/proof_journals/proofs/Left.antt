@@ -12,9 +12,9 @@ use Rattle.server_model.specs.Alone.{stays, Ran, lines_run, nothing_ran, outcome
 use Rattle.server_model.specs.Jobs.{after_events, change_table}
 use Rattle.proof_journals.specs.Scenes.{Past, PlainItem, Txn, Alter, Stored, Scene, is_mine, FoundAlike, AltersTo, Leads, Serial, tables_left, LeadsTo, SerialHistory}
 use Rattle.proof_journals.specs.Laws.{IsTxn}
-use Rattle.server_model.proofs.StatementLaws.Finding.{found_after, change_if}
+use Rattle.server_model.proofs.LockedRows.Finding.{found_after, change_if}
 use Rattle.proof_journals.proofs.Bridges.{lines_alike}
-use Rattle.server_model.proofs.StatementLaws.Tests.{same_bytes, are_same, turned_bytes}
+use Rattle.server_model.proofs.LockedRows.Tests.{same_bytes, are_same, turned_bytes}
 
 -- a table that is found has the name
 found_named : (name : List ℕ) (tables : Database) (table : TableRows) → find_table name tables ≡ Some table → bytes_eq table.schema.name name ≡ true

@@ -26,9 +26,9 @@ pub mod Linking
 pub mod Naming
 pub mod PlanJournals
 pub mod ValidTables
-pub mod ServerLaws
-pub mod GhostLaws
-pub mod RunLaws
-pub mod SentryLaws
-pub mod MachineLaws
+pub mod ServerTurns
+pub mod Ghost
+pub mod Run
+pub mod Sentry
+pub mod Machine
 pub mod ServerFacts

@@ -46,7 +46,7 @@ use Rattle.proof_journals.proofs.Journals.{opened_waits, state_more, word_back}
 use Rattle.proof_journals.proofs.Waiting.{waits_there, waits_called, waits_polled, none_waits, filter_gone}
 use Rattle.proof_journals.proofs.Progress.{plain, going_of, LineWaits, Free, Held, Alike, AsksNext, Calls, Polls, IsCut, HeardSo, client_alike, client_gone, lines_stay}
 use Rattle.proof_journals.proofs.Hearing.{heard_so}
-use Rattle.server_model.proofs.StatementLaws.Tests.{same_number, turned}
+use Rattle.server_model.proofs.LockedRows.Tests.{same_number, turned}
 
 -- ONE TURN MORE
 

@@ -8,11 +8,11 @@ use Rattle.table_store.specs.Databases.{TableRows, Database, find_table, has_tab
 use Rattle.table_store.specs.declared.renames.Pair.{Pair}
 use Rattle.table_store.specs.declared.renames.NotRenamed.TheVariants as reasons
 use Rattle.table_store.specs.declared.renames.NotRenamed.{NotRenamed}
-use Rattle.server_model.specs.StatementLaws.Covering.{IsWellFormedTable}
-use Rattle.server_model.specs.StatementLaws.Databases.{WhereFound, IsWellFormedDatabase}
+use Rattle.server_model.specs.LockedRows.Covering.{IsWellFormedTable}
+use Rattle.server_model.specs.LockedRows.Databases.{WhereFound, IsWellFormedDatabase}
 use Rattle.server_model.specs.States.{pair_names}
 use Rattle.server_model.specs.Effects.{renamed_or}
-use Rattle.server_model.proofs.StatementLaws.Tests.{same_bytes, are_same, turned_bytes, nor_left, nor_right}
+use Rattle.server_model.proofs.LockedRows.Tests.{same_bytes, are_same, turned_bytes, nor_left, nor_right}
 
 -- whole tables of these names changed
 pub record Moved (names : List (List ℕ)) (before after : Database) : Type 0 where

@@ -20,7 +20,7 @@ use Rattle.server_model.specs.States.{connected, State, name_held, names_held, n
 use Rattle.server_model.specs.declared.need.Need.{Need}
 use Rattle.server_model.specs.Serving.{at_rest, counting, exclusive, holding, locking, shared, unlocking}
 use Rattle.tool_program.specs.JournalWords.Journals.{opens_if}
-use Rattle.server_model.proofs.StatementLaws.Tests.{same_number, are_one, are_same, turned_bytes}
+use Rattle.server_model.proofs.LockedRows.Tests.{same_number, are_one, are_same, turned_bytes}
 
 -- a held name among two lists
 pub held_parts : (one : grants.HeldName) (a b : List grants.HeldName) → IsHeld one (a ++ b) → IsHeld one a ⊎ IsHeld one b

@@ -22,7 +22,7 @@ use Rattle.tool_program.specs.JournalWords.Serials as serials
 use Rattle.std.proofs.Common.{append_assoc, append-nil}
 use Rattle.proof_journals.specs.Scenes.{PlainItem, Txn, Alter, Stored, Scene, is_mine, NamesTable, Leads, Serial, tables_left}
 use Rattle.proof_journals.specs.Plans.{client_tables, names_of, script_names, client_names, IsSerialPlan}
-use Rattle.server_model.proofs.StatementLaws.Tests.{same_bytes, are_same, nor_right}
+use Rattle.server_model.proofs.LockedRows.Tests.{same_bytes, are_same, nor_right}
 
 -- A NAME AMONG OTHERS
 

@@ -16,7 +16,7 @@ use Rattle.base_script.specs.declared.script.ScriptWord.{ScriptWord}
 use Rattle.base_script.specs.declared.script.ScriptWord.TheVariants as words
 use Rattle.server_model.specs.declared.answer.Answer.{Answer}
 use Rattle.server_model.specs.declared.session.Session.{Session}
-use Rattle.server_model.specs.StatementLaws.Covering.{Apart}
+use Rattle.server_model.specs.LockedRows.Covering.{Apart}
 use Rattle.server_model.specs.Jobs.{says, job_says, after_events, copy_job}
 use Rattle.proof_journals.specs.Scenes.{PlainItem, Alter, Scene, seen, is_mine, AltersTo, NamesTable, Going, not_going, IsFine}
 use Rattle.proof_journals.specs.Turns.{LineOutcome, Still, Alters, ClientAsks, ToolAsks, AllOther, RenamesSo, DefinesSo, line_outcome_renamed, word_given, mark_lost, was_given, happens, is_busy}
@@ -47,7 +47,7 @@ use Rattle.server_model.specs.Locking.{need, need_within, blocker}
 use Rattle.server_model.specs.States.{State, is_in_transaction, locks_held, names_held, pair_names, session_of, tables_named, view, waits_for, writes_of}
 use Rattle.proof_journals.specs.Asking.{does_word, need_of_word}
 use Rattle.tool_program.specs.JournalWords.Clients.{word_asks}
-use Rattle.server_model.proofs.StatementLaws.Tests.{are_same}
+use Rattle.server_model.proofs.LockedRows.Tests.{are_same}
 
 -- WHAT A GRANT TELLS
 

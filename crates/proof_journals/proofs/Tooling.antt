@@ -20,17 +20,17 @@ use Rattle.base_script.specs.declared.statement.Statement.{Statement}
 use Rattle.server_model.specs.declared.session.Session.{Session}
 use Rattle.server_model.specs.declared.work.Work.TheVariants.{Copy}
 use Rattle.server_model.specs.Checking.{new_row}
-use Rattle.server_model.specs.StatementLaws.Agreeing.{Within}
-use Rattle.server_model.specs.StatementLaws.Covering.{Apart, IsWellFormedTable, IsSound}
-use Rattle.server_model.specs.StatementLaws.Databases.{WhereFound, IsWellFormedDatabase, TaskSound}
+use Rattle.server_model.specs.LockedRows.Agreeing.{Within}
+use Rattle.server_model.specs.LockedRows.Covering.{Apart, IsWellFormedTable, IsSound}
+use Rattle.server_model.specs.LockedRows.Databases.{WhereFound, IsWellFormedDatabase, TaskSound}
 use Rattle.server_model.specs.Jobs.{Job, table_of, job_of, says, job_says, job_needs, row_needs, after_events, copy_from, copy_job, copy_work}
 use Rattle.proof_journals.specs.Scenes.{PlainItem, Scene, seen, is_mine, Serial, SessionHold, Going, no_hold, not_going, IsFine, Besides}
 use Rattle.proof_journals.specs.Turns.{Still, happens}
 use Rattle.proof_journals.specs.Holdings.{Face, no_face, face_in, face_of, stored, Holds}
-use Rattle.server_model.proofs.StatementLaws.Sound.{new_is, refused_or}
-use Rattle.server_model.proofs.StatementLaws.Points.{within-left, within-right, within-itself}
-use Rattle.server_model.proofs.StatementLaws.Finding.{agree_within, agree_itself, says_covered}
-use Rattle.server_model.proofs.StatementLaws.Stables.{covered_both, covered_more, covered_before, statement_sound}
+use Rattle.server_model.proofs.LockedRows.Sound.{new_is, refused_or}
+use Rattle.server_model.proofs.LockedRows.Points.{within-left, within-right, within-itself}
+use Rattle.server_model.proofs.LockedRows.Finding.{agree_within, agree_itself, says_covered}
+use Rattle.server_model.proofs.LockedRows.Stables.{covered_both, covered_more, covered_before, statement_sound}
 use Rattle.proof_journals.proofs.Tools.{safe_task}
 use Rattle.proof_journals.proofs.Words.{names_left, names_last, quiet_covered}
 use Rattle.proof_journals.proofs.Faces.{faces_with, faces_without}
@@ -41,7 +41,7 @@ use Rattle.server_model.specs.Serving.{at_rest, commits, counting, forgets, goes
 use Rattle.server_model.specs.declared.need.Need.{Need}
 use Rattle.server_model.specs.States.{State, is_in_transaction, locked_names, session_of, view, with_session, writes_of}
 use Rattle.proof_journals.specs.Asking.{does_word, need_of_word}
-use Rattle.server_model.proofs.StatementLaws.Tests.{turned, same_bytes}
+use Rattle.server_model.proofs.LockedRows.Tests.{turned, same_bytes}
 
 -- a session of the tool at work on the server
 pub record ToolWork (scene : Scene) (state : State) (number : ℕ) (going : ℕ → Going) (past : List PlainItem) : Type 0 where

@@ -5,14 +5,14 @@ use Rattle.std.specs.Str.{bytes_eq}
 use Rattle.base_values.specs.declared.event.RowEvent.{RowEvent}
 use Rattle.server_locks.specs.declared.row_locks.lock.Lock.{Lock}
 use Rattle.table_store.specs.Databases.{TableRows, Database, find_table}
-use Rattle.server_model.specs.StatementLaws.Agreeing.{TablesAgree, Agree, Within}
-use Rattle.server_model.specs.StatementLaws.Covering.{IsSound}
-use Rattle.server_model.specs.StatementLaws.Databases.{TaskSound, IsWellFormedDatabase, WhereFound}
+use Rattle.server_model.specs.LockedRows.Agreeing.{TablesAgree, Agree, Within}
+use Rattle.server_model.specs.LockedRows.Covering.{IsSound}
+use Rattle.server_model.specs.LockedRows.Databases.{TaskSound, IsWellFormedDatabase, WhereFound}
 use Rattle.server_model.specs.Jobs.{Job, job_says, job_needs, after_events}
 use Rattle.proof_journals.specs.Scenes.{IsSafe}
-use Rattle.server_model.proofs.StatementLaws.Finding.{NamesWithin, agree_events, agree_itself, agree_then, agree_within, says_alike, says_well_formed}
-use Rattle.server_model.specs.StatementLaws.Laws.{SaysAlike}
-use Rattle.server_model.proofs.StatementLaws.Stables.{after_events-append}
+use Rattle.server_model.proofs.LockedRows.Finding.{NamesWithin, agree_events, agree_itself, agree_then, agree_within, says_alike, says_well_formed}
+use Rattle.server_model.specs.LockedRows.Laws.{SaysAlike}
+use Rattle.server_model.proofs.LockedRows.Stables.{after_events-append}
 
 pub safe_begin : (tables : Database) → IsSafe [] [] [] tables
 unfolding after_events

@@ -13,15 +13,15 @@ use Rattle.server_model.specs.declared.transaction.TxnEnd.{TxnEnd}
 use Rattle.server_model.specs.declared.transaction.TxnLine.{TxnLine}
 use Rattle.server_model.specs.declared.transaction.Reply.{Reply}
 use Rattle.server_model.specs.Alone.{stays}
-use Rattle.server_model.specs.StatementLaws.Covering.{Apart}
-use Rattle.server_model.specs.StatementLaws.Databases.{IsWellFormedDatabase}
+use Rattle.server_model.specs.LockedRows.Covering.{Apart}
+use Rattle.server_model.specs.LockedRows.Databases.{IsWellFormedDatabase}
 use Rattle.server_model.specs.Jobs.{after_events}
 use Rattle.proof_journals.specs.Scenes.{PlainItem, Stored, Scene, seen, Serial, SessionHold, Going, no_hold, not_going, IsFine, Besides}
 use Rattle.proof_journals.specs.Turns.{LineOutcome, Still, Adds, Ends, Breaks, Alters, going_on, happens, goings_after}
 use Rattle.proof_journals.specs.Holdings.{Face, no_face, Fits, Holds, lines_after}
 use Rattle.std.specs.Str.{bytes_eq}
 use Rattle.proof_journals.proofs.Kept.{kept_goes, kept_ends, kept_same, kept_writes, kept_moves, fine_rest}
-use Rattle.server_model.proofs.StatementLaws.Tests.{are_one}
+use Rattle.server_model.proofs.LockedRows.Tests.{are_one}
 
 -- new_holds of faces
 pub holds_besides : (number : ℕ) (old new : ℕ → Face) (own : Face) → Besides number old new own → Besides number (λ n. (old n).hold) (λ n. (new n).hold) own.hold

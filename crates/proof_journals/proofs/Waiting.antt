@@ -29,7 +29,7 @@ use Rattle.proof_journals.specs.Turns.{request_of}
 use Rattle.proof_journals.proofs.Replies.{IsReply, line_replies_so, copied_replies}
 use Rattle.base_script.specs.declared.script.ScriptWord.TheVariants as words
 use Rattle.proof_journals.proofs.Journals.{done_waits}
-use Rattle.server_model.proofs.StatementLaws.Tests.{same_number, are_one, turned}
+use Rattle.server_model.proofs.LockedRows.Tests.{same_number, are_one, turned}
 
 -- ANSWERS OF WHAT WAS DONE
 

@@ -14,16 +14,16 @@ use Rattle.base_script.specs.declared.script.ScriptWord.TheVariants as words
 use Rattle.server_model.specs.declared.transaction.Mark.{Mark}
 use Rattle.server_model.specs.declared.transaction.Mark.TheVariants as marks
 use Rattle.server_model.specs.declared.transaction.Reply.{Reply}
-use Rattle.server_model.specs.StatementLaws.Databases.{IsWellFormedDatabase, EventsCovered}
+use Rattle.server_model.specs.LockedRows.Databases.{IsWellFormedDatabase, EventsCovered}
 use Rattle.server_model.specs.Jobs.{table_of, row_needs, after_events}
 use Rattle.server_model.specs.Alone.{line_events, line_replies, Ran}
-use Rattle.server_model.specs.StatementLaws.Stability.{Stable}
+use Rattle.server_model.specs.LockedRows.Stability.{Stable}
 use Rattle.proof_journals.specs.Scenes.{SessionHold, Going, IsSteady}
 use Rattle.proof_journals.specs.Holdings.{held_after, lines_after}
-use Rattle.server_model.proofs.StatementLaws.Points.{within-left, within-right, within-itself}
-use Rattle.server_model.proofs.StatementLaws.Finding.{NamesWithin}
-use Rattle.server_model.proofs.StatementLaws.Stables.{one_more, more_alike, stable_more, stable_statement, covered_statement, covered_more}
-use Rattle.server_model.proofs.StatementLaws.Tests.{same_bytes}
+use Rattle.server_model.proofs.LockedRows.Points.{within-left, within-right, within-itself}
+use Rattle.server_model.proofs.LockedRows.Finding.{NamesWithin}
+use Rattle.server_model.proofs.LockedRows.Stables.{one_more, more_alike, stable_more, stable_statement, covered_statement, covered_more}
+use Rattle.server_model.proofs.LockedRows.Tests.{same_bytes}
 
 pub names_left : (a b : List (List ℕ)) → NamesWithin a (a ++ b)
 names_left a b name is = list_any-append (bytes_eq name) a b ∙ rw is refl

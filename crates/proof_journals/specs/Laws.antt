@@ -5,7 +5,7 @@ use Rattle.std.specs.List.{AllByRecursion}
 use Rattle.server_model.specs.Along.{Along}
 use Rattle.table_store.specs.declared.renames.Pair.{Pair}
 use Rattle.table_store.specs.Databases.{Database}
-use Rattle.server_model.specs.StatementLaws.Databases.{IsWellFormedDatabase}
+use Rattle.server_model.specs.LockedRows.Databases.{IsWellFormedDatabase}
 use Rattle.server_model.specs.Alone.{lines_run, nothing_ran}
 use Rattle.proof_journals.specs.Scenes.{Scene, PlainItem, Txn, Alter, is_mine, SerialHistory, left}
 use Rattle.proof_journals.specs.Turns.{Turn, journal_of, AllTold, IsSceneRun, MayAsk, AtRest, is_busy, about, IsExchange, RenamesSo, scene_state, goings_at, history}

@@ -4,9 +4,9 @@ pub mod Turns
 pub mod Holdings
 pub mod Laws
 pub mod Plans
-pub mod ServerLaws
-pub mod GhostLaws
-pub mod RunLaws
-pub mod SentryLaws
-pub mod MachineLaws
+pub mod ServerTurns
+pub mod Ghost
+pub mod Run
+pub mod Sentry
+pub mod Machine
 pub mod ServerFacts

@@ -11,12 +11,12 @@ use Rattle.base_script.specs.declared.script.ScriptWord.TheVariants as words
 use Rattle.server_model.specs.declared.transaction.EndedTxn.{EndedTxn}
 use Rattle.server_model.specs.declared.transaction.TxnLine.{TxnLine}
 use Rattle.server_model.specs.declared.transaction.Reply.{Reply}
-use Rattle.server_model.specs.StatementLaws.Agreeing.{Agree}
-use Rattle.server_model.specs.StatementLaws.Covering.{Apart}
-use Rattle.server_model.specs.StatementLaws.Databases.{IsWellFormedDatabase, EventsCovered}
+use Rattle.server_model.specs.LockedRows.Agreeing.{Agree}
+use Rattle.server_model.specs.LockedRows.Covering.{Apart}
+use Rattle.server_model.specs.LockedRows.Databases.{IsWellFormedDatabase, EventsCovered}
 use Rattle.server_model.specs.Jobs.{table_of, after_events}
 use Rattle.server_model.specs.Alone.{alone}
-use Rattle.server_model.specs.StatementLaws.Stability.{Stable}
+use Rattle.server_model.specs.LockedRows.Stability.{Stable}
 
 -- a transaction that ended, and the replies to its lines
 pub record Past : Type 0 where

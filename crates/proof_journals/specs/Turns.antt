@@ -19,8 +19,8 @@ use Rattle.server_model.specs.declared.transaction.Reply.TheVariants as replies
 use Rattle.server_model.specs.declared.session.Limits.{Limits}
 use Rattle.proof_journals.specs.Scenes.{Scene, is_mine, AltersTo, NamesTable, PlainItem, Txn, Alter, Going, not_going}
 use Rattle.server_model.specs.Along.{Along, gathered}
-use Rattle.server_model.specs.StatementLaws.Covering.{IsWellFormedTable}
-use Rattle.server_model.specs.StatementLaws.Databases.{IsWellFormedDatabase}
+use Rattle.server_model.specs.LockedRows.Covering.{IsWellFormedTable}
+use Rattle.server_model.specs.LockedRows.Databases.{IsWellFormedDatabase}
 use Rattle.server_model.specs.Jobs.{table_of}
 use Rattle.server_model.specs.declared.request.Request.TheVariants as requests
 use Rattle.server_model.specs.declared.request.Request.TheVariants.{CopyRow, Create, Drop, Rename}

@@ -21,25 +21,25 @@ use Rattle.tool_program.specs.Programs.{apply_call, copy_call, rolls_back, tool_
 use Rattle.tool_program.specs.Tools.{Course, Migrating, Work, is_reverting, moment}
 use Rattle.proof_journals.specs.Plans.{limits_of, scene_of}
 use Rattle.proof_journals.specs.Scenes.{no_hold}
-use Rattle.server_model.proofs.StatementLaws.Tests.{turned}
-use Rattle.proof_journals.specs.GhostLaws.GhostRows.Moments.{Row}
-use Rattle.proof_journals.specs.GhostLaws.GhostRows.Timelines.{Migration}
-use Rattle.proof_journals.specs.GhostLaws.Holding.{Clustered}
-use Rattle.proof_journals.specs.GhostLaws.Running.{ToolStands}
-use Rattle.proof_journals.specs.GhostLaws.Tool.{CopyState}
-use Rattle.proof_migration.specs.MigrationLaws.ApplyLaws.Applying.{plan_at}
-use Rattle.proof_migration.specs.MigrationLaws.CopyLaws.Copying.{copy_state, moment_of}
-use Rattle.proof_journals.specs.MachineLaws.Standings.{standing_of}
-use Rattle.proof_journals.proofs.MachineLaws.Asking.{unless_called}
-use Rattle.proof_journals.proofs.MachineLaws.Journals.{IsTogether, apply_called}
-use Rattle.proof_migration.specs.MigrationLaws.Machines.{IsUnbusy, Machines, MigrationStands, hold_at}
-use Rattle.proof_migration.specs.MigrationLaws.Machines.MigrationMove.{applier_moves, copier_moves}
-use Rattle.proof_migration.proofs.MigrationLaws.Migrating.{moves_keep}
-use Rattle.proof_migration.proofs.MigrationLaws.Moving.{copied_state}
-use Rattle.proof_migration.proofs.CourseLaws.UnalteredLaws.Away.{IsKnownAsked}
-use Rattle.proof_migration.specs.FollowLaws.FollowTurns.Goes.{CopyWaits, Goes, machines_in}
-use Rattle.proof_migration.proofs.FollowLaws.FollowTurns.ActorStates.{SomeActorStates, new_holds, some_actor_states}
-use Rattle.proof_migration.proofs.FollowLaws.FollowTurns.Goes.{rests_own}
+use Rattle.server_model.proofs.LockedRows.Tests.{turned}
+use Rattle.proof_journals.specs.Ghost.Rows.Moments.{Row}
+use Rattle.proof_journals.specs.Ghost.Rows.Timelines.{Migration}
+use Rattle.proof_journals.specs.Ghost.Holding.{Clustered}
+use Rattle.proof_journals.specs.Ghost.Running.{ToolStands}
+use Rattle.proof_journals.specs.Ghost.Tool.{CopyState}
+use Rattle.proof_migration.specs.Migration.Applier.Applying.{plan_at}
+use Rattle.proof_migration.specs.Migration.Copier.Copying.{copy_state, moment_of}
+use Rattle.proof_journals.specs.Machine.Standings.{standing_of}
+use Rattle.proof_journals.proofs.Machine.Asking.{unless_called}
+use Rattle.proof_journals.proofs.Machine.Journals.{IsTogether, apply_called}
+use Rattle.proof_migration.specs.Migration.Machines.{IsUnbusy, Machines, MigrationStands, hold_at}
+use Rattle.proof_migration.specs.Migration.Machines.MigrationMove.{applier_moves, copier_moves}
+use Rattle.proof_migration.proofs.Migration.Migrating.{moves_keep}
+use Rattle.proof_migration.proofs.Migration.Moving.{copied_state}
+use Rattle.proof_migration.proofs.Course.Unaltered.Away.{IsKnownAsked}
+use Rattle.proof_migration.specs.Program.Turns.Goes.{CopyWaits, Goes, machines_in}
+use Rattle.proof_migration.proofs.Program.Turns.ActorStates.{SomeActorStates, new_holds, some_actor_states}
+use Rattle.proof_migration.proofs.Program.Turns.Goes.{rests_own}
 use Rattle.proof_migration.proofs.Stays.{StandsAt}
 use Rattle.proof_migration.proofs.Frozen.{CallsQuiet, Frozen, IsHarmless, IsQuiet, WaitsHarmless}
 

@@ -22,27 +22,27 @@ use Rattle.tool_program.specs.Tools.{Migrating, Work, is_reverting, moment}
 use Rattle.proof_journals.specs.Plans.{limits_of, scene_of}
 use Rattle.proof_journals.specs.Turns.{about, told_at}
 use Rattle.proof_journals.proofs.Actors.{Placed, named_differs, placed, same_actor_is}
-use Rattle.server_model.proofs.StatementLaws.Tests.{turned}
-use Rattle.proof_journals.specs.GhostLaws.GhostRows.Moments.{Row}
-use Rattle.proof_journals.specs.GhostLaws.GhostRows.Timelines.{Migration}
-use Rattle.proof_journals.specs.GhostLaws.Holding.{Clustered}
-use Rattle.proof_journals.specs.RunLaws.Kept.{IsKept}
-use Rattle.proof_journals.specs.MachineLaws.Standings.{IsAbout, Standing, answered, free, is_called, is_polled, standing_of}
-use Rattle.proof_journals.proofs.MachineLaws.Journals.{Asking, IsRun, IsTogether, asking, calls_so, has_now, polls_so}
-use Rattle.proof_journals.proofs.MachineLaws.Marks.{Unmarked}
-use Rattle.proof_journals.proofs.MachineLaws.Seated.{IsServed, others_stand, own_lost}
-use Rattle.proof_journals.proofs.MachineLaws.Tabling.{Behind, behind, rests, waits_on}
-use Rattle.proof_migration.specs.MigrationLaws.Away.{KeepsAway}
-use Rattle.proof_migration.specs.MigrationLaws.Machines.{Machines, MigrationStands}
-use Rattle.proof_migration.specs.MigrationLaws.Machines.MigrationTurn.{others_turn}
-use Rattle.proof_migration.proofs.MigrationLaws.Migrating.{turns_keep}
-use Rattle.proof_migration.specs.CourseLaws.UnalteredLaws.Laws.{IsUnaltered}
-use Rattle.proof_migration.proofs.CourseLaws.UnalteredLaws.Away.{IsKnownAsked, all_asked, unaltered_front}
-use Rattle.proof_migration.specs.FollowLaws.FollowTurns.Laws.{IsMigrationOf}
-use Rattle.proof_migration.proofs.FollowLaws.FollowTurns.Asked.{gave, waits_with}
-use Rattle.proof_migration.proofs.FollowLaws.FollowTurns.Follows.{kept_front, kept_run, kept_scene, unmarked_now}
-use Rattle.proof_migration.proofs.FollowLaws.FollowTurns.Goes.{in_scene}
-use Rattle.proof_migration.proofs.FollowLaws.FollowTurns.Others.{ghost_named, others_away}
+use Rattle.server_model.proofs.LockedRows.Tests.{turned}
+use Rattle.proof_journals.specs.Ghost.Rows.Moments.{Row}
+use Rattle.proof_journals.specs.Ghost.Rows.Timelines.{Migration}
+use Rattle.proof_journals.specs.Ghost.Holding.{Clustered}
+use Rattle.proof_journals.specs.Run.Kept.{IsKept}
+use Rattle.proof_journals.specs.Machine.Standings.{IsAbout, Standing, answered, free, is_called, is_polled, standing_of}
+use Rattle.proof_journals.proofs.Machine.Journals.{Asking, IsRun, IsTogether, asking, calls_so, has_now, polls_so}
+use Rattle.proof_journals.proofs.Machine.Marks.{Unmarked}
+use Rattle.proof_journals.proofs.Machine.Seated.{IsServed, others_stand, own_lost}
+use Rattle.proof_journals.proofs.Machine.Tabling.{Behind, behind, rests, waits_on}
+use Rattle.proof_migration.specs.Migration.Away.{KeepsAway}
+use Rattle.proof_migration.specs.Migration.Machines.{Machines, MigrationStands}
+use Rattle.proof_migration.specs.Migration.Machines.MigrationTurn.{others_turn}
+use Rattle.proof_migration.proofs.Migration.Migrating.{turns_keep}
+use Rattle.proof_migration.specs.Course.Unaltered.{IsUnaltered}
+use Rattle.proof_migration.proofs.Course.Unaltered.Away.{IsKnownAsked, all_asked, unaltered_front}
+use Rattle.proof_migration.specs.Program.Turns.Laws.{IsMigrationOf}
+use Rattle.proof_migration.proofs.Program.Turns.Asked.{gave, waits_with}
+use Rattle.proof_migration.proofs.Program.Turns.Follows.{kept_front, kept_run, kept_scene, unmarked_now}
+use Rattle.proof_migration.proofs.Program.Turns.Goes.{in_scene}
+use Rattle.proof_migration.proofs.Program.Turns.Others.{ghost_named, others_away}
 use Rattle.proof_migration.proofs.Stays.{MayStay, StandsAt, applier_stays}
 
 -- WHAT THE TWO MAY STILL ASK

@@ -27,13 +27,13 @@ use Rattle.tool_program.specs.declared.cutover_core.cutover.Stage.TheVariants.{D
 use Rattle.tool_program.specs.Programs.{given, tool_call}
 use Rattle.tool_program.specs.Tools.{Work, moment}
 use Rattle.proof_journals.proofs.Actors.{same_actor_is}
-use Rattle.proof_journals.specs.MachineLaws.Standings.{IsAbout, Standing, free, is_called, is_polled, standing_of}
-use Rattle.proof_journals.proofs.MachineLaws.Journals.{Asking, IsRun, IsTogether, asking, calls_so, has_now, never_commands, polls_so}
-use Rattle.proof_journals.proofs.MachineLaws.Seated.{IsServed, others_stand, own_lost}
-use Rattle.proof_journals.proofs.MachineLaws.Tabling.{Behind, behind, rests, waits_on}
-use Rattle.proof_migration.proofs.CourseLaws.CourseTurns.{gives_asked}
-use Rattle.proof_journals.specs.SentryLaws.Sentries.{AfterFailure, AfterUnlock, Fits, Guards, HasSentry, InspectorTurns, IsDrained, LockerServes, MayExchange, RenamerServes, WhereItWaits, scene}
-use Rattle.proof_journals.specs.SentryLaws.Turning.{AskedTurn, InspectorTurn, LockerTurn, RenamerTurn, WorkTurn, told}
+use Rattle.proof_journals.specs.Machine.Standings.{IsAbout, Standing, free, is_called, is_polled, standing_of}
+use Rattle.proof_journals.proofs.Machine.Journals.{Asking, IsRun, IsTogether, asking, calls_so, has_now, never_commands, polls_so}
+use Rattle.proof_journals.proofs.Machine.Seated.{IsServed, others_stand, own_lost}
+use Rattle.proof_journals.proofs.Machine.Tabling.{Behind, behind, rests, waits_on}
+use Rattle.proof_migration.proofs.Course.CourseTurns.{gives_asked}
+use Rattle.proof_journals.specs.Sentry.Sentries.{AfterFailure, AfterUnlock, Fits, Guards, HasSentry, InspectorTurns, IsDrained, LockerServes, MayExchange, RenamerServes, WhereItWaits, scene}
+use Rattle.proof_journals.specs.Sentry.Turning.{AskedTurn, InspectorTurn, LockerTurn, RenamerTurn, WorkTurn, told}
 use Rattle.proof_migration.proofs.Stays.{IsUndrained}
 
 -- WHERE THE RELATION LEAVES THE RENAME

@@ -32,38 +32,38 @@ use Rattle.tool_program.specs.Setups.{Setup}
 use Rattle.tool_program.specs.Tools.{Course, Migrating, SettingUp, Work, is_reverting, moment}
 use Rattle.proof_journals.specs.Plans.{IsSerialPlan, limits_of, scene_of}
 use Rattle.proof_journals.proofs.Actors.{named_keeps, placed}
-use Rattle.proof_journals.specs.ServerLaws.Others.{DefinitionsAreDone, ExclusiveIsAlone}
-use Rattle.proof_journals.specs.GhostLaws.GhostRows.Moments.{Row}
-use Rattle.proof_journals.specs.GhostLaws.GhostRows.Timelines.{Migration}
-use Rattle.proof_journals.specs.GhostLaws.Copies.{IsAltered}
-use Rattle.proof_journals.specs.GhostLaws.Holding.{Clustered}
-use Rattle.proof_journals.proofs.GhostLaws.Keys.{clustered}
-use Rattle.proof_migration.specs.MigrationLaws.PlanningLaws.Laws.{migration_of}
-use Rattle.proof_journals.specs.RunLaws.Kept.{IsKept}
-use Rattle.proof_journals.specs.MachineLaws.Machines.{CourseStands, WorkStands, renaming}
-use Rattle.proof_journals.specs.MachineLaws.Runnable.{IsRunnable}
-use Rattle.proof_journals.specs.MachineLaws.Standings.{Standing, standing_of}
-use Rattle.proof_journals.proofs.MachineLaws.Journals.{Asking, IsRun, IsTogether, calls_so, polls_so}
-use Rattle.proof_migration.proofs.MigrationLaws.Migrating.{ends}
-use Rattle.proof_migration.specs.CourseLaws.RunnableLaws.Laws.{AlterablePlansAreRunnable, IsAlterable, IsWorded}
-use Rattle.proof_migration.specs.CourseLaws.UnalteredLaws.Laws.{IsUnaltered}
-use Rattle.proof_migration.proofs.CourseLaws.UnalteredLaws.Away.{IsKnownAsked, all_asked, unaltered_front}
-use Rattle.proof_migration.proofs.CourseLaws.ReadyLaws.Going.{CourseGoes, all_going}
-use Rattle.proof_journals.specs.SentryLaws.Sentries.{Fits, HasSentry, scene}
-use Rattle.proof_journals.specs.SentryLaws.Turning.{AskedTurn, CourseHolds, CourseTurn, Holds, IsGuarded, IsTurned, last_session}
-use Rattle.proof_journals.proofs.SentryLaws.Inductions.{all_guarded}
-use Rattle.proof_migration.specs.CourseLaws.WaitsLaws.Laws.{WaitsAreTold}
-use Rattle.proof_migration.specs.FollowLaws.FollowTurns.Goes.{Goes}
-use Rattle.proof_migration.specs.FollowLaws.FollowTurns.Laws.{GoesSomehow, IsMark, IsMigrationOf}
-use Rattle.proof_migration.proofs.FollowLaws.FollowTurns.Follows.{kept_front, kept_run, kept_scene}
-use Rattle.proof_migration.proofs.FollowLaws.FollowTurns.Goes.{in_scene}
-use Rattle.proof_migration.specs.FollowLaws.Laws.{FollowersAlter}
-use Rattle.proof_migration.proofs.FollowLaws.Follows.{migration, own_table}
-use Rattle.proof_migration.proofs.FollowLaws.Starts.{followers_go}
-use Rattle.proof_migration.specs.CourseLaws.MarkedLaws.Laws.{IsMarkedAt, MarkedJournalsAreSerial}
-use Rattle.proof_migration.specs.OnceLaws.Laws.{RenamesComeOnce}
-use Rattle.proof_migration.specs.RenameLaws.Laws.{IsRename, JournalsAreTurned}
-use Rattle.proof_migration.proofs.RenameLaws.Renames.{Found, reads, renames_found, renames_marked}
+use Rattle.proof_journals.specs.ServerTurns.Others.{DefinitionsAreDone, ExclusiveIsAlone}
+use Rattle.proof_journals.specs.Ghost.Rows.Moments.{Row}
+use Rattle.proof_journals.specs.Ghost.Rows.Timelines.{Migration}
+use Rattle.proof_journals.specs.Ghost.Copies.{IsAltered}
+use Rattle.proof_journals.specs.Ghost.Holding.{Clustered}
+use Rattle.proof_journals.proofs.Ghost.Keys.{clustered}
+use Rattle.proof_migration.specs.Migration.Planning.{migration_of}
+use Rattle.proof_journals.specs.Run.Kept.{IsKept}
+use Rattle.proof_journals.specs.Machine.Machines.{CourseStands, WorkStands, renaming}
+use Rattle.proof_journals.specs.Machine.Runnable.{IsRunnable}
+use Rattle.proof_journals.specs.Machine.Standings.{Standing, standing_of}
+use Rattle.proof_journals.proofs.Machine.Journals.{Asking, IsRun, IsTogether, calls_so, polls_so}
+use Rattle.proof_migration.proofs.Migration.Migrating.{ends}
+use Rattle.proof_migration.specs.Course.Runnable.{AlterablePlansAreRunnable, IsAlterable, IsWorded}
+use Rattle.proof_migration.specs.Course.Unaltered.{IsUnaltered}
+use Rattle.proof_migration.proofs.Course.Unaltered.Away.{IsKnownAsked, all_asked, unaltered_front}
+use Rattle.proof_migration.proofs.Course.Ready.Going.{CourseGoes, all_going}
+use Rattle.proof_journals.specs.Sentry.Sentries.{Fits, HasSentry, scene}
+use Rattle.proof_journals.specs.Sentry.Turning.{AskedTurn, CourseHolds, CourseTurn, Holds, IsGuarded, IsTurned, last_session}
+use Rattle.proof_journals.proofs.Sentry.Inductions.{all_guarded}
+use Rattle.proof_migration.specs.Course.Waits.{WaitsAreTold}
+use Rattle.proof_migration.specs.Program.Turns.Goes.{Goes}
+use Rattle.proof_migration.specs.Program.Turns.Laws.{GoesSomehow, IsMark, IsMigrationOf}
+use Rattle.proof_migration.proofs.Program.Turns.Follows.{kept_front, kept_run, kept_scene}
+use Rattle.proof_migration.proofs.Program.Turns.Goes.{in_scene}
+use Rattle.proof_migration.specs.Program.Laws.{FollowersAlter}
+use Rattle.proof_migration.proofs.Program.Follows.{migration, own_table}
+use Rattle.proof_migration.proofs.Program.Starts.{followers_go}
+use Rattle.proof_migration.specs.Course.Marked.{IsMarkedAt, MarkedJournalsAreSerial}
+use Rattle.proof_migration.specs.Once.{RenamesComeOnce}
+use Rattle.proof_migration.specs.CutOver.{IsRename, JournalsAreTurned}
+use Rattle.proof_migration.proofs.CutOver.Renames.{Found, reads, renames_found, renames_marked}
 use Rattle.proof_migration.specs.Laws.{KeptJournalsAreSerial, RenamesFindTheAltered}
 use Rattle.proof_migration.proofs.Begins.{applier_quiet, copier_quiet, frozen_here}
 use Rattle.proof_migration.proofs.Frozen.{CallsQuiet, Frozen, IsHarmless, frozen_more}

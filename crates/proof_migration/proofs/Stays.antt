@@ -28,8 +28,8 @@ use Rattle.tool_program.specs.declared.event_applier.applier.ApplyStep.TheVarian
 use Rattle.tool_program.specs.EventApplier.Appliers as appliers
 use Rattle.tool_program.specs.Operators.{commanded}
 use Rattle.tool_program.specs.Tools.{Course, Migrating, Moment, Panicked, SettingUp, Tool, Work, actor_took, apply_after, apply_took, asked_took, attempt_after, command_took, copy_took, cutover_took, drains, is_failure, is_reverting, moment, resizes, stopped, took, turn_counts}
-use Rattle.proof_journals.proofs.SentryLaws.Inductions.{moment_more}
-use Rattle.proof_journals.proofs.MachineLaws.Lifting.{apply_keeps, attempt_keeps, copy_keeps, drains_keeps, reverts_keeps}
+use Rattle.proof_journals.proofs.Sentry.Inductions.{moment_more}
+use Rattle.proof_journals.proofs.Machine.Lifting.{apply_keeps, attempt_keeps, copy_keeps, drains_keeps, reverts_keeps}
 
 -- the applier is at this position
 abbrev pub StandsAt : ℕ → Course → Type 0

@@ -5,11 +5,11 @@ use Rattle.plan_data.specs.PlanData.{PlanData}
 use Rattle.tool_program.specs.JournalWords.Journals.{state_at}
 use Rattle.tool_program.specs.JournalWords.Serials.{IsSerial}
 use Rattle.proof_journals.specs.Plans.{IsSerialPlan}
-use Rattle.proof_journals.specs.GhostLaws.Copies.{IsAltered}
-use Rattle.proof_migration.specs.MigrationLaws.PlanningLaws.Laws.{migration_of}
-use Rattle.proof_journals.specs.RunLaws.Kept.{IsKept}
-use Rattle.proof_migration.specs.CourseLaws.RunnableLaws.Laws.{IsAlterable, IsWorded}
-use Rattle.proof_migration.specs.RenameLaws.Laws.{IsRename}
+use Rattle.proof_journals.specs.Ghost.Copies.{IsAltered}
+use Rattle.proof_migration.specs.Migration.Planning.{migration_of}
+use Rattle.proof_journals.specs.Run.Kept.{IsKept}
+use Rattle.proof_migration.specs.Course.Runnable.{IsAlterable, IsWorded}
+use Rattle.proof_migration.specs.CutOver.{IsRename}
 
 -- *Renames find the altered table*: where the RENAME is done, the new table is the altered one, whether or not all is reverted.
 abbrev pub RenamesFindTheAltered : Type 0

@@ -6,16 +6,16 @@ use Rattle.server_model.specs.declared.outcome.Cause.TheVariants as causes
 use Rattle.server_model.specs.declared.outcome.Task.TheVariants as tasks
 use Rattle.plan_data.specs.PlanData.{PlanData, Altered, altered_by}
 use Rattle.tool_program.specs.JournalWords.Journals.{state_at}
-use Rattle.proof_journals.specs.GhostLaws.Copies.{IsAltered}
-use Rattle.proof_migration.specs.MigrationLaws.PlanningLaws.Laws.{migration_of}
-use Rattle.proof_migration.specs.AttemptLaws.CauseLaws.Laws.{SpentCutOversStand}
-use Rattle.proof_migration.specs.CourseLaws.ChunkLaws.Laws.{JournalsAreOnline}
-use Rattle.proof_migration.specs.GoingLaws.Laws.{SomeoneGoes}
+use Rattle.proof_journals.specs.Ghost.Copies.{IsAltered}
+use Rattle.proof_migration.specs.Migration.Planning.{migration_of}
+use Rattle.proof_migration.specs.Attempt.Causes.{SpentCutOversStand}
+use Rattle.proof_migration.specs.Course.Chunks.{JournalsAreOnline}
+use Rattle.proof_migration.specs.Going.{SomeoneGoes}
 use Rattle.proof_migration.specs.Laws.{KeptJournalsAreSerial, RenamesFindTheAltered}
-use Rattle.proof_migration.specs.CourseLaws.RunnableLaws.Laws.{IsAlterable}
-use Rattle.proof_migration.specs.UnfitLaws.Laws.{UnfitRowsStand}
-use Rattle.proof_migration.specs.AttemptLaws.VerdictLaws.Laws.{PanicsStand, SpentTasksStand}
-use Rattle.proof_plans.specs.AcceptedLaws.Laws.{ReadAttemptsDrain, ReadPlansAreAlterable, ReadPlansAreRunnable, ReadPlansAreSerial, ReadPlansAreWorded, ReadScriptsEnd}
+use Rattle.proof_migration.specs.Course.Runnable.{IsAlterable}
+use Rattle.proof_migration.specs.Unfit.{UnfitRowsStand}
+use Rattle.proof_migration.specs.Attempt.Verdicts.{PanicsStand, SpentTasksStand}
+use Rattle.proof_plans.specs.ReadPlans.Laws.{ReadAttemptsDrain, ReadPlansAreAlterable, ReadPlansAreRunnable, ReadPlansAreSerial, ReadPlansAreWorded, ReadScriptsEnd}
 use Rattle.proof_plans.specs.Laws.{AcceptedCausesStand, AcceptedRenamesFindTheAltered, AcceptedRunsAreOnline, AcceptedRunsAreSerial, AcceptedRunsGoOn}
 
 -- *Accepted runs are serial*

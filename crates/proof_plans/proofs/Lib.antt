@@ -1,4 +1,4 @@
 pub mod Accepted
-pub mod CompleteLaws
+pub mod Complete
 pub mod Tables
-pub mod AcceptedLaws
+pub mod ReadPlans

@@ -12,11 +12,11 @@ use Rattle.tool_program.specs.Failures.{Stands}
 use Rattle.tool_program.specs.Online.{IsOnline}
 use Rattle.tool_program.specs.Orders.{actors, is_ready}
 use Rattle.tool_program.specs.Verdicts.{has_ended, verdict_of}
-use Rattle.proof_journals.specs.GhostLaws.Copies.{IsAltered}
-use Rattle.proof_migration.specs.MigrationLaws.PlanningLaws.Laws.{migration_of}
-use Rattle.proof_journals.specs.RunLaws.Kept.{IsKept}
-use Rattle.proof_migration.specs.RenameLaws.Laws.{IsRename}
-use Rattle.proof_plans.specs.AcceptedLaws.Laws.{WasRead}
+use Rattle.proof_journals.specs.Ghost.Copies.{IsAltered}
+use Rattle.proof_migration.specs.Migration.Planning.{migration_of}
+use Rattle.proof_journals.specs.Run.Kept.{IsKept}
+use Rattle.proof_migration.specs.CutOver.{IsRename}
+use Rattle.proof_plans.specs.ReadPlans.Laws.{WasRead}
 use Rattle.proof_plans.specs.Tables.{FindsTable, KeepsOldTable}
 
 -- *Accepted runs are serial*: clients' replies and the tables that are left are those of the ended transactions run one at a

@@ -3,7 +3,7 @@
 ghost use Rattle.std.specs.Prelude.{◌≡◌, Some, IfOk};
 ghost use Rattle.plan_reader.specs.Plans.{read};
 ghost use Rattle.base_values.specs.Faults.{Answers};
-ghost use Rattle.proof_plans.specs.AcceptedLaws.Laws.{WasRead};
+ghost use Rattle.proof_plans.specs.ReadPlans.Laws.{WasRead};
 
 use plan_data::Plan;
 use plan_reader::{PlanFault, read_plan};

@@ -3,7 +3,7 @@ pub mod Grammar
 pub mod Keys
 pub mod Valid
 pub mod Parts
-pub mod PrintLaws
-pub mod RereadLaws
-pub mod AlterLaws
+pub mod Printed
+pub mod ReadAgain
+pub mod Alters
 pub mod Stored

@@ -2,9 +2,9 @@
 use Rattle.base_values.specs.Laws.{StoresAgain}
 use Rattle.base_values.proofs.StoredValues.{keeps}
 use Rattle.sql_create.specs.Laws.{ReadSchemasAreValid}
-use Rattle.proof_schemas.specs.AlterLaws.Laws.{AlteredSchemasAreValid}
+use Rattle.proof_schemas.specs.Alters.Laws.{AlteredSchemasAreValid}
 use Rattle.proof_schemas.proofs.Valid.{read-valid}
-use Rattle.proof_schemas.proofs.AlterLaws.KeepingLaws.{altered-valid}
+use Rattle.proof_schemas.proofs.Alters.KeepingLaws.{altered-valid}
 
 pub stores_again : StoresAgain
 stores_again = λ value kind nullable stored e. (keeps value kind nullable stored e).again

@@ -1,4 +1,4 @@
-pub mod Alters
+pub mod AlterTurns
 pub mod Marking
 pub mod More
 pub mod ClientTurns

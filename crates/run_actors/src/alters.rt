@@ -52,7 +52,7 @@ fn answer_in(entry: &Entry) -> Option<&Answer>
 }
 
 /// Whether the ALTER is done in the turn, where its actor waited with a RENAME of the migrated table or didn't.
-#[tactic(auto, using(crate::proofs::Alters::of_client))]
+#[tactic(auto, using(crate::proofs::AlterTurns::of_client))]
 pub fn is_alter_turn(table: &Name, entry: &Entry, renames: bool) -> bool
     ensures { (plan : PlanData) (before : List Entry) → table.now ≡ plan.table → renames ≡ renames_away plan.table (request_waiting before entry.now.actor) → result ≡ list_any is_alter (entry_adds plan before entry.now) }
 {

@@ -24,6 +24,7 @@ pub(crate) fn gather<B: SharedState>(board: &Board<B>, mut passes: Passes<B>) ->
     };
     let mut seat = last.seat;
     while let Some(pass) = passes.pop() {
+        // With the seats of all passes in one no other seat can hold the turn: so the state is in its slot.
         board.join_seat::<Gather>(&mut seat, pass.seat);
     }
     seat

@@ -47,6 +47,7 @@ pub(crate) fn wait<B: SharedState, R: Wait>(
             looks += 1;
             thread::yield_now();
         } else {
+            // Who serves the next number wakes all sleepers, and the one with that ticket goes on.
             board.park(rt, SERVING, (serving & 0xffff_ffff) as u32);
         }
     }
@@ -85,6 +86,8 @@ pub(crate) fn take<B: SharedState>(board: &Board<B>, seat: &mut Place<B>, worker
         unreachable!()
     };
     let turned = shared_state.take_turn(worker);
+    // The state goes back before its entry is counted. Both come while the worker holds the turn; so the count, which fixes
+    // the turn's place in the list, can be told which entry it counts.
     match board.exchange(seat, SHARED_STATE, Some(shared_state)) {
         None => {}
         Some(_) => unreachable!(),

@@ -11,7 +11,7 @@ use Rattle.plan_data.specs.PlanData.{PlanData}
 use Rattle.tool_program.specs.JournalWords.Sessions.{live_session}
 use Rattle.tool_program.specs.Tools.{Course, SettingUp, Migrating, Tool, is_reverting, moment}
 use Rattle.tool_program.specs.Programs.{waits, in_transaction, rolls_back, copy_call, tool_call, calls, tool_asks, commands, given}
-use Rattle.proof_journals.specs.RunLaws.Counting.{numbered, IsAfter}
+use Rattle.proof_journals.specs.Run.Counting.{numbered, IsAfter}
 
 pub waits_same : (made : ℕ) (state : State) (session : Option ℕ) → waits (numbered made state) session ≡ waits state session
 waits_same made state None = refl

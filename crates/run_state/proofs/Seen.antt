@@ -6,14 +6,14 @@ use Rattle.base_values.specs.ToolNames.{log_name}
 use Rattle.plan_data.specs.PlanData.{PlanData}
 use Rattle.tool_program.specs.Tools as program
 use Rattle.tool_program.specs.Tools.{moment}
-use Rattle.tool_program.proofs.ProgramLaws.Machines.{CourseIsNamed, named}
+use Rattle.tool_program.proofs.OnlineCalls.Machines.{CourseIsNamed, named}
 use Rattle.tool_program.specs.declared.tool_setup.setup.Setup.{Setup}
 use Rattle.tool_state.specs.declared.tool_state.tool.Work.{Work}
 use Rattle.tool_state.specs.declared.tool_state.tool.Tool.{Tool}
 use Rattle.tool_state.specs.ToolState.Meanings.{work_of, course_in, course_of, tool_of}
 use Rattle.tool_state.specs.ToolState.Sound.{IsSound, IsFresh}
 use Rattle.tool_state.specs.Seen.{IsSeen}
-use Rattle.proof_journals.specs.RunLaws.Counting.{numbered, IsAfter}
+use Rattle.proof_journals.specs.Run.Counting.{numbered, IsAfter}
 use Rattle.run_state.specs.declared.run_state.RunState.{RunState}
 use Rattle.run_state.specs.Books.{IsRunState}
 

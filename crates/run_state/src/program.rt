@@ -8,7 +8,7 @@ ghost use Rattle.tool_program.specs.Tools.{moment};
 ghost use Rattle.tool_program.specs.Programs.{tool_asks, commands, given};
 ghost use Rattle.tool_program.specs.Orders.{is_ready};
 ghost use Rattle.tool_program.specs.Verdicts.{is_over, has_ended, verdict_of};
-ghost use Rattle.proof_journals.specs.RunLaws.Counting.{IsAfter};
+ghost use Rattle.proof_journals.specs.Run.Counting.{IsAfter};
 ghost use Rattle.tool_state.specs.ToolState.Meanings.{tool_of};
 ghost use Rattle.run_state.specs.Books.{IsRunState};
 
@@ -118,8 +118,8 @@ impl RunState<'_> {
         true
     }
 
-    /// Whether the run has ended: the tool is over, and every client.
-    #[tactic(auto, using(proof_journals::proofs::RunLaws::Tallies::busy_counted), unfolding(tool_program::specs::Verdicts::has_ended))]
+    /// Whether the run has ended: the tool is over, and every client. It takes no memory.
+    #[tactic(auto, using(proof_journals::proofs::Run::Tallies::busy_counted), unfolding(tool_program::specs::Verdicts::has_ended))]
     pub fn has_ended(&self) -> bool
         requires { IsRunState self.now.plan.now self.now.journal.items self.now }
         ensures { result ≡ has_ended self.now.plan.now self.now.journal.items }

@@ -13,6 +13,8 @@ pub struct RunState<'a> {
     /// The plan, which the whole run borrows.
     pub plan: &'a Plan,
     /// The turns so far.
+    // A plain list that grows in its place, so that a turn late in a run costs what an early one does. A `Journal` is made
+    // of it once, at the end.
     pub journal: Vec<Entry>,
     /// How far the tool is.
     pub tool: Tool,

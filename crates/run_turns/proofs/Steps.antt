@@ -10,8 +10,8 @@ use Rattle.tool_program.specs.JournalWords.Journals.{state_at, after_entry}
 use Rattle.tool_program.specs.Programs.{waits}
 use Rattle.tool_program.specs.Tools.{moment}
 use Rattle.tool_program.specs.Verdicts.{has_ended}
-use Rattle.proof_journals.specs.RunLaws.Counting.{IsAfter}
-use Rattle.proof_journals.proofs.RunLaws.Taking.{server_is}
+use Rattle.proof_journals.specs.Run.Counting.{IsAfter}
+use Rattle.proof_journals.proofs.Run.Taking.{server_is}
 use Rattle.run_turns.specs.declared.due_turns.migration_run.turn.Turn.{Turn}
 use Rattle.run_turns.specs.DueTurns.Due.{due, next_entry}
 use Rattle.run_state.proofs.Givens.{waits_same}

@@ -7,8 +7,8 @@ ghost use Rattle.tool_program.specs.JournalWords.Sessions.{live_session, KeepsSe
 ghost use Rattle.tool_program.specs.Orders.{is_ready};
 ghost use Rattle.tool_program.specs.Programs.{waits, Follows};
 ghost use Rattle.tool_program.specs.Verdicts.{has_ended, verdict_of};
-ghost use Rattle.proof_journals.specs.MachineLaws.Runnable.{IsRunnable};
-ghost use Rattle.proof_journals.specs.RunLaws.Counting.{IsAfter};
+ghost use Rattle.proof_journals.specs.Machine.Runnable.{IsRunnable};
+ghost use Rattle.proof_journals.specs.Run.Counting.{IsAfter};
 ghost use Rattle.run_turns.specs.DueTurns.Due.{due};
 ghost use Rattle.run_turns.specs.Runs.{is_over, TakesTurn, IsUnmoved, Steps};
 

@@ -5,7 +5,7 @@ ghost use Rattle.run_desk.specs.declared.turn_queue_workers.ending.Ending.TheVar
 ghost use Rattle.tool_program.specs.JournalWords.Journals.{opening, state_at};
 ghost use Rattle.tool_program.specs.JournalWords.Sessions.{NumbersSessions};
 ghost use Rattle.tool_program.specs.Orders.{RunOrder};
-ghost use Rattle.proof_journals.specs.RunLaws.Kept.{IsKept};
+ghost use Rattle.proof_journals.specs.Run.Kept.{IsKept};
 ghost use Rattle.run_turns.specs.Runs.{is_over, Stops};
 ghost use Rattle.run_workers.specs.WorkerRun.Workers.{IsGoing};
 ghost use Rattle.run_workers.specs.Passes.{IsByPasses};

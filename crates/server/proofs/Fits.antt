@@ -16,16 +16,16 @@ use Rattle.table_store.proofs.TableLaws.{put_keeps, remove_keeps}
 use Rattle.server_model.specs.declared.need.Need.{Need}
 use Rattle.server_model.specs.Jobs.{after_events, change_table}
 use Rattle.server_model.specs.Rows.{without_row}
-use Rattle.server_model.specs.StatementLaws.Covering.{IsWellFormedTable}
-use Rattle.server_model.specs.StatementLaws.Databases.{IsWellFormedDatabase, WhereFound}
-use Rattle.server_model.proofs.StatementLaws.OneRow.{same_removal}
-use Rattle.server_model.proofs.StatementLaws.WellFormed.{nulls}
-use Rattle.server_model.proofs.StatementLaws.Stables.{after_events-append, others_agree}
-use Rattle.proof_journals.specs.GhostLaws.GhostRows.Moments.{Fits}
-use Rattle.proof_journals.proofs.GhostLaws.GhostRows.TimelineLaws.{none_clashing}
-use Rattle.proof_journals.specs.GhostLaws.Fitting as ghost
-use Rattle.proof_journals.proofs.GhostLaws.Changing.{found_stands}
-use Rattle.proof_journals.proofs.GhostLaws.Fitting.{fitting_end, well_formed_event}
+use Rattle.server_model.specs.LockedRows.Covering.{IsWellFormedTable}
+use Rattle.server_model.specs.LockedRows.Databases.{IsWellFormedDatabase, WhereFound}
+use Rattle.server_model.proofs.LockedRows.OneRow.{same_removal}
+use Rattle.server_model.proofs.LockedRows.WellFormed.{nulls}
+use Rattle.server_model.proofs.LockedRows.Stables.{after_events-append, others_agree}
+use Rattle.proof_journals.specs.Ghost.Rows.Moments.{Fits}
+use Rattle.proof_journals.proofs.Ghost.Rows.TimelineLaws.{none_clashing}
+use Rattle.proof_journals.specs.Ghost.Fitting as ghost
+use Rattle.proof_journals.proofs.Ghost.Changing.{found_stands}
+use Rattle.proof_journals.proofs.Ghost.Fitting.{fitting_end, well_formed_event}
 use Rattle.proof_journals.specs.Holdings.{Face}
 use Rattle.server_seen.specs.Fitting.{FitsRows, IsNewAmong}
 use Rattle.server_transaction.specs.ServerData.Fitting.{EventsFit, FitsIn}

@@ -6,7 +6,7 @@ use Rattle.server_model.specs.declared.need.Need.{Need}
 use Rattle.server_model.specs.declared.session.Session.{Session}
 use Rattle.server_model.specs.Serving.{at_rest, holding}
 use Rattle.server_model.specs.States.{new_session, session_of, with_session, writes_of}
-use Rattle.server_model.proofs.StatementLaws.Tests.{are_one}
+use Rattle.server_model.proofs.LockedRows.Tests.{are_one}
 use Rattle.proof_journals.specs.Holdings.{Face}
 use Rattle.proof_journals.proofs.Faces.{changed_here, changed_there, faces_without, gone_there, writes_face}
 use Rattle.proof_journals.proofs.ServerFacts.Calls.{Live}

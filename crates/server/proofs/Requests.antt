@@ -25,8 +25,8 @@ use Rattle.server_model.specs.Jobs.{after_events, copy_job, job_says, says}
 use Rattle.server_model.specs.Locking.{blocker, need, need_within, row_locks_of}
 use Rattle.server_model.specs.Serving.{calls, commits, counting, does, done, exclusive, forgets, is_over, polled_over, polls, serving, unlocking, without_waiting}
 use Rattle.server_model.specs.States.{State, is_exclusive, is_in_transaction, locked_names, names_held, names_in, pair_names, session_of, tables_named, view, waiting_of, with_session}
-use Rattle.server_model.specs.StatementLaws.Databases.{EventsCovered}
-use Rattle.server_model.proofs.StatementLaws.Tests.{are_one}
+use Rattle.server_model.specs.LockedRows.Databases.{EventsCovered}
+use Rattle.server_model.proofs.LockedRows.Tests.{are_one}
 use Rattle.proof_journals.specs.Holdings.{face_of}
 use Rattle.proof_journals.proofs.Names.{Free, names_granted}
 use Rattle.proof_journals.proofs.Faces.{writes_face, busy_face}

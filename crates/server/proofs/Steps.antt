@@ -15,7 +15,7 @@ use Rattle.server_model.specs.Showing.{waits_shown}
 use Rattle.server_model.specs.declared.session.Limits.{Limits}
 use Rattle.server_model.specs.declared.session.Waiting.{Waiting}
 use Rattle.server_model.specs.States.{State, connected, is_live, opened, polls_of, session_of, unread, view, with_session, writes_of}
-use Rattle.server_model.specs.StatementLaws.Databases.{IsWellFormedDatabase}
+use Rattle.server_model.specs.LockedRows.Databases.{IsWellFormedDatabase}
 use Rattle.proof_journals.specs.Holdings.{face_of}
 use Rattle.proof_journals.proofs.Serves.{granted}
 use Rattle.proof_journals.proofs.Faces.{writes_face}

@@ -2,7 +2,7 @@
 
 ghost use Rattle.std.specs.Prelude.{◌≡◌, ◌≤◌, ℕ, []};
 ghost use Rattle.server_model.specs.States.{opened};
-ghost use Rattle.server_model.specs.StatementLaws.Databases.{IsWellFormedDatabase};
+ghost use Rattle.server_model.specs.LockedRows.Databases.{IsWellFormedDatabase};
 
 use crate::calls::{call, poll};
 use crate::losses::lose_session;

@@ -15,9 +15,9 @@ use Rattle.table_store.proofs.Ascending.{all-filter, ascends-filter}
 use Rattle.table_store.proofs.TableLaws.{some_rows}
 use Rattle.server_model.specs.Rows.{same_row, stands, without_row, change_rows}
 use Rattle.server_model.specs.Saying.{with_sets, clashes_besides}
-use Rattle.server_model.specs.StatementLaws.Covering.{SetsFit}
-use Rattle.server_model.proofs.StatementLaws.Standing.{one_row, same_itself, stands-put, stands-filter, other_row}
-use Rattle.server_model.proofs.StatementLaws.WellFormed.{well_formed_put, with_sets_row, none_besides}
+use Rattle.server_model.specs.LockedRows.Covering.{SetsFit}
+use Rattle.server_model.proofs.LockedRows.Standing.{one_row, same_itself, stands-put, stands-filter, other_row}
+use Rattle.server_model.proofs.LockedRows.WellFormed.{well_formed_put, with_sets_row, none_besides}
 use Rattle.server_seen.specs.Fitting.{FitsRows}
 use Rattle.server_execute.specs.Updating.{AreMet}
 use Rattle.server_execute.proofs.NewKeys.{new_from}

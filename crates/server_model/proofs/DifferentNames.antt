@@ -7,7 +7,7 @@ use Rattle.std.proofs.lemmas.Bool.{and_parts}
 use Rattle.std.proofs.lemmas.List.Folds.{list_any-append}
 use Rattle.server_model.specs.declared.session.HeldName.{HeldName}
 use Rattle.server_model.specs.HeldNames.{held, alike, is_held_so, SayTheSame}
-use Rattle.server_model.proofs.StatementLaws.Tests.{are_same, same_bytes}
+use Rattle.server_model.proofs.LockedRows.Tests.{are_same, same_bytes}
 
 -- ONE NAME
 

@@ -1,2 +1,2 @@
 pub mod DifferentNames
-pub mod StatementLaws
+pub mod LockedRows

@@ -16,4 +16,4 @@ pub mod Conditions
 pub mod Alone
 pub mod Entries
 pub mod Reading
-pub mod StatementLaws
+pub mod LockedRows

@@ -1,6 +1,6 @@
 //! The plain server: what sessions ask and are answered, what a statement says and needs, and the journal of a run. Its
 //! definitions are lists and numbers; whatever serves faster keeps their answers. In `turn_answers` what was answered in a
-//! turn, found by its number; in `statement_laws` that a statement is decided by the rows under its locks.
+//! turn, found by its number; in `statements` that a statement is decided by the rows under its locks.
 #![tactic(auto)]
 
 mod answer;
@@ -11,7 +11,7 @@ mod need;
 mod outcome;
 mod request;
 mod session;
-pub mod statement_laws;
+pub mod statements;
 mod transaction;
 pub mod turn_answers;
 mod work;

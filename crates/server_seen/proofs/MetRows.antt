@@ -15,7 +15,7 @@ use Rattle.table_store.proofs.Orders.{Row}
 use Rattle.server_model.specs.declared.work.Reach.{Reach}
 use Rattle.server_model.specs.Rows.{lies_under, rows_met, same_row, stands}
 use Rattle.server_model.specs.Saying.{displaced}
-use Rattle.server_model.proofs.StatementLaws.Standing.{same_itself}
+use Rattle.server_model.proofs.LockedRows.Standing.{same_itself}
 
 -- rows that pass a test are among those that pass a wider one
 pub filter_within : (test wide : Row → Bool) (rows : List Row) → ((row : Row) → test row ≡ true → wide row ≡ true) → filter test (filter wide rows) ≡ filter test rows

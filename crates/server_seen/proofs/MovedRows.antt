@@ -10,8 +10,8 @@ use Rattle.table_store.proofs.Orders.{Row}
 use Rattle.table_store.proofs.Ascending.{ascends-with_row, ascends-filter}
 use Rattle.table_store.proofs.RowLaws.{key_is, gone}
 use Rattle.server_model.specs.Rows.{same_row, stands}
-use Rattle.server_model.proofs.StatementLaws.Standing.{stands-filter, one_list}
-use Rattle.server_model.proofs.StatementLaws.Points2.{one_met}
+use Rattle.server_model.proofs.LockedRows.Standing.{stands-filter, one_list}
+use Rattle.server_model.proofs.LockedRows.Points2.{one_met}
 use Rattle.server_seen.specs.Written.{is_touched, put_all, seen}
 use Rattle.server_seen.specs.Fitting.{KeysAscend, IsWritten}
 use Rattle.server_seen.proofs.KeyTables.{none_stands}

@@ -17,13 +17,13 @@ use Rattle.table_store.proofs.Ascending.{all-filter, ascends-with_row, ascends-f
 use Rattle.table_store.proofs.FoundRows.{none_to_remove}
 use Rattle.table_store.proofs.RowLaws.{gone}
 use Rattle.server_model.specs.Rows.{same_row, stands, without_row, change_rows, change_all}
-use Rattle.server_model.proofs.StatementLaws.Standing.{stands-put, stands-filter, one_list}
+use Rattle.server_model.proofs.LockedRows.Standing.{stands-put, stands-filter, one_list}
 use Rattle.server_seen.specs.Written.{Written, nothing, with_key, with_keys, is_touched, untouched, seen, removed, stored, wrote, wrote_all, written_over}
 use Rattle.server_seen.specs.Fitting.{IsNewAmong, FitsRows, AllFit, IsWritten}
 use Rattle.server_seen.specs.Laws.{SeenRowsChange, ChangesAreSeen, LaterOverEarlier}
 use Rattle.server_seen.proofs.TouchedKeys.{stands-with_keys, touched-with_key, ascend-with_key, ascend-with_keys}
 use Rattle.server_seen.proofs.SeenRows.{stands-seen, all-put_all, ascends-seen, seen-nothing}
-use Rattle.server_model.proofs.StatementLaws.OneRow.{own_key, same_removal}
+use Rattle.server_model.proofs.LockedRows.OneRow.{own_key, same_removal}
 
 -- what was touched stays so
 pub more_touched : (places : List ℕ) (key : Row) (keys rows : List Row) → AllByRecursion (λ row. is_touched places keys row ≡ true) rows → AllByRecursion (λ row. is_touched places (with_key key keys) row ≡ true) rows

@@ -16,7 +16,7 @@ use Rattle.table_store.proofs.Ascending.{all-filter, ascends-with_row, ascends-f
 use Rattle.table_store.proofs.FoundRows.{none_found}
 use Rattle.table_store.proofs.RowLaws.{key_is, put_other}
 use Rattle.server_model.specs.Rows.{same_row, stands}
-use Rattle.server_model.proofs.StatementLaws.Standing.{stands-put, stands-filter, one_list}
+use Rattle.server_model.proofs.LockedRows.Standing.{stands-put, stands-filter, one_list}
 use Rattle.server_seen.specs.Written.{Written, nothing, is_touched, untouched, put_all, seen}
 use Rattle.server_seen.specs.Fitting.{IsNewAmong, IsWritten}
 use Rattle.server_seen.specs.Stored.{StoredWrites}

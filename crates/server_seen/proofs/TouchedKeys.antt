@@ -11,7 +11,7 @@ use Rattle.table_store.proofs.Orders.{Row, turned}
 use Rattle.server_model.specs.Rows.{same_row, stands}
 use Rattle.server_seen.specs.Written.{with_key, with_keys, is_touched}
 use Rattle.server_seen.specs.Fitting.{KeysAscend}
-use Rattle.server_model.proofs.StatementLaws.Tests.{or_swapped}
+use Rattle.server_model.proofs.LockedRows.Tests.{or_swapped}
 use Rattle.table_store.proofs.PagedTables.RowPages.RowPlaces.{eq_turned}
 
 pub same_both : (a b : Row) → same_row a b ≡ same_row b a

@@ -1,4 +1,4 @@
 -- What the committed tables and the open transactions over them keep, whatever is called.
 pub mod Kept
 pub mod Laws
-pub mod TxnLaws
+pub mod Transactions

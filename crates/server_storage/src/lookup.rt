@@ -30,6 +30,8 @@ pub fn txn_seen<'a>(txns: &'a [OpenTxn], session: u32, unwritten: &'a Txn) -> &'
 {
     match txn_of(txns, session) {
         Some(one) => &one.txn,
+        // One that only reads isn't opened: so each open transaction has an event of each table to which it wrote, by which
+        // a DROP or RENAME of other tables leaves it as it is.
         None => unwritten,
     }
 }

@@ -45,6 +45,8 @@ fn reserve_table(tables: &mut Tables, txns: &[OpenTxn], writes: &Writes) -> Resu
     ensures kept { IsKept tables.new txns.now }
     ensures committed { database tables.new ≡ database tables.old }
 {
+    // As many rows as all open transactions have events, these among them: no table gets more by their commits. So a commit
+    // takes no memory, whoever committed before it.
     let Some(open) = events_open(txns) else {
         return Err(AllocError);
     };

@@ -9,7 +9,7 @@ use Rattle.table_store.proofs.ChangedTables.{new_put}
 use Rattle.table_store.proofs.NamedTables.{no_change, none_after}
 use Rattle.server_model.specs.Rows.{stands, change_rows}
 use Rattle.server_model.specs.Jobs.{change_table}
-use Rattle.server_model.proofs.StatementLaws.OneRow.{same_removal}
+use Rattle.server_model.proofs.LockedRows.OneRow.{same_removal}
 
 -- two changes that do the same to the one table of the name
 same_first : (name : List ℕ) (f g : TableRows → TableRows) (table found : TableRows) (tables : Database) (b : Bool) → is_named name table ≡ b → NamesDiffer (table ∷ tables) → cond b (Some table) (find_table name tables) ≡ Some found → f found ≡ g found

@@ -9,7 +9,7 @@ use Rattle.base_values.specs.GhoSchema.Rows.{key_places}
 use Rattle.base_values.specs.declared.event.Change.{Change}
 use Rattle.base_values.specs.declared.event.RowEvent.{RowEvent}
 use Rattle.server_model.specs.Jobs.{events_of}
-use Rattle.server_model.proofs.StatementLaws.Tests.{are_same}
+use Rattle.server_model.proofs.LockedRows.Tests.{are_same}
 use Rattle.server_seen.specs.Stored.{StoredWrites}
 use Rattle.server_transaction.specs.declared.keyed.KeyedEvent.{KeyedEvent}
 use Rattle.server_transaction.specs.Events.{changes_in, keyed}

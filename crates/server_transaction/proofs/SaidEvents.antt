@@ -7,9 +7,9 @@ use Rattle.table_store.specs.Databases.{TableRows, Database, find_table, with_ch
 use Rattle.table_store.proofs.ChangedTables.{change_found}
 use Rattle.server_model.specs.Jobs.{Job, events_of, result_in, job_says, job_of, change_table}
 use Rattle.server_model.specs.Saying.{tells}
-use Rattle.server_model.specs.StatementLaws.Covering.{IsWellFormedTable, IsSound}
-use Rattle.server_model.specs.StatementLaws.Databases.{WhereFound}
-use Rattle.server_model.proofs.StatementLaws.Stables.{statement_sound}
+use Rattle.server_model.specs.LockedRows.Covering.{IsWellFormedTable, IsSound}
+use Rattle.server_model.specs.LockedRows.Databases.{WhereFound}
+use Rattle.server_model.proofs.LockedRows.Stables.{statement_sound}
 use Rattle.server_seen.specs.Fitting.{AllFit}
 use Rattle.server_transaction.specs.ServerData.Fitting.{FitsIn, EventsFit}
 use Rattle.server_execute.proofs.FittingChanges.{told_fit}

@@ -16,7 +16,7 @@ use Rattle.server_model.specs.Checking.{work_of}
 use Rattle.server_model.specs.Needing.{needs}
 use Rattle.server_model.specs.Saying.{tells}
 use Rattle.server_model.specs.Jobs.{table_of, job_of, result_of, result_in, needs_in, job_says, job_needs, says, row_needs, after_events}
-use Rattle.server_model.specs.StatementLaws.Covering.{IsWellFormedTable}
+use Rattle.server_model.specs.LockedRows.Covering.{IsWellFormedTable}
 use Rattle.server_seen.specs.Written.{Written, nothing, wrote_all}
 use Rattle.server_seen.specs.Stored.{StoredWrites}
 use Rattle.server_transaction.specs.Events.{changes_in}

@@ -11,7 +11,7 @@ use Rattle.std.proofs.lemmas.Option.{slice_get_read, slice_get_past}
 use Rattle.std.proofs.lemmas.List.Folds.{find_at, find-set, find_past, find-append}
 use Rattle.base_values.specs.declared.gho_schema.schema.Schema.{Schema}
 use Rattle.base_values.specs.GhoSchema.Rows.{key_places}
-use Rattle.server_model.proofs.StatementLaws.Tests.{are_same, same_bytes}
+use Rattle.server_model.proofs.LockedRows.Tests.{are_same, same_bytes}
 use Rattle.server_seen.specs.Written.{Written, written_over}
 use Rattle.server_seen.specs.Stored.{StoredWrites}
 use Rattle.server_transaction.specs.Shown.{find_writes}

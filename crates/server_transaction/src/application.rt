@@ -7,7 +7,7 @@ ghost use Rattle.base_values.specs.declared.event.Change.TheVariants as changes;
 ghost use Rattle.table_store.specs.Databases.{database, find_table, with_change, spare_in, others, NamesDiffer};
 ghost use Rattle.server_model.specs.Jobs.{change_table};
 ghost use Rattle.server_transaction.specs.ServerData.Fitting.{FitsIn};
-ghost use Rattle.server_model.specs.StatementLaws.Databases.{WhereFound};
+ghost use Rattle.server_model.specs.LockedRows.Databases.{WhereFound};
 ghost use Rattle.server_transaction.specs.Events.{keyed};
 ghost use Rattle.server_transaction.specs.Rooms.{puts_of};
 

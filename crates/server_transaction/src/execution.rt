@@ -8,7 +8,7 @@ ghost use Rattle.server_model.specs.Checking.{work_of};
 ghost use Rattle.server_model.specs.Needing.{needs};
 ghost use Rattle.server_model.specs.Jobs.{table_of, events_of, result_of, says, row_needs, after_events};
 ghost use Rattle.server_model.specs.Saying.{tells};
-ghost use Rattle.server_model.specs.StatementLaws.Covering.{IsWellFormedTable, IsSound};
+ghost use Rattle.server_model.specs.LockedRows.Covering.{IsWellFormedTable, IsSound};
 ghost use Rattle.server_transaction.specs.Premises.{HasSchema, IsOf, events_ready};
 ghost use Rattle.server_seen.specs.Written.{seen};
 

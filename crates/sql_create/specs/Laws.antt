@@ -1,4 +1,4 @@
--- What holds of all schemas that are read. The module `law_texts::schema_laws` proves it.
+-- What holds of all schemas that are read. The crate `law_texts::schemas` proves it.
 use Rattle.std.specs.Prelude.{◌≡◌, ℕ, List, Ok}
 use Rattle.base_values.specs.declared.gho_schema.schema.Schema.{Schema}
 use Rattle.base_values.specs.SchemaRules.Valid.{IsValid}

@@ -49,6 +49,7 @@ pub fn names_at(alloc: Global, words: &[Token]) -> Result<(Names, &[Token]), Sch
 {
     let mut names = Sequence::new(alloc);
     let mut rest = words;
+    // Each name takes a word, so there are no more names than words: that bounds the loop, and the definition likewise.
     for _ in 0..words.len() {
         let (name, behind) = name_at(alloc, rest)?;
         names.push(name)?;

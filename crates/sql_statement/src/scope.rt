@@ -41,6 +41,7 @@ fn is_left_out(word: &Token) -> bool
 fn has_left_out(words: &[Token]) -> bool
     ensures { result ≡ list_any is_left_out words.now }
 {
+    // Anywhere in the line, also where the word would be a name: such a name stands in backquotes.
     words.iter().any(|word| is_left_out(word))
 }
 

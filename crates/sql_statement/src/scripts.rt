@@ -110,6 +110,7 @@ fn fitting(
     match asked {
         None => Ok(is_open),
         Some(asked) => {
+            // In the order of the codes: the line's place in a transaction, a transaction left open, a table of the tool's.
             let is_open = open_after(is_open, asked)?;
             let is_open = ended_before(alloc, texts, is_open)?;
             unless_tool(tools, is_open, asked)

@@ -1,12 +1,12 @@
 -- A plan that was read may be run alone.
 use Rattle.std.proofs.Common.{[], ◌∷◌}
 use Rattle.std.specs.List.{AllByRecursion}
-use Rattle.proof_schemas.specs.AlterLaws.Laws.{IsClause}
+use Rattle.proof_schemas.specs.Alters.Laws.{IsClause}
 use Rattle.table_store.specs.Databases.{Database}
 use Rattle.plan_reader.specs.PlanTables.Tables.{IsSound}
 use Rattle.plan_data.specs.PlanData.{PlanData}
-use Rattle.proof_plans.specs.AcceptedLaws.Laws.{WasRead}
-use Rattle.proof_plans.proofs.AcceptedLaws.Stated.{plans_accepted, read_worded}
+use Rattle.proof_plans.specs.ReadPlans.Laws.{WasRead}
+use Rattle.proof_plans.proofs.ReadPlans.Stated.{plans_accepted, read_worded}
 use Rattle.test_histories.specs.Histories.{AreValid}
 
 sound_valid : (tables : Database) → AllByRecursion IsSound tables → AreValid tables

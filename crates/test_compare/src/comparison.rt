@@ -1,7 +1,7 @@
 //! The comparison.
 
 ghost use Rattle.std.specs.Prelude.{◌≡◌, map, IfOk};
-ghost use Rattle.proof_plans.specs.AcceptedLaws.Laws.{WasRead};
+ghost use Rattle.proof_plans.specs.ReadPlans.Laws.{WasRead};
 ghost use Rattle.test_histories.specs.Histories.{alone_in_order, history_step_of};
 ghost use Rattle.test_histories.specs.JournalPasts.Walks.{item_as};
 

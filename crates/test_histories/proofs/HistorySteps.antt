@@ -2,7 +2,7 @@
 use Rattle.std.proofs.Common.{◌≡◌, List, [], ◌∷◌, ◌++◌, Option, Some, None, refl, sym, ap, ◌∙◌, subst, append_assoc, append-nil}
 use Rattle.std.specs.List.{AllByRecursion}
 use Rattle.std.specs.Option.{option_and_then, option_map}
-use Rattle.proof_schemas.specs.AlterLaws.Laws.{AlteredSchemasAreValid, IsClause}
+use Rattle.proof_schemas.specs.Alters.Laws.{AlteredSchemasAreValid, IsClause}
 use Rattle.table_store.specs.Databases.{Database}
 use Rattle.server_model.specs.Alone.{alone}
 use Rattle.server_model.specs.declared.transaction.Reply.{Reply}

@@ -6,7 +6,7 @@ use Rattle.std.specs.Result.{result_ok}
 use Rattle.base_values.specs.declared.gho_schema.schema.Schema.{Schema}
 use Rattle.base_values.specs.RowConversion.ConvertedRows.{converted_rows}
 use Rattle.base_values.specs.declared.row_conversion.clause.Clause.{Clause}
-use Rattle.proof_schemas.specs.AlterLaws.Laws.{AlteredSchemasAreValid, IsClause}
+use Rattle.proof_schemas.specs.Alters.Laws.{AlteredSchemasAreValid, IsClause}
 use Rattle.sql_change.specs.Altering.{altered}
 use Rattle.sql_change.specs.declared.code.AlterCode.{AlterCode}
 use Rattle.base_values.specs.declared.event.RowEvent.{RowEvent}
@@ -14,7 +14,7 @@ use Rattle.table_store.proofs.Orders.{Row}
 use Rattle.table_store.specs.Databases.{TableRows, Database, find_table, is_named, with_change}
 use Rattle.base_values.specs.SchemaRules.Valid.{IsValid}
 use Rattle.base_values.proofs.SchemaRules.Steps.{some_is}
-use Rattle.server_model.specs.StatementLaws.Databases.{WhereFound}
+use Rattle.server_model.specs.LockedRows.Databases.{WhereFound}
 use Rattle.server_model.specs.Alone.{Ran, alone, lines_run, nothing_ran, outcome_if, stays}
 use Rattle.server_model.specs.Jobs.{after_events, change_table}
 use Rattle.server_model.specs.declared.transaction.TxnLine.{TxnLine}

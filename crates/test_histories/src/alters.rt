@@ -3,7 +3,7 @@
 ghost use Rattle.std.specs.Prelude.{◌≡◌, if◌then◌else◌, Some, IfOk, option_copied};
 ghost use Rattle.base_values.specs.RowConversion.ConvertedRows.{converted_rows};
 ghost use Rattle.table_store.specs.Databases.{is_named, with_change};
-ghost use Rattle.server_model.specs.StatementLaws.Databases.{WhereFound};
+ghost use Rattle.server_model.specs.LockedRows.Databases.{WhereFound};
 ghost use Rattle.base_values.specs.SchemaRules.Valid.{IsValid};
 ghost use Rattle.tool_program.specs.JournalWords.Altering.{imaged, altered_table, plan_altered_table};
 ghost use Rattle.tool_program.specs.JournalWords.Serials.{altered_in, altered_database};

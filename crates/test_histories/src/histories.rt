@@ -5,7 +5,7 @@ ghost use Rattle.std.specs.Option.{option_map};
 ghost use Rattle.server_model.specs.Alone.{alone};
 ghost use Rattle.tool_program.specs.JournalWords.Serials.{altered_database};
 ghost use Rattle.std.specs.List.{AllByRecursion};
-ghost use Rattle.proof_schemas.specs.AlterLaws.Laws.{IsClause};
+ghost use Rattle.proof_schemas.specs.Alters.Laws.{IsClause};
 ghost use Rattle.test_histories.specs.Histories.{with_replies, alone_in_order, goes_on, AreValid, IfValid};
 ghost use Rattle.test_histories.specs.declared.histories.HistoryStep.{HistoryStep};
 

@@ -1,3 +1,3 @@
 mod CopiedTables
 mod Sets
-mod Updates
+mod UpdateFacts

@@ -32,7 +32,7 @@ fn set_or(set: &Option<Value>, value: &Value) -> Result<Value, AllocError>
 }
 
 /// Adds copies of the row's values, with its columns set to these, where there are such.
-#[tactic(auto, using(server_model::proofs::StatementLaws::Sets::with_sets_more, crate::proofs::Sets::with_no_sets), unfolding(server_model::specs::Saying::with_sets))]
+#[tactic(auto, using(server_model::proofs::LockedRows::Sets::with_sets_more, crate::proofs::Sets::with_no_sets), unfolding(server_model::specs::Saying::with_sets))]
 fn push_with_sets(into: &mut Row, sets: &[Option<Value>], row: &[Value]) -> Result<(), AllocError>
     ensures { OnOk result (into.new ≡ into.old ++ with_sets sets.now row.now) }
 {
@@ -121,8 +121,8 @@ fn steps(
     Ok(Ok(()))
 }
 
-/// The changes of rows that an UPDATE reaches, or `ER_DUP_ENTRY`.
-#[tactic(auto, using(crate::proofs::Updates::ended, crate::proofs::Updates::after_nothing))]
+/// The changes of rows that an UPDATE reaches, or 1062.
+#[tactic(auto, using(crate::proofs::UpdateFacts::ended, crate::proofs::UpdateFacts::after_nothing))]
 fn updates(
     alloc: Global,
     table: &PlainTable,

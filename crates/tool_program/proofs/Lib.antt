@@ -1,5 +1,5 @@
-pub mod ProgramLaws
-pub mod ReplayLaws
+pub mod OnlineCalls
+pub mod Replay
 pub mod EventApplier
 pub mod JournalWords
 pub mod ToolSetup

@@ -6,8 +6,8 @@ pub mod Verdicts
 pub mod Failures
 pub mod Online
 pub mod Orders
-pub mod ProgramLaws
-pub mod ReplayLaws
+pub mod OnlineCalls
+pub mod Replay
 pub mod ChunkCopier
 pub mod EventApplier
 pub mod CutoverCore

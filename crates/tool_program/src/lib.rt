@@ -7,6 +7,6 @@ pub mod chunk_copier;
 pub mod cutover_core;
 pub mod event_applier;
 pub mod journal_words;
-pub mod program_laws;
-pub mod replay_laws;
+pub mod online_calls;
+pub mod replays;
 pub mod tool_setup;

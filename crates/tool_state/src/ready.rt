@@ -46,7 +46,7 @@ impl<'a, V: Serve> ToolView<'a, V> {
     }
 
     /// Whether the tool has a call for an actor that doesn't wait.
-    #[tactic(auto, using(crate::proofs::Calls::setup_calls))]
+    #[tactic(auto, using(crate::proofs::CallFacts::setup_calls))]
     fn has_call(&self, actor: Actor, session: Option<u32>) -> bool
         requires seen { IsSeen (V.state self.now.server.now) self.now.tool.now self.now.names.now self.now.load }
         requires session { session ≡ live_session self.now.journal.now actor }

@@ -13,9 +13,9 @@ use Rattle.tool_program.specs.JournalWords.Journals.{IsFaithful}
 use Rattle.tool_program.specs.Programs.{Follows}
 use Rattle.tool_program.specs.Tools.{moment}
 use Rattle.tool_program.specs.Verdicts.{has_ended, ended_so, verdict_of}
-use Rattle.proof_journals.specs.RunLaws.Kept.{IsKept}
-use Rattle.proof_journals.specs.MachineLaws.Laws.{TellsAlter}
-use Rattle.proof_plans.specs.AcceptedLaws.Laws.{WasRead}
+use Rattle.proof_journals.specs.Run.Kept.{IsKept}
+use Rattle.proof_journals.specs.Machine.Laws.{TellsAlter}
+use Rattle.proof_plans.specs.ReadPlans.Laws.{WasRead}
 use Rattle.run_turns.specs.Runs.{is_over}
 use Rattle.top_call.specs.WholeReplays.SoundRuns.{IsSoundRun}
 use Rattle.top_endings.specs.declared.command.PlanCommand.{PlanCommand}

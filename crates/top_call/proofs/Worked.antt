@@ -4,7 +4,7 @@ use Rattle.std.proofs.lemmas.List.{append_assoc, drop_more, length-map, map-appe
 use Rattle.server_model.specs.declared.entry.Entry.{Entry}
 use Rattle.plan_data.specs.PlanData.{PlanData}
 use Rattle.tool_program.specs.Orders.{WorkerTurn}
-use Rattle.proof_plans.specs.AcceptedLaws.Laws.{WasRead}
+use Rattle.proof_plans.specs.ReadPlans.Laws.{WasRead}
 use Rattle.top_endings.specs.declared.command.PlanCommand.TheVariants.{Run}
 use Rattle.top_endings.specs.declared.printed.Printed.{Printed}
 use Rattle.top_endings.specs.declared.turn.Turn.{Turn}

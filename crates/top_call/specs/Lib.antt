@@ -2,6 +2,6 @@ pub mod Comings
 pub mod Outcomes
 pub mod Promises
 pub mod Standing
-pub mod WorkerLaws
+pub mod WorkerPlans
 pub mod PlanWorks
 pub mod WholeReplays

@@ -9,7 +9,7 @@ use Rattle.plan_reader.specs.declared.fault.PlanRefusal.{PlanRefusal}
 use Rattle.tool_program.specs.JournalWords.Journals.{state_at}
 use Rattle.tool_program.specs.Orders.{WorkerTurn}
 use Rattle.tool_program.specs.Verdicts.{verdict_of}
-use Rattle.proof_plans.specs.AcceptedLaws.Laws.{WasRead}
+use Rattle.proof_plans.specs.ReadPlans.Laws.{WasRead}
 use Rattle.top_report.specs.Reports.{report}
 use Rattle.run_turns.specs.Runs.{is_over}
 use Rattle.top_endings.specs.declared.command.PlanCommand.{PlanCommand}

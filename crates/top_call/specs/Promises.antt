@@ -14,8 +14,8 @@ use Rattle.plan_reader.specs.Plans.{read}
 use Rattle.tool_program.specs.JournalWords.Journals.{state_at}
 use Rattle.tool_program.specs.Failures.{Stands}
 use Rattle.tool_program.specs.Verdicts.{has_ended, verdict_of}
-use Rattle.proof_journals.specs.MachineLaws.Laws.{TellsAlter}
-use Rattle.proof_plans.specs.CompleteLaws.Quiet.{IsQuiet, RowsHaveConvertedRows, IsWithinLimits}
+use Rattle.proof_journals.specs.Machine.Laws.{TellsAlter}
+use Rattle.proof_plans.specs.Complete.Quiet.{IsQuiet, RowsHaveConvertedRows, IsWithinLimits}
 use Rattle.top_report.specs.Reports.{report}
 use Rattle.top_words.specs.Commands.{command}
 use Rattle.top_words.specs.declared.command.Command.{Command}

@@ -1,8 +1,8 @@
--- The laws on which the top call stands. (This project's rule.)
-use Rattle.proof_journals.specs.MachineLaws.Laws.{VerdictsTellTheAlter}
-use Rattle.proof_plans.specs.AcceptedLaws.Laws.{ReadPlansAreRunnable, ReadPlansAreSerial}
-use Rattle.proof_plans.specs.CompleteLaws.Quiet.{QuietRunsAreDone}
-use Rattle.proof_plans.specs.AcceptedLaws.OptionLaws.Laws.{ReadOptionsAllow}
+-- The laws that the top call stands on. (This project's rule.)
+use Rattle.proof_journals.specs.Machine.Laws.{VerdictsTellTheAlter}
+use Rattle.proof_plans.specs.ReadPlans.Laws.{ReadPlansAreRunnable, ReadPlansAreSerial}
+use Rattle.proof_plans.specs.Complete.Quiet.{QuietRunsAreDone}
+use Rattle.proof_plans.specs.ReadPlans.Options.{ReadOptionsAllow}
 
 -- *The laws*: of verdicts, of what every plan that was read is, of quiet runs, and of options
 pub record Laws : Type 0 where

@@ -1,5 +1,5 @@
 //! The whole program from end to end: a plan's bytes in, a report's bytes out. In `whole_replays` the replay of a plan, in
-//! `plan_works` its run by workers, and in `worker_laws` that every plan that was read may be run so.
+//! `plan_works` its run by workers, and in `workers` that every plan that was read may be run so.
 #![tactic(auto)]
 
 mod outcome;
@@ -8,7 +8,7 @@ mod status;
 mod top;
 mod turns;
 pub mod whole_replays;
-pub mod worker_laws;
+pub mod workers;
 
 pub use top::{Ended, ghost_};
 pub use top_endings::{PlanCommand, Status, Turn, Turns};

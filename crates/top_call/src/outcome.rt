@@ -2,7 +2,7 @@
 
 ghost use Rattle.std.specs.Prelude.{◌≡◌, ◌≤◌, [], IfSome, IfOk};
 ghost use Rattle.plan_reader.specs.Plans.{read};
-ghost use Rattle.proof_plans.specs.AcceptedLaws.Laws.{WasRead};
+ghost use Rattle.proof_plans.specs.ReadPlans.Laws.{WasRead};
 ghost use Rattle.top_endings.specs.declared.command.PlanCommand.TheVariants as plans;
 ghost use Rattle.top_endings.specs.Endings.{asked, HasWorkers};
 ghost use Rattle.top_call.specs.WholeReplays.Replays.{IsEnd};

@@ -12,12 +12,9 @@ ghost use Rattle.top_call.specs.Standing.{Laws};
 
 use crate::outcome::{Outcome, outcome_of, untaken};
 use base_edges::{Gate, ReadFault, Sink, Source, read_whole};
-use law_journals::accepted_runs::accepted_laws::laws::{
-    read_plans_are_runnable, read_plans_are_serial,
-};
-use law_journals::accepted_runs::accepted_laws::option_laws::read_options_allow;
-use law_journals::accepted_runs::complete_laws::quiet_runs_are_done;
-use law_journals::history_laws::machine_laws::laws::verdicts_tell_the_alter;
+use law_journals::completion::quiet_runs_are_done;
+use law_journals::machines::verdicts_tell_the_alter;
+use law_journals::plans::{read_options_allow, read_plans_are_runnable, read_plans_are_serial};
 use plan_reader::PLAN_LIMIT;
 use server_model::Journal;
 use std::alloc::Global;

@@ -1,4 +1,4 @@
 pub mod Digits
 pub mod Taking
 pub mod Commands
-pub mod Matches
+pub mod MatchFacts

@@ -41,6 +41,8 @@ fn command_of(alloc: Global, words: &[String]) -> Result<Option<Command>, AllocE
     if has_escape(words) {
         return Ok(None);
     }
+    // `clap` first, and then the forms: so no form can be lost by `clap`, and nothing else that it takes is a command (`run
+    // --workers=x`, its `help`, shortened words).
     match program(alloc)?.try_get_matches_from(words) {
         Ok(matches) if is_form(words) => Ok(told(&matches)),
         Ok(_) => Ok(None),

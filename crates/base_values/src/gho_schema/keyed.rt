@@ -46,6 +46,7 @@ impl<T: Drop> From<AllocFailed<T>> for PutFault {
 #[derive(Drop)]
 pub struct KeyedRows {
     places: Places,
+    // A map and no sort: the contract of a map is a function of its rows, that of a sort leaves the order of ties open.
     entries: BTreeMap<Key, Row>,
 }
 

@@ -88,8 +88,8 @@ fn add(tables: &mut Tables, table: Table) -> Result<(), AllocError>
     }
 }
 
-/// Reads the tables of a plan that migrates the table of this name. That schemas which are read are valid is a law:
-/// `law_texts::schema_laws` proves it.
+/// Reads the tables of a plan that migrates the table of this name. That schemas which are read are lawful is a law:
+/// `law_texts::schemas` proves it.
 pub fn read_tables(
     alloc: Global,
     migrated: &str,

@@ -20,8 +20,8 @@ use Rattle.proof_journals.specs.Holdings.{Face, OneHolder, face_in, face_of, no_
 use Rattle.proof_journals.proofs.Faces.{faces_with, faces_without, joined}
 use Rattle.proof_journals.proofs.Names.{held_joined, one_counts, one_less, one_rests}
 use Rattle.proof_journals.proofs.Serves.{IsFree, done_one, granted}
-use Rattle.server_model.specs.StatementLaws.Agreeing.{Among}
-use Rattle.server_model.proofs.StatementLaws.Tests.{are_one}
+use Rattle.server_model.specs.LockedRows.Agreeing.{Among}
+use Rattle.server_model.proofs.LockedRows.Tests.{are_one}
 use Rattle.proof_journals.specs.ServerFacts.Keeping.{IsServing, WaitsWell}
 use Rattle.proof_journals.specs.ServerFacts.Laws.{OpenedServes, ConnectedServes, CallsServe, PollsServe, LossesServe}
 use Rattle.proof_journals.proofs.ServerFacts.Kept.{Keeps, own_rests, keeps_rests, keeps_holds}

@@ -10,13 +10,13 @@ use Rattle.base_values.specs.declared.gho_schema.schema.Schema.{Schema}
 use Rattle.server_locks.specs.declared.row_locks.lock.Lock.{Lock}
 use Rattle.table_store.specs.Databases.{TableRows, Database, find_table, has_table, with_change, without_table}
 use Rattle.server_model.specs.Jobs.{change_table}
-use Rattle.server_model.specs.StatementLaws.Agreeing.{Agree, TablesAgree}
-use Rattle.server_model.specs.StatementLaws.Covering.{IsWellFormedTable}
-use Rattle.server_model.specs.StatementLaws.Databases.{ChangeCovered, WhereFound, EventsCovered}
-use Rattle.server_model.proofs.StatementLaws.Finding.{change_if, found_after}
-use Rattle.server_model.proofs.StatementLaws.Tests.{are_same}
-use Rattle.proof_journals.specs.GhostLaws.GhostRows.Moments.{Fits}
-use Rattle.proof_journals.specs.GhostLaws.Fitting.{EventsFit, IsFitting}
+use Rattle.server_model.specs.LockedRows.Agreeing.{Agree, TablesAgree}
+use Rattle.server_model.specs.LockedRows.Covering.{IsWellFormedTable}
+use Rattle.server_model.specs.LockedRows.Databases.{ChangeCovered, WhereFound, EventsCovered}
+use Rattle.server_model.proofs.LockedRows.Finding.{change_if, found_after}
+use Rattle.server_model.proofs.LockedRows.Tests.{are_same}
+use Rattle.proof_journals.specs.Ghost.Rows.Moments.{Fits}
+use Rattle.proof_journals.specs.Ghost.Fitting.{EventsFit, IsFitting}
 use Rattle.proof_journals.proofs.Moves.{create_moves, drop_moves, gone_none, none_found}
 use Rattle.proof_journals.specs.Holdings.{Face}
 use Rattle.proof_journals.specs.ServerFacts.Keeping.{AllStand, OwnFits}

@@ -17,9 +17,9 @@ use Rattle.server_model.specs.Jobs.{after_events, copy_job, job_says, says}
 use Rattle.server_model.specs.Locking.{need, need_within}
 use Rattle.server_model.specs.Serving.{at_rest, does, exclusive, holding, locking, unlocking}
 use Rattle.server_model.specs.States.{State, holds_tables, is_in_transaction, names_held, pair_names, session_of, view, with_session, writes_of}
-use Rattle.server_model.specs.StatementLaws.Covering.{Apart}
-use Rattle.server_model.specs.StatementLaws.Databases.{IsWellFormedDatabase}
-use Rattle.server_model.proofs.StatementLaws.Tests.{are_one, turned}
+use Rattle.server_model.specs.LockedRows.Covering.{Apart}
+use Rattle.server_model.specs.LockedRows.Databases.{IsWellFormedDatabase}
+use Rattle.server_model.proofs.LockedRows.Tests.{are_one, turned}
 use Rattle.proof_journals.specs.Scenes.{no_hold, Besides}
 use Rattle.proof_journals.specs.Holdings.{Face, face_in, face_of}
 use Rattle.proof_journals.proofs.Answering.{apart_both}
@@ -29,7 +29,7 @@ use Rattle.proof_journals.proofs.Moves.{Moved, create_moves, drop_moves, rename_
 use Rattle.proof_journals.proofs.Names.{Free, names_granted}
 use Rattle.proof_journals.proofs.Serves.{IsFree}
 use Rattle.proof_journals.proofs.ValidTables.{valid_table}
-use Rattle.proof_journals.proofs.GhostLaws.Fitting.{fitting_end, well_formed_events}
+use Rattle.proof_journals.proofs.Ghost.Fitting.{fitting_end, well_formed_events}
 use Rattle.proof_journals.specs.ServerFacts.Keeping.{OwnFits}
 use Rattle.proof_journals.specs.ServerFacts.Granting.{grown, GrowsWell}
 use Rattle.proof_journals.proofs.ServerFacts.Created.{own_created}

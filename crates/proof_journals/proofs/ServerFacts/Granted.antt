@@ -15,17 +15,17 @@ use Rattle.base_script.specs.declared.statement.Statement.{Statement}
 use Rattle.server_model.specs.declared.need.Need.{Need}
 use Rattle.server_model.specs.Jobs.{Job, table_of, job_of, says, job_says, job_needs, row_needs, result_in, events_of, after_events, change_table, copy_job}
 use Rattle.server_model.specs.Saying.{tells}
-use Rattle.server_model.specs.StatementLaws.Agreeing.{Within}
-use Rattle.server_model.specs.StatementLaws.Databases.{IsWellFormedDatabase, TaskSound}
-use Rattle.server_model.proofs.StatementLaws.Points.{within-left, within-right, within-itself}
-use Rattle.server_model.proofs.StatementLaws.Finding.{agree_within, found_after, says_covered}
-use Rattle.server_model.proofs.StatementLaws.Stables.{covered_both, covered_more, covered_before, statement_sound}
+use Rattle.server_model.specs.LockedRows.Agreeing.{Within}
+use Rattle.server_model.specs.LockedRows.Databases.{IsWellFormedDatabase, TaskSound}
+use Rattle.server_model.proofs.LockedRows.Points.{within-left, within-right, within-itself}
+use Rattle.server_model.proofs.LockedRows.Finding.{agree_within, found_after, says_covered}
+use Rattle.server_model.proofs.LockedRows.Stables.{covered_both, covered_more, covered_before, statement_sound}
 use Rattle.proof_journals.specs.Holdings.{Face}
 use Rattle.proof_journals.proofs.Words.{names_left, names_last, quiet_covered}
 use Rattle.proof_journals.proofs.Tooling.{copies_sound, names_two}
-use Rattle.proof_journals.specs.GhostLaws.Fitting.{EventsFit}
-use Rattle.proof_journals.proofs.GhostLaws.Fitting.{fitting_end, fitting_task, well_formed_events}
-use Rattle.proof_journals.proofs.ServerLaws.Others.{some_changed}
+use Rattle.proof_journals.specs.Ghost.Fitting.{EventsFit}
+use Rattle.proof_journals.proofs.Ghost.Fitting.{fitting_end, fitting_task, well_formed_events}
+use Rattle.proof_journals.proofs.ServerTurns.Others.{some_changed}
 use Rattle.proof_journals.specs.ServerFacts.Keeping.{AllStand, OwnFits}
 use Rattle.proof_journals.specs.ServerFacts.Granting.{grown}
 

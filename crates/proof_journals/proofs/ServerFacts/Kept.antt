@@ -8,17 +8,17 @@ use Rattle.base_values.specs.declared.event.RowEvent.{RowEvent}
 use Rattle.server_locks.specs.declared.row_locks.lock.Lock.{Lock}
 use Rattle.table_store.specs.Databases.{TableRows, Database, find_table}
 use Rattle.server_model.specs.Jobs.{after_events}
-use Rattle.server_model.specs.StatementLaws.Agreeing.{Agree, TablesAgree}
-use Rattle.server_model.specs.StatementLaws.Covering.{Apart}
-use Rattle.server_model.specs.StatementLaws.Databases.{IsWellFormedDatabase, EventsCovered}
-use Rattle.server_model.proofs.StatementLaws.Finding.{tables_itself}
-use Rattle.server_model.proofs.StatementLaws.Stables.{covered_others, others_agree}
-use Rattle.server_model.proofs.StatementLaws.Tests.{turned}
+use Rattle.server_model.specs.LockedRows.Agreeing.{Agree, TablesAgree}
+use Rattle.server_model.specs.LockedRows.Covering.{Apart}
+use Rattle.server_model.specs.LockedRows.Databases.{IsWellFormedDatabase, EventsCovered}
+use Rattle.server_model.proofs.LockedRows.Finding.{tables_itself}
+use Rattle.server_model.proofs.LockedRows.Stables.{covered_others, others_agree}
+use Rattle.server_model.proofs.LockedRows.Tests.{turned}
 use Rattle.proof_journals.specs.Scenes.{SessionHold, no_hold, Besides}
 use Rattle.proof_journals.specs.Holdings.{Face}
 use Rattle.proof_journals.proofs.Kept.{by_number, two_holds, none_apart}
 use Rattle.proof_journals.proofs.Turning.{holds_besides}
-use Rattle.proof_journals.proofs.GhostLaws.Fitting.{fitting_begin, fitting_others}
+use Rattle.proof_journals.proofs.Ghost.Fitting.{fitting_begin, fitting_others}
 use Rattle.proof_journals.specs.ServerFacts.Keeping.{AllStand, OwnFits}
 
 -- what each session holds goes with the tables, and no two hold what conflicts

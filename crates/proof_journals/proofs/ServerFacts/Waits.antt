@@ -13,7 +13,7 @@ use Rattle.server_model.specs.Effects.{Effect, Rests, Grows, Writes, Forgets, Mo
 use Rattle.server_model.specs.Locking.{need, blocker}
 use Rattle.server_model.specs.Serving.{at_rest, counting, does, holding, locking, unlocking}
 use Rattle.server_model.specs.States.{State, holds_tables, is_in_transaction, names_in, new_session, session_of, with_session}
-use Rattle.server_model.proofs.StatementLaws.Tests.{nor_left, nor_right}
+use Rattle.server_model.proofs.LockedRows.Tests.{nor_left, nor_right}
 use Rattle.proof_journals.proofs.Faces.{changed_there, gone_there}
 use Rattle.proof_journals.specs.ServerFacts.Keeping.{WaitsWell}
 

@@ -8,7 +8,7 @@ use Rattle.server_model.specs.Conditions.{MayCall, MayPoll, MayLose}
 use Rattle.server_model.specs.Serving.{calls, polls, leaves}
 use Rattle.server_model.specs.States.{State, opened, connected}
 use Rattle.table_store.specs.Databases.{Database}
-use Rattle.server_model.specs.StatementLaws.Databases.{IsWellFormedDatabase}
+use Rattle.server_model.specs.LockedRows.Databases.{IsWellFormedDatabase}
 use Rattle.proof_journals.specs.ServerFacts.Keeping.{IsServing}
 
 -- *A server that opens serves*, and one to which a session connects

@@ -29,9 +29,9 @@ use Rattle.server_model.specs.declared.request.Request.{Request}
 use Rattle.server_model.specs.declared.request.Request.TheVariants as requests
 use Rattle.server_model.specs.declared.session.Waiting.{Waiting}
 use Rattle.server_model.specs.declared.work.StatementResult.{StatementResult}
-use Rattle.server_model.proofs.StatementLaws.Tests.{are_same}
+use Rattle.server_model.proofs.LockedRows.Tests.{are_same}
 use Rattle.proof_journals.specs.Turns.{request_of}
-use Rattle.proof_journals.proofs.MachineLaws.Schemas.{schema_events}
+use Rattle.proof_journals.proofs.Machine.Schemas.{schema_events}
 use Rattle.proof_plans.specs.Tables.{names_alone}
 use Rattle.proof_plans.proofs.Tables.Refusing.{IsFine, IsOther, copy_fine, tells_other, unfit_other, work_fine}
 

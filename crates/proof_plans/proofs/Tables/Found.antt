@@ -13,16 +13,16 @@ use Rattle.proof_journals.specs.Scenes.{Alter, Leads, PlainItem, Scene, Serial, 
 use Rattle.proof_journals.specs.Turns.{IsSceneRun, history}
 use Rattle.proof_journals.proofs.Journals.{JournalHolds, journal_holds}
 use Rattle.proof_journals.proofs.PlanJournals.{plan_runs_are_scene_runs}
-use Rattle.proof_journals.specs.RunLaws.Kept.{IsKept}
-use Rattle.proof_journals.specs.MachineLaws.Runnable.{IsRunnable}
-use Rattle.proof_migration.specs.CourseLaws.MarkedLaws.Laws.{MarkedJournalsAreRuns}
-use Rattle.proof_migration.specs.CourseLaws.RunnableLaws.Laws.{IsAlterable, IsWorded}
-use Rattle.proof_migration.proofs.CourseLaws.UnalteredLaws.Away.{all_asked}
-use Rattle.proof_migration.proofs.FollowLaws.FollowTurns.Follows.{kept_front, kept_run}
+use Rattle.proof_journals.specs.Run.Kept.{IsKept}
+use Rattle.proof_journals.specs.Machine.Runnable.{IsRunnable}
+use Rattle.proof_migration.specs.Course.Marked.{MarkedJournalsAreRuns}
+use Rattle.proof_migration.specs.Course.Runnable.{IsAlterable, IsWorded}
+use Rattle.proof_migration.proofs.Course.Unaltered.Away.{all_asked}
+use Rattle.proof_migration.proofs.Program.Turns.Follows.{kept_front, kept_run}
 use Rattle.proof_migration.specs.Laws.{RenamesFindTheAltered}
-use Rattle.proof_migration.specs.OnceLaws.Laws.{RenamesComeOnce}
+use Rattle.proof_migration.specs.Once.{RenamesComeOnce}
 use Rattle.proof_migration.proofs.Reverted.{all_marked}
-use Rattle.proof_plans.specs.AcceptedLaws.Laws.{ReadPlansAreAlterable, ReadPlansAreRunnable, ReadPlansAreSerial, ReadPlansAreWorded}
+use Rattle.proof_plans.specs.ReadPlans.Laws.{ReadPlansAreAlterable, ReadPlansAreRunnable, ReadPlansAreSerial, ReadPlansAreWorded}
 use Rattle.proof_plans.specs.Laws.{AcceptedRunsFindTheTable}
 use Rattle.proof_plans.specs.Tables.{FindsTable, IsFound}
 use Rattle.proof_plans.proofs.Tables.Answering.{Stands, events_stand}

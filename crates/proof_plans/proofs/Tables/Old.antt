@@ -32,42 +32,42 @@ use Rattle.tool_program.specs.JournalWords.Histories.{Alter, alters, entry_adds,
 use Rattle.tool_program.specs.JournalWords.Journals.{may_lose, state_at}
 use Rattle.tool_program.specs.Programs.{IsGiven, given, tool_call}
 use Rattle.tool_program.specs.Tools.{Course, Migrating, SettingUp, Work, is_reverting, moment}
-use Rattle.tool_program.proofs.ProgramLaws.Naming.{not_old}
-use Rattle.server_model.proofs.StatementLaws.Tests.{turned_bytes}
+use Rattle.tool_program.proofs.OnlineCalls.Naming.{not_old}
+use Rattle.server_model.proofs.LockedRows.Tests.{turned_bytes}
 use Rattle.proof_journals.specs.Plans.{IsSerialPlan}
-use Rattle.proof_journals.specs.ServerLaws.Others.{DefinitionsAreDone, ExclusiveIsAlone}
+use Rattle.proof_journals.specs.ServerTurns.Others.{DefinitionsAreDone, ExclusiveIsAlone}
 use Rattle.proof_journals.proofs.Actors.{same_actor_is}
 use Rattle.proof_journals.proofs.Moves.{renamed_new, renamed_other}
-use Rattle.proof_journals.proofs.GhostLaws.Turns.{along_next}
-use Rattle.proof_journals.specs.RunLaws.Kept.{IsKept}
-use Rattle.proof_journals.specs.SentryLaws.Sentries.{Fits}
-use Rattle.proof_journals.specs.SentryLaws.Turning.{CourseHolds, IsGuarded, last_session}
-use Rattle.proof_journals.proofs.SentryLaws.Inductions.{all_guarded}
-use Rattle.proof_journals.proofs.SentryLaws.Serving.{exchanged}
-use Rattle.proof_journals.specs.MachineLaws.Machines as machines
-use Rattle.proof_journals.specs.MachineLaws.Machines.{CourseStands, PhaseHolds, WorkStands, held}
-use Rattle.proof_journals.specs.MachineLaws.Runnable.{IsRunnable}
-use Rattle.proof_journals.specs.MachineLaws.Standings.{IsAbout, Standing, answered, free, is_called, is_polled, standing_of}
-use Rattle.proof_journals.proofs.MachineLaws.CuttingOver.{LockerAsks}
-use Rattle.proof_journals.proofs.MachineLaws.Journals.{Asking, IsRun, IsTogether, asking, calls_so, has_now, lock_about, never_commands, polls_so, ren_about}
-use Rattle.proof_journals.proofs.MachineLaws.Marks.{ghost_not_old, history_more}
-use Rattle.proof_journals.proofs.MachineLaws.Schemas.{is_quiet}
-use Rattle.proof_journals.proofs.MachineLaws.Seated.{IsServed, others_stand, own_lost}
-use Rattle.proof_journals.proofs.MachineLaws.Tabling.{Behind, behind, may_define, rests, waits_on}
-use Rattle.proof_migration.specs.CourseLaws.UnalteredLaws.Laws.{IsUnaltered}
-use Rattle.proof_migration.specs.CourseLaws.WaitsLaws.Laws.{WaitsAreTold}
-use Rattle.proof_migration.proofs.CourseLaws.CourseTurns.{gives_asked}
-use Rattle.proof_migration.proofs.CourseLaws.UnalteredLaws.Asking.{AskedAs, ToolCall, exchange_takes}
-use Rattle.proof_migration.proofs.CourseLaws.UnalteredLaws.Away.{IsKnownAsked, all_asked, as_tool, tool_adds}
-use Rattle.proof_migration.specs.AttemptLaws.RenamedLaws.Laws.{CourseRenamed, IsRenamedAt}
-use Rattle.proof_migration.proofs.AttemptLaws.RenamedLaws.Seen.{all_seen}
-use Rattle.proof_migration.proofs.FollowLaws.FollowTurns.Follows.{kept_front, kept_run}
-use Rattle.proof_migration.specs.OnceLaws.Laws.{RenamesComeOnce}
-use Rattle.proof_migration.specs.RenameLaws.Laws.{IsRename, JournalsAreTurned}
-use Rattle.proof_migration.proofs.OnceLaws.Once.{Renaming, exchanges, renamed_past, renaming}
-use Rattle.proof_migration.proofs.OnceLaws.Past.{CoursePast, IsPast, NoMake, call_makes, goes_past, makes, ren_asks, told_renamed}
-use Rattle.proof_migration.proofs.RenameLaws.Renames.{Found, renames_found}
-use Rattle.proof_plans.specs.AcceptedLaws.Laws.{ReadPlansAreRunnable, ReadPlansAreSerial}
+use Rattle.proof_journals.proofs.Ghost.Turns.{along_next}
+use Rattle.proof_journals.specs.Run.Kept.{IsKept}
+use Rattle.proof_journals.specs.Sentry.Sentries.{Fits}
+use Rattle.proof_journals.specs.Sentry.Turning.{CourseHolds, IsGuarded, last_session}
+use Rattle.proof_journals.proofs.Sentry.Inductions.{all_guarded}
+use Rattle.proof_journals.proofs.Sentry.Serving.{exchanged}
+use Rattle.proof_journals.specs.Machine.Machines as machines
+use Rattle.proof_journals.specs.Machine.Machines.{CourseStands, PhaseHolds, WorkStands, held}
+use Rattle.proof_journals.specs.Machine.Runnable.{IsRunnable}
+use Rattle.proof_journals.specs.Machine.Standings.{IsAbout, Standing, answered, free, is_called, is_polled, standing_of}
+use Rattle.proof_journals.proofs.Machine.CuttingOver.{LockerAsks}
+use Rattle.proof_journals.proofs.Machine.Journals.{Asking, IsRun, IsTogether, asking, calls_so, has_now, lock_about, never_commands, polls_so, ren_about}
+use Rattle.proof_journals.proofs.Machine.Marks.{ghost_not_old, history_more}
+use Rattle.proof_journals.proofs.Machine.Schemas.{is_quiet}
+use Rattle.proof_journals.proofs.Machine.Seated.{IsServed, others_stand, own_lost}
+use Rattle.proof_journals.proofs.Machine.Tabling.{Behind, behind, may_define, rests, waits_on}
+use Rattle.proof_migration.specs.Course.Unaltered.{IsUnaltered}
+use Rattle.proof_migration.specs.Course.Waits.{WaitsAreTold}
+use Rattle.proof_migration.proofs.Course.CourseTurns.{gives_asked}
+use Rattle.proof_migration.proofs.Course.Unaltered.Asking.{AskedAs, ToolCall, exchange_takes}
+use Rattle.proof_migration.proofs.Course.Unaltered.Away.{IsKnownAsked, all_asked, as_tool, tool_adds}
+use Rattle.proof_migration.specs.Attempt.Renamed.{CourseRenamed, IsRenamedAt}
+use Rattle.proof_migration.proofs.Attempt.Renamed.Seen.{all_seen}
+use Rattle.proof_migration.proofs.Program.Turns.Follows.{kept_front, kept_run}
+use Rattle.proof_migration.specs.Once.{RenamesComeOnce}
+use Rattle.proof_migration.specs.CutOver.{IsRename, JournalsAreTurned}
+use Rattle.proof_migration.proofs.Once.Renames.{Renaming, exchanges, renamed_past, renaming}
+use Rattle.proof_migration.proofs.Once.Past.{CoursePast, IsPast, NoMake, call_makes, goes_past, makes, ren_asks, told_renamed}
+use Rattle.proof_migration.proofs.CutOver.Renames.{Found, renames_found}
+use Rattle.proof_plans.specs.ReadPlans.Laws.{ReadPlansAreRunnable, ReadPlansAreSerial}
 use Rattle.proof_plans.specs.Laws.{AcceptedRunsKeepTheOldTable}
 use Rattle.proof_plans.specs.Tables.{IsAsItWas, KeepsOldTable}
 use Rattle.proof_plans.proofs.Tables.Turns.{IsUnwritten, Left, TurnAbout, all_unwritten, asks_so, left_gone, left_renamed, left_so, rests_left, rests_so, turn_about, turn_left, writes_no_old}

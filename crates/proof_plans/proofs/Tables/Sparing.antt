@@ -22,12 +22,12 @@ use Rattle.server_model.specs.declared.request.Request.TheVariants as requests
 use Rattle.server_model.specs.declared.session.Session.{Session}
 use Rattle.server_model.specs.declared.session.Waiting.{Waiting}
 use Rattle.server_model.specs.declared.work.StatementResult.{StatementResult}
-use Rattle.server_model.proofs.StatementLaws.Finding.{change_if, found_after}
-use Rattle.server_model.proofs.StatementLaws.Tests.{are_same}
+use Rattle.server_model.proofs.LockedRows.Finding.{change_if, found_after}
+use Rattle.server_model.proofs.LockedRows.Tests.{are_same}
 use Rattle.proof_journals.specs.Turns.{request_of}
 use Rattle.proof_journals.proofs.Moves.{drop_moves, gone_none}
-use Rattle.proof_migration.proofs.OnceLaws.Past.{makes}
-use Rattle.proof_plans.proofs.CompleteLaws.Untouched.{NoneOf}
+use Rattle.proof_migration.proofs.Once.Past.{makes}
+use Rattle.proof_plans.proofs.Complete.Untouched.{NoneOf}
 
 -- the request writes no row of the table
 abbrev pub WritesNo : List ℕ → Request → Type 0

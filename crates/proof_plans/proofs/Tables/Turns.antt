@@ -35,18 +35,18 @@ use Rattle.proof_journals.specs.Scenes.{Stored}
 use Rattle.proof_journals.specs.Turns.{ClientAsks, answer_at, inner, missed_at, request_of}
 use Rattle.proof_journals.proofs.Joined.{told_answer, told_missed}
 use Rattle.proof_journals.proofs.Journals.{opened_waits, stored_opened}
-use Rattle.server_model.proofs.StatementLaws.Tests.{are_same, same_bytes}
-use Rattle.proof_journals.specs.MachineLaws.Runnable.{IsRunnable}
-use Rattle.proof_journals.specs.MachineLaws.Standings.{IsAbout, Standing, is_called, is_polled, standing_of}
-use Rattle.proof_journals.proofs.MachineLaws.Asking.{WaitsWith}
-use Rattle.proof_journals.proofs.MachineLaws.Journals.{IsRun, IsTogether, all_runs}
-use Rattle.proof_journals.proofs.MachineLaws.Marks.{ghost_not_old}
-use Rattle.proof_journals.proofs.MachineLaws.Polling.{given_idle, given_waits}
-use Rattle.proof_journals.proofs.MachineLaws.Seated.{IsServed, own_waiting, state_more}
-use Rattle.proof_journals.proofs.MachineLaws.Tabling.{QuietAt, given_quiet}
-use Rattle.proof_migration.proofs.CourseLaws.UnalteredLaws.Asking.{AskedAs, ToolCall, given_asked}
-use Rattle.proof_migration.proofs.CourseLaws.UnalteredLaws.Away.{IsKnownAsked, asked_begins, asked_more, tool_not_mine}
-use Rattle.proof_migration.proofs.OnceLaws.Past.{makes}
+use Rattle.server_model.proofs.LockedRows.Tests.{are_same, same_bytes}
+use Rattle.proof_journals.specs.Machine.Runnable.{IsRunnable}
+use Rattle.proof_journals.specs.Machine.Standings.{IsAbout, Standing, is_called, is_polled, standing_of}
+use Rattle.proof_journals.proofs.Machine.Asking.{WaitsWith}
+use Rattle.proof_journals.proofs.Machine.Journals.{IsRun, IsTogether, all_runs}
+use Rattle.proof_journals.proofs.Machine.Marks.{ghost_not_old}
+use Rattle.proof_journals.proofs.Machine.Polling.{given_idle, given_waits}
+use Rattle.proof_journals.proofs.Machine.Seated.{IsServed, own_waiting, state_more}
+use Rattle.proof_journals.proofs.Machine.Tabling.{QuietAt, given_quiet}
+use Rattle.proof_migration.proofs.Course.Unaltered.Asking.{AskedAs, ToolCall, given_asked}
+use Rattle.proof_migration.proofs.Course.Unaltered.Away.{IsKnownAsked, asked_begins, asked_more, tool_not_mine}
+use Rattle.proof_migration.proofs.Once.Past.{makes}
 use Rattle.proof_plans.specs.Tables.{IsFound, is_missing, names_alone}
 use Rattle.proof_plans.proofs.Tables.Refusing.{IsOther}
 use Rattle.proof_plans.proofs.Tables.Answering.{Stands, called_other, polled_other}

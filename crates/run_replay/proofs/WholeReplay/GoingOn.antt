@@ -18,9 +18,9 @@ use Rattle.tool_program.specs.JournalWords.Keeping.{cut_due}
 use Rattle.tool_program.specs.JournalWords.Sessions.{NumbersSessions}
 use Rattle.proof_journals.proofs.Journals.{state_more}
 use Rattle.tool_program.specs.Orders.{actors, Queue, Choice, Walk, words_in, chosen, queue_left, queue_after, walked, queue_at, actor_of, next_actor, IsNext, ReplayOrder, IsReplay}
-use Rattle.proof_journals.specs.RunLaws.Counting.{IsAfter}
-use Rattle.proof_journals.specs.RunLaws.Kept.{IsKept}
-use Rattle.proof_journals.proofs.RunLaws.Keeping.{kept_none}
+use Rattle.proof_journals.specs.Run.Counting.{IsAfter}
+use Rattle.proof_journals.specs.Run.Kept.{IsKept}
+use Rattle.proof_journals.proofs.Run.Keeping.{kept_none}
 use Rattle.run_turns.specs.declared.due_turns.migration_run.turn.Turn.{Turn}
 use Rattle.run_turns.specs.DueTurns.MigrationRun.Turning.{entry_on}
 use Rattle.run_turns.specs.DueTurns.Due.{due, next_entry}

@@ -6,7 +6,7 @@ use Rattle.tool_program.specs.JournalWords.Journals.{opening, state_at}
 use Rattle.tool_program.specs.JournalWords.Keeping.{cut_due}
 use Rattle.tool_program.specs.JournalWords.Sessions.{NumbersSessions}
 use Rattle.tool_program.specs.Orders.{queue_at, next_actor, ReplayOrder}
-use Rattle.proof_journals.specs.RunLaws.Kept.{IsKept}
+use Rattle.proof_journals.specs.Run.Kept.{IsKept}
 use Rattle.run_turns.specs.declared.run.Stepped.{Stepped}
 use Rattle.run_turns.specs.declared.run.Stepped.TheVariants.{Took, Idle, Over, NoMemory}
 use Rattle.run_turns.specs.Runs.{RunView, is_over, IsUnmoved, Stops}

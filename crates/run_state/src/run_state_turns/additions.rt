@@ -7,7 +7,7 @@ ghost use Rattle.tool_program.specs.JournalWords.Journals.{after_entry};
 ghost use Rattle.tool_program.specs.Tools.{moment};
 ghost use Rattle.tool_program.specs.ToolSetup.Meanings.{range_told};
 ghost use Rattle.tool_state.specs.ToolState.Sound.{HasRoom};
-ghost use Rattle.proof_journals.specs.RunLaws.Counting.{busy_count};
+ghost use Rattle.proof_journals.specs.Run.Counting.{busy_count};
 ghost use Rattle.run_state.specs.Books.{is_planned, actor_state_in, renames_of, AreReached, HasRoomFor, IsRunState};
 
 use crate::{RunState, script_of};

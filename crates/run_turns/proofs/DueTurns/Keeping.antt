@@ -16,12 +16,12 @@ use Rattle.tool_program.specs.JournalWords.Journals.{opening, state_at, after_en
 use Rattle.tool_program.specs.JournalWords.Keeping.{side_due, TakesNext, IsStruck, IsPlanned}
 use Rattle.tool_program.specs.JournalWords.Sessions.{live_session, sessions_named, IsInSession, IsNumbered, NumbersSessions}
 use Rattle.tool_program.specs.Programs.{given, IsGiven, IsFollowed}
-use Rattle.proof_journals.specs.RunLaws.Counting.{IsAfter}
-use Rattle.proof_journals.specs.RunLaws.Kept.{IsKept}
-use Rattle.proof_journals.specs.RunLaws.Laws.{Living}
-use Rattle.proof_journals.proofs.RunLaws.Keeping.{kept_more, next_of}
+use Rattle.proof_journals.specs.Run.Counting.{IsAfter}
+use Rattle.proof_journals.specs.Run.Kept.{IsKept}
+use Rattle.proof_journals.specs.Run.Laws.{Living}
+use Rattle.proof_journals.proofs.Run.Keeping.{kept_more, next_of}
 use Rattle.proof_journals.proofs.Journals.{state_more}
-use Rattle.proof_journals.proofs.RunLaws.Living.{all_living}
+use Rattle.proof_journals.proofs.Run.Living.{all_living}
 use Rattle.run_turns.specs.declared.due_turns.migration_run.turn.Turn.{Turn}
 use Rattle.run_turns.specs.DueTurns.MigrationRun.Turning.{answer_on, entry_on}
 use Rattle.run_turns.specs.DueTurns.Due.{session_at, next_entry}

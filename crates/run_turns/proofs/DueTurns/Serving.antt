@@ -7,9 +7,9 @@ use Rattle.server_model.specs.Entries.{is_client, is_command}
 use Rattle.server_model.specs.States.{State, session_of, connected}
 use Rattle.server_model.specs.Serving.{Served, serves, leaves}
 use Rattle.tool_program.specs.JournalWords.Journals.{opens_if, opens, after_entry}
-use Rattle.proof_journals.specs.RunLaws.Counting.{numbered, IsAfter}
-use Rattle.proof_journals.proofs.RunLaws.Numbering.{serves_numbered, leaves_numbered}
-use Rattle.proof_journals.proofs.RunLaws.Turns.{turn_leaves, opened}
+use Rattle.proof_journals.specs.Run.Counting.{numbered, IsAfter}
+use Rattle.proof_journals.proofs.Run.Numbering.{serves_numbered, leaves_numbered}
+use Rattle.proof_journals.proofs.Run.Turns.{turn_leaves, opened}
 
 -- the greatest number behind the opening of a session
 abbrev pub made_after : Bool → ℕ → ℕ → ℕ

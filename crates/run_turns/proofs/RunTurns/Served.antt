@@ -20,11 +20,11 @@ use Rattle.tool_program.specs.JournalWords.Keeping.{side_due}
 use Rattle.tool_program.specs.JournalWords.Sessions.{live_session}
 use Rattle.tool_program.specs.Programs.{IsFollowed, Follows}
 use Rattle.tool_program.specs.Tools.{moment}
-use Rattle.proof_journals.specs.RunLaws.Counting.{numbered, IsAfter, busy_count}
-use Rattle.proof_journals.proofs.RunLaws.Keeping.{kept_none}
-use Rattle.proof_journals.proofs.RunLaws.Taking.{server_is}
-use Rattle.proof_journals.proofs.RunLaws.Living.{never_lost}
-use Rattle.proof_journals.specs.MachineLaws.Runnable.{IsRunnable}
+use Rattle.proof_journals.specs.Run.Counting.{numbered, IsAfter, busy_count}
+use Rattle.proof_journals.proofs.Run.Keeping.{kept_none}
+use Rattle.proof_journals.proofs.Run.Taking.{server_is}
+use Rattle.proof_journals.proofs.Run.Living.{never_lost}
+use Rattle.proof_journals.specs.Machine.Runnable.{IsRunnable}
 use Rattle.run_turns.specs.declared.due_turns.migration_run.counting.Counts.{Counts}
 use Rattle.run_turns.specs.declared.due_turns.migration_run.turn.Turn.{Turn}
 use Rattle.run_turns.specs.DueTurns.MigrationRun.Turning.{session_for, made_for, opened_on, entry_on, counts_of, MayTurn}

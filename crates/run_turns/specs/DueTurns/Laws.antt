@@ -6,8 +6,8 @@ use Rattle.server_model.specs.States.{State}
 use Rattle.plan_data.specs.PlanData.{PlanData}
 use Rattle.tool_program.specs.JournalWords.Journals.{after_entry, state_at}
 use Rattle.tool_program.specs.JournalWords.Sessions.{NumbersSessions}
-use Rattle.proof_journals.specs.RunLaws.Counting.{IsAfter}
-use Rattle.proof_journals.specs.RunLaws.Kept.{IsKept}
+use Rattle.proof_journals.specs.Run.Counting.{IsAfter}
+use Rattle.proof_journals.specs.Run.Kept.{IsKept}
 use Rattle.run_turns.specs.declared.due_turns.migration_run.turn.Turn.{Turn}
 use Rattle.run_turns.specs.DueTurns.Due.{due, next_entry}
 

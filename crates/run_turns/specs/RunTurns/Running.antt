@@ -5,9 +5,9 @@ use Rattle.server_model.specs.declared.entry.Entry.{Entry}
 use Rattle.server_model.specs.States.{State}
 use Rattle.plan_data.specs.PlanData.{PlanData}
 use Rattle.tool_program.specs.JournalWords.Journals.{state_at}
-use Rattle.proof_journals.specs.RunLaws.Counting.{IsAfter}
-use Rattle.proof_journals.specs.RunLaws.Kept.{IsKept}
-use Rattle.proof_journals.specs.MachineLaws.Runnable.{IsRunnable}
+use Rattle.proof_journals.specs.Run.Counting.{IsAfter}
+use Rattle.proof_journals.specs.Run.Kept.{IsKept}
+use Rattle.proof_journals.specs.Machine.Runnable.{IsRunnable}
 use Rattle.run_state.specs.declared.run_state.RunState.{RunState}
 use Rattle.run_state.specs.Books.{IsRunState}
 use Rattle.run_turns.specs.declared.due_turns.migration_run.turn.Turn.{Turn}

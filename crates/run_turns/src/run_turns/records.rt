@@ -4,7 +4,7 @@ ghost use Rattle.std.specs.Prelude.{◌≡◌, ◌+◌, ◌<◌, ◌^◌, [], �
 ghost use Rattle.server_model.specs.States.{has_work, load};
 ghost use Rattle.tool_program.specs.JournalWords.Journals.{after_entry};
 ghost use Rattle.tool_program.specs.Tools.{moment};
-ghost use Rattle.proof_journals.specs.RunLaws.Counting.{busy_count};
+ghost use Rattle.proof_journals.specs.Run.Counting.{busy_count};
 ghost use Rattle.run_state.specs.Books.{is_planned, HasRoomFor, IsRunState};
 ghost use Rattle.run_turns.specs.DueTurns.DueCalls.Ranges.{IsTold};
 

@@ -2,7 +2,7 @@
 
 ghost use Rattle.std.specs.Prelude.{◌≡◌, ◌+◌, ◌<◌, ◌^◌, [], ◌∷◌, ◌++◌, length, OnOk, OnErr};
 ghost use Rattle.tool_program.specs.JournalWords.Journals.{after_entry};
-ghost use Rattle.proof_journals.specs.RunLaws.Counting.{IsAfter};
+ghost use Rattle.proof_journals.specs.Run.Counting.{IsAfter};
 ghost use Rattle.run_turns.specs.DueTurns.Due.{next_entry};
 ghost use Rattle.run_turns.specs.RunTurns.Running.{IsDue, IsRun};
 

@@ -6,7 +6,7 @@ use Rattle.base_script.specs.declared.actor.Actor.TheVariants.{Op, Insp, Copy, A
 use Rattle.base_script.specs.declared.script.ScriptLine.{ScriptLine}
 use Rattle.server_model.specs.Entries.{same_actor}
 use Rattle.plan_data.specs.PlanData.{PlanData}
-use Rattle.server_model.proofs.StatementLaws.Tests.{are_one}
+use Rattle.server_model.proofs.LockedRows.Tests.{are_one}
 use Rattle.tool_program.specs.Orders.{actors, clients_from, is_among}
 use Rattle.run_workers.specs.WorkerRun.Workers.{tool_actors}
 

@@ -11,7 +11,7 @@ use Rattle.std.proofs.lemmas.List.Sums.{fold-append}
 use Rattle.base_script.specs.declared.actor.Actor.{Actor}
 use Rattle.server_model.specs.Entries.{is_cut}
 use Rattle.plan_data.specs.PlanData.{PlanData}
-use Rattle.server_model.proofs.StatementLaws.Tests.{same_number, are_one}
+use Rattle.server_model.proofs.LockedRows.Tests.{same_number, are_one}
 use Rattle.tool_program.specs.Orders.{actors, owned_from, owned, is_among, behind, Paired, taken_after, last_taken}
 use Rattle.run_workers.specs.declared.worker_run.seats.Member.{Member}
 use Rattle.run_workers.specs.WorkerRun.Workers.{GoesOnFrom, places_after}

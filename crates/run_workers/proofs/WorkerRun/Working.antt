@@ -14,13 +14,13 @@ use Rattle.server_model.specs.States.{State}
 use Rattle.plan_data.specs.PlanData.{PlanData}
 use Rattle.tool_program.specs.JournalWords.Journals.{opening, state_at, after_entry, state_after}
 use Rattle.tool_program.specs.JournalWords.Sessions.{NumbersSessions}
-use Rattle.server_model.proofs.StatementLaws.Tests.{are_one}
+use Rattle.server_model.proofs.LockedRows.Tests.{are_one}
 use Rattle.proof_journals.proofs.Journals.{state_more}
 use Rattle.tool_program.specs.Orders.{actors, is_ready, owned, WorkerTurn, last_taken, picked, worker_actor, IsNext}
 use Rattle.tool_program.specs.Verdicts.{has_ended}
-use Rattle.proof_journals.specs.RunLaws.Counting.{IsAfter}
-use Rattle.proof_journals.specs.RunLaws.Kept.{IsKept}
-use Rattle.proof_journals.proofs.RunLaws.Keeping.{kept_none}
+use Rattle.proof_journals.specs.Run.Counting.{IsAfter}
+use Rattle.proof_journals.specs.Run.Kept.{IsKept}
+use Rattle.proof_journals.proofs.Run.Keeping.{kept_none}
 use Rattle.run_turns.specs.DueTurns.MigrationRun.Turning.{entry_on}
 use Rattle.run_turns.specs.DueTurns.Due.{due, next_entry}
 use Rattle.run_turns.proofs.DueTurns.Coming.{Comes, Cuts, Gives, comes}

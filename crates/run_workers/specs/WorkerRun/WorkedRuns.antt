@@ -12,7 +12,7 @@ use Rattle.plan_data.specs.PlanData.{PlanData}
 use Rattle.tool_program.specs.JournalWords.Journals.{state_at}
 use Rattle.tool_program.specs.JournalWords.Sessions.{NumbersSessions}
 use Rattle.tool_program.specs.Orders.{owned, WorkerTurn, Paired, last_taken, worker_actor, IsNext}
-use Rattle.proof_journals.specs.RunLaws.Kept.{IsKept}
+use Rattle.proof_journals.specs.Run.Kept.{IsKept}
 use Rattle.run_turns.specs.declared.due_turns.migration_run.turn.Turn.{Turn}
 use Rattle.run_turns.specs.DueTurns.Due.{due, next_entry}
 use Rattle.run_desk.specs.declared.shared_state.Entry.{Entry as Taken}

@@ -6,8 +6,8 @@ use Rattle.base_script.specs.declared.actor.Actor.{Actor}
 use Rattle.base_script.specs.declared.actor.Actor.TheVariants.{Op, Insp, Copy, Apply, Lock, Ren}
 use Rattle.server_model.specs.declared.entry.Entry.{Entry}
 use Rattle.plan_data.specs.PlanData.{PlanData}
-use Rattle.proof_journals.specs.RunLaws.Kept.{IsKept}
-use Rattle.proof_journals.specs.MachineLaws.Runnable.{IsRunnable}
+use Rattle.proof_journals.specs.Run.Kept.{IsKept}
+use Rattle.proof_journals.specs.Machine.Runnable.{IsRunnable}
 use Rattle.tool_program.specs.Verdicts.{has_ended}
 use Rattle.tool_program.specs.Orders.{actors, is_ready, is_ready_idle, is_ready_waiting, owned_from, owned, is_among, after_last}
 use Rattle.run_workers.specs.declared.worker_run.seats.Member.{Member}

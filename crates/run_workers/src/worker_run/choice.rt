@@ -2,7 +2,7 @@
 
 ghost use Rattle.std.specs.Prelude.{◌≡◌, ◌<◌, ◌+◌, ◌^◌, true, find, drop, slice_get, option_map, Option, Some, IfSome};
 ghost use Rattle.base_script.specs.declared.actor.Actor.{Actor};
-ghost use Rattle.proof_journals.specs.RunLaws.Kept.{IsKept};
+ghost use Rattle.proof_journals.specs.Run.Kept.{IsKept};
 ghost use Rattle.tool_program.specs.Orders.{actors, is_ready, owned, picked};
 ghost use Rattle.run_workers.specs.WorkerRun.Workers.{IsGoing, is_wanted, GoesOnFrom};
 

@@ -73,6 +73,7 @@ impl<'a, V: Serve> Worked<'a, V> {
         let limit = run.plan().options().turn_limit;
         Ok(Worked {
             turns: Vec::with_capacity(alloc, limit as usize)?,
+            // The place after all actors: so each worker's rotation begins with its first actor.
             places: vec![in alloc; actor_count(&run); workers as usize]?,
             run,
             workers,
@@ -113,6 +114,8 @@ impl<'a, V: Serve> Worked<'a, V> {
                 Turned::Took
             }
             Stepped::NoMemory => {
+                // The server may have made a session for this turn that is lost again. Another turn would leave a number
+                // out.
                 self.is_short = true;
                 Turned::NoMemory
             }

@@ -3,7 +3,7 @@
 ghost use Rattle.std.specs.Prelude.{◌≡◌, ◌≤◌};
 ghost use Rattle.table_store.specs.Databases.{database};
 ghost use Rattle.server_model.specs.States.{opened};
-ghost use Rattle.server_model.specs.StatementLaws.Databases.{IsWellFormedDatabase};
+ghost use Rattle.server_model.specs.LockedRows.Databases.{IsWellFormedDatabase};
 
 use crate::Server;
 use base_values::Names;

@@ -39,6 +39,8 @@ pub fn names_to_add(
 ) -> Result<Names, AllocError>
     ensures { IfOk result (λ more. map (held_by session exclusive) more ≡ added (all_locks granted.now) session exclusive names.now) }
 {
+    // An exclusive request adds all its names, so that its end takes away just what it added. A shared one adds what the
+    // session lacks, so that the list of a long transaction doesn't grow with its statements.
     if exclusive {
         return names.copy();
     }

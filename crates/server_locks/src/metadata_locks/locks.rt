@@ -40,6 +40,7 @@ struct Mark {
 /// The names that sessions hold, shared or exclusively, and the requests that wait to hold some exclusively.
 #[derive(Drop)]
 pub struct MetaLocks {
+    // Whole requests in two vectors: a poll moves one from the one to the other, and `undo` moves it back, without memory.
     granted: Vec<Request>,
     waiting: Vec<Waiter>,
     last: Option<Mark>,

@@ -18,6 +18,7 @@ use std::marker::Model;
 #[derive(Drop)]
 pub struct HeldLocks {
     locks: Vec<Lock>,
+    // Nothing is ever taken out of it: a transaction only adds locks, and frees all together.
     index: LockIndex,
 }
 

@@ -103,6 +103,8 @@ impl Sessions {
         ensures ok { OnOk result (self.new ≡ connected (self.old.made + 1) is_tool self.old) }
         ensures err { OnErr result (self.new ≡ self.old) }
     {
+        // Numbers rise, and need not be next to one another in a journal: a session that was made for a turn without memory
+        // has used one up.
         let number = self.made + 1;
         connect(self.alloc, &mut self.sessions, number, is_tool)?;
         self.made = number;

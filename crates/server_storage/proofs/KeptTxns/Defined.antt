@@ -12,15 +12,15 @@ use Rattle.table_store.specs.Databases.{TableRows, StoredTable, Database, databa
 use Rattle.table_store.specs.declared.renames.Pair.{Pair}
 use Rattle.table_store.specs.declared.renames.NotRenamed.TheVariants as reasons
 use Rattle.server_model.specs.States.{pair_names}
-use Rattle.server_model.specs.StatementLaws.Covering.{IsWellFormedTable}
-use Rattle.server_model.specs.StatementLaws.Databases.{IsWellFormedDatabase}
-use Rattle.server_model.proofs.StatementLaws.Tests.{are_same, turned_bytes, nor_left, nor_right}
+use Rattle.server_model.specs.LockedRows.Covering.{IsWellFormedTable}
+use Rattle.server_model.specs.LockedRows.Databases.{IsWellFormedDatabase}
+use Rattle.server_model.proofs.LockedRows.Tests.{are_same, turned_bytes, nor_left, nor_right}
 use Rattle.proof_journals.proofs.Moves.{create_moves, drop_moves, rename_moves}
 use Rattle.server_transaction.specs.ServerData.Fitting.{NoneOf}
 use Rattle.server_transaction.specs.Premises.{IsOf}
 use Rattle.server_transaction.specs.Rooms.{puts_of, puts_in}
-use Rattle.server_storage.specs.KeptTxns.TxnLaws.Laws.{HasEvents}
-use Rattle.server_storage.proofs.KeptTxns.TxnLaws.Moved.{outlasts_creations, outlasts_drops, outlasts_renames}
+use Rattle.server_storage.specs.KeptTxns.Transactions.{HasEvents}
+use Rattle.server_storage.proofs.KeptTxns.Transactions.Moved.{outlasts_creations, outlasts_drops, outlasts_renames}
 use Rattle.server_storage.specs.declared.open_txns.txns.OpenTxn.{OpenTxn}
 use Rattle.server_storage.specs.OpenTxns.Open.{puts_open}
 use Rattle.server_storage.specs.KeptTxns.Kept.{IsKept}

@@ -3,7 +3,7 @@ use Rattle.std.proofs.Common.{◌≡◌, ℕ, ◌==◌, Bool, true, false, not, 
 use Rattle.std.specs.Option.{option_map}
 use Rattle.std.specs.List.{AllByRecursion}
 use Rattle.base_values.specs.declared.event.RowEvent.{RowEvent}
-use Rattle.server_model.proofs.StatementLaws.Tests.{same_number, are_one}
+use Rattle.server_model.proofs.LockedRows.Tests.{same_number, are_one}
 use Rattle.server_transaction.specs.Stored.{StoredTxn}
 use Rattle.server_storage.specs.declared.open_txns.txns.OpenTxn.{OpenTxn}
 use Rattle.server_storage.specs.OpenTxns.Open.{txn_of, others, with_txn, written_in, written_of, OneEach, IsChanged}

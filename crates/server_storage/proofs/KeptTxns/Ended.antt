@@ -4,13 +4,13 @@ use Rattle.std.specs.List.{AllByRecursion}
 use Rattle.base_values.specs.declared.event.RowEvent.{RowEvent}
 use Rattle.table_store.specs.Databases.{StoredTable, Database, database}
 use Rattle.server_model.specs.Jobs.{after_events}
-use Rattle.server_model.specs.StatementLaws.Databases.{IsWellFormedDatabase}
+use Rattle.server_model.specs.LockedRows.Databases.{IsWellFormedDatabase}
 use Rattle.server_transaction.specs.ServerData.Fitting.{EventsFit}
 use Rattle.server_transaction.specs.Premises.{IsOf}
 use Rattle.server_transaction.specs.Rooms.{puts_in}
 use Rattle.server_transaction.specs.Stored.{StoredTxn}
-use Rattle.server_storage.specs.KeptTxns.TxnLaws.Laws.{HasEvents}
-use Rattle.server_storage.proofs.KeptTxns.TxnLaws.Kept.{outlasts}
+use Rattle.server_storage.specs.KeptTxns.Transactions.{HasEvents}
+use Rattle.server_storage.proofs.KeptTxns.Transactions.Kept.{outlasts}
 use Rattle.server_storage.specs.declared.open_txns.txns.OpenTxn.{OpenTxn}
 use Rattle.server_storage.specs.OpenTxns.Open.{txn_of, others, written_of}
 use Rattle.server_storage.proofs.OpenTxns.Changed.{others_each}

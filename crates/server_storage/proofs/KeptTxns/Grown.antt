@@ -13,16 +13,16 @@ use Rattle.base_values.specs.declared.event.RowEvent.{RowEvent}
 use Rattle.table_store.specs.Databases.{TableRows, StoredTable, Database, database, find_table, spare_in}
 use Rattle.server_model.specs.Jobs.{after_events, events_of}
 use Rattle.base_values.proofs.SchemaRules.Lists.{All-append, All-weaker}
-use Rattle.server_model.specs.StatementLaws.Databases.{IsWellFormedDatabase}
-use Rattle.server_model.proofs.StatementLaws.Tests.{same_bytes, are_same, are_one}
+use Rattle.server_model.specs.LockedRows.Databases.{IsWellFormedDatabase}
+use Rattle.server_model.proofs.LockedRows.Tests.{same_bytes, are_same, are_one}
 use Rattle.server_transaction.specs.ServerData.Fitting.{EventsFit}
 use Rattle.server_seen.specs.Stored.{StoredWrites}
 use Rattle.server_transaction.specs.Premises.{HasSchema, IsOf}
 use Rattle.server_transaction.specs.Rooms.{puts_in}
 use Rattle.server_transaction.specs.Shown.{find_writes}
 use Rattle.server_transaction.specs.Stored.{StoredTxn, TableChanges, HasRoom, events_in, schemas, schemas_with}
-use Rattle.server_storage.specs.KeptTxns.TxnLaws.Laws.{HasEvents}
-use Rattle.server_storage.proofs.KeptTxns.TxnLaws.Kept.{begins, grows}
+use Rattle.server_storage.specs.KeptTxns.Transactions.{HasEvents}
+use Rattle.server_storage.proofs.KeptTxns.Transactions.Kept.{begins, grows}
 use Rattle.server_storage.specs.declared.open_txns.txns.OpenTxn.{OpenTxn}
 use Rattle.server_storage.specs.OpenTxns.Open.{txn_of, with_txn, written_of, puts_open, IsOpened, IsReserved, IsChanged, Takes}
 use Rattle.server_storage.proofs.OpenTxns.Changed.{changed_each, changed_puts, changed_there, opened_each, opened_puts, opened_there}

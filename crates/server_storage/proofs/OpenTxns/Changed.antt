@@ -6,7 +6,7 @@ use Rattle.std.proofs.lemmas.Bool.{false≢true}
 use Rattle.std.proofs.lemmas.List.Folds.{find_at}
 use Rattle.std.proofs.lemmas.List.Sums.{sum_by-cons, sum_by_push}
 use Rattle.std.proofs.lemmas.Option.{slice_get_within}
-use Rattle.server_model.proofs.StatementLaws.Tests.{same_number, are_one}
+use Rattle.server_model.proofs.LockedRows.Tests.{same_number, are_one}
 use Rattle.server_transaction.specs.Rooms.{puts_in}
 use Rattle.server_transaction.specs.Stored.{StoredTxn, TableChanges, HasRoom, events_in, schemas, schemas_with}
 use Rattle.server_storage.specs.declared.open_txns.txns.OpenTxn.{OpenTxn}

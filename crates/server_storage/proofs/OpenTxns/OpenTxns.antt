@@ -5,7 +5,7 @@ use Rattle.std.specs.List.{position_or_len, remove}
 use Rattle.std.proofs.lemmas.Bool.{false≢true}
 use Rattle.std.proofs.lemmas.Option.{slice_get_read, slice_get_past}
 use Rattle.std.proofs.lemmas.List.Folds.{find_at}
-use Rattle.server_model.proofs.StatementLaws.Tests.{same_number, are_one}
+use Rattle.server_model.proofs.LockedRows.Tests.{same_number, are_one}
 use Rattle.server_storage.specs.declared.open_txns.txns.OpenTxn.{OpenTxn}
 use Rattle.server_storage.specs.OpenTxns.Open.{txn_of, others}
 

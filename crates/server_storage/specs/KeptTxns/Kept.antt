@@ -3,13 +3,13 @@ use Rattle.std.specs.Prelude.{◌≡◌, ◌≤◌, ◌+◌, ◌==◌, ℕ, fals
 use Rattle.std.specs.List.{AllByRecursion}
 use Rattle.base_values.specs.declared.event.RowEvent.{RowEvent}
 use Rattle.table_store.specs.Databases.{StoredTable, database, spare_in}
-use Rattle.server_model.specs.StatementLaws.Databases.{IsWellFormedDatabase}
+use Rattle.server_model.specs.LockedRows.Databases.{IsWellFormedDatabase}
 use Rattle.server_transaction.specs.Premises.{HasSchema, IsOf}
 use Rattle.server_transaction.specs.Rooms.{puts_in}
 use Rattle.server_transaction.specs.Stored.{StoredTxn, TableChanges, events_in}
 use Rattle.server_storage.specs.declared.open_txns.txns.OpenTxn.{OpenTxn}
 use Rattle.server_storage.specs.OpenTxns.Open.{txn_of, written_of, puts_open, OneEach, Takes}
-use Rattle.server_storage.specs.KeptTxns.TxnLaws.Laws.{HasEvents}
+use Rattle.server_storage.specs.KeptTxns.Transactions.{HasEvents}
 
 -- *Kept*: the committed tables are well formed, each session has at most one open transaction, each is one of the database and
 -- has an event of each table to which it wrote, and each table has room for what all open commits put.

@@ -6,8 +6,8 @@ use Rattle.table_store.specs.Databases.{StoredTable, database, spare_in, spares,
 use Rattle.table_store.specs.declared.renames.Pair.{Pair}
 use Rattle.server_model.specs.Jobs.{after_events}
 use Rattle.server_model.specs.States.{pair_names}
-use Rattle.server_model.specs.StatementLaws.Covering.{IsWellFormedTable}
-use Rattle.server_model.specs.StatementLaws.Databases.{IsWellFormedDatabase}
+use Rattle.server_model.specs.LockedRows.Covering.{IsWellFormedTable}
+use Rattle.server_model.specs.LockedRows.Databases.{IsWellFormedDatabase}
 use Rattle.server_transaction.specs.ServerData.Fitting.{EventsFit, NoneOf}
 use Rattle.server_transaction.specs.Premises.{HasSchema}
 use Rattle.server_transaction.specs.Rooms.{puts_in}

@@ -2,7 +2,7 @@
 
 ghost use Rattle.std.specs.Prelude.{◌≡◌, ℕ, []};
 ghost use Rattle.table_store.specs.Databases.{database};
-ghost use Rattle.server_model.specs.StatementLaws.Databases.{IsWellFormedDatabase};
+ghost use Rattle.server_model.specs.LockedRows.Databases.{IsWellFormedDatabase};
 ghost use Rattle.server_transaction.specs.Premises.{events_ready};
 ghost use Rattle.server_storage.specs.OpenTxns.Open.{written_of};
 ghost use Rattle.server_storage.specs.Ready.{AreReady};

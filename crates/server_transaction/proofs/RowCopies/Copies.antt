@@ -17,8 +17,8 @@ use Rattle.server_model.specs.Answers.{refuses}
 use Rattle.server_model.specs.Needing.{needs}
 use Rattle.server_model.specs.Saying.{tells}
 use Rattle.server_model.specs.Jobs.{after_events, copy_from, copy_job, job_needs, job_says, needs_in, result_in, result_of}
-use Rattle.server_model.specs.StatementLaws.Covering.{IsWellFormedTable, IsSound}
-use Rattle.server_model.specs.StatementLaws.Databases.{WhereFound}
+use Rattle.server_model.specs.LockedRows.Covering.{IsWellFormedTable, IsSound}
+use Rattle.server_model.specs.LockedRows.Databases.{WhereFound}
 use Rattle.proof_journals.proofs.Tooling.{copies_sound}
 use Rattle.server_seen.specs.Written.{Written, nothing}
 use Rattle.server_seen.specs.Stored.{StoredWrites}

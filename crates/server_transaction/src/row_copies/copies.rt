@@ -6,7 +6,7 @@ ghost use Rattle.table_store.specs.Databases.{database};
 ghost use Rattle.server_model.specs.Jobs.{after_events, copy_job, job_needs, job_says, result_of};
 ghost use Rattle.server_model.specs.Needing.{needs};
 ghost use Rattle.server_model.specs.Saying.{tells};
-ghost use Rattle.server_model.specs.StatementLaws.Covering.{IsWellFormedTable, IsSound};
+ghost use Rattle.server_model.specs.LockedRows.Covering.{IsWellFormedTable, IsSound};
 ghost use Rattle.server_transaction.specs.Premises.{HasSchema, IsOf, events_ready};
 ghost use Rattle.server_seen.specs.Written.{nothing, seen};
 

@@ -9,7 +9,7 @@ ghost use Rattle.server_model.specs.Jobs.{after_events, says, job_says, copy_job
 ghost use Rattle.server_model.specs.Locking.{row_locks_of};
 ghost use Rattle.server_model.specs.States.{pair_names};
 ghost use Rattle.server_model.specs.Conditions.{IsWellFormed};
-ghost use Rattle.server_model.specs.StatementLaws.Databases.{IsWellFormedDatabase};
+ghost use Rattle.server_model.specs.LockedRows.Databases.{IsWellFormedDatabase};
 ghost use Rattle.server_transaction.specs.ServerData.Fitting.{EventsFit, NoneOf};
 
 use base_script::Statement;

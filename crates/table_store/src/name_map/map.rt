@@ -13,6 +13,7 @@ use std::marker::Model;
 /// Values under different names, in order of adding. A name is found by its hash.
 #[derive(Drop)]
 pub struct NameMap<T> {
+    // The key is a copy of the name, since a look-up by a text is what the kit has for keys that own a text.
     entries: IndexMap<String, T>,
 }
 

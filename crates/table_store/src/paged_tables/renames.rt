@@ -75,6 +75,8 @@ pub fn rename_from(tables: &mut NameMap<Table>, pairs: &[Pair]) -> Result<(), Re
     if !has_name(&pair.old, tables) {
         return Err(RenameFault::Refused(NotRenamed::Missing));
     }
+    // Each change is made as its pair comes, and undone where a later pair is refused: so a pair sees the names that
+    // earlier ones leave, and a refusal leaves all as it was.
     let name = name_twice(tables, &pair.new)?;
     let place = place_of(&pair.old, tables);
     let old = set_name_at(tables, place, name);

@@ -176,6 +176,8 @@ impl Tables {
         ensures err { OnErr result (self.new ≡ self.old) }
         ensures spares { spares self.new ≡ spares self.old }
     {
+        // Two for each pair, before the first change: one to rename it, one to undo that. The contracts of the map don't
+        // say that what is taken out leaves room.
         let Some(room) = pairs.len().checked_mul(2) else {
             return Err(RenameFault::Memory);
         };

@@ -1,4 +1,5 @@
--- *Bound*: a run that hasn't ended has fewer turns than this. (This project's rule; no fairness is asked of the order.)
+-- *Bound*: a number of turns for each plan. (This project's rule; no fairness is asked of the order of turns. That a run
+-- which hasn't ended has fewer turns is not proved yet.)
 use Rattle.std.specs.Prelude.{ℕ, ◌+◌, ◌*◌, length, map, sum, unwrap_or}
 use Rattle.std.specs.Option.{option_map}
 use Rattle.table_store.specs.Databases.{find_table}

@@ -8,8 +8,8 @@ use Rattle.tool_program.specs.JournalWords.Journals.{state_at}
 use Rattle.tool_program.specs.JournalWords.Sessions.{NumbersSessions}
 use Rattle.tool_program.specs.Orders.{WorkerTurn, RunOrder}
 use Rattle.tool_program.specs.Verdicts.{verdict_of}
-use Rattle.proof_journals.specs.RunLaws.Kept.{IsKept}
-use Rattle.proof_plans.specs.AcceptedLaws.Laws.{WasRead}
+use Rattle.proof_journals.specs.Run.Kept.{IsKept}
+use Rattle.proof_plans.specs.ReadPlans.Laws.{WasRead}
 use Rattle.run_desk.specs.declared.turn_queue_workers.ending.Ending.{Ending}
 use Rattle.run_desk.specs.declared.turn_queue_workers.ending.Ending.TheVariants.{Over}
 use Rattle.run_turns.specs.Runs.{RunView, is_over, Stops}

@@ -5,10 +5,10 @@ use Rattle.server_model.specs.declared.session.Limits.{Limits}
 use Rattle.server_model.specs.States.{opened}
 use Rattle.plan_data.specs.PlanData.{PlanData}
 use Rattle.tool_program.specs.JournalWords.Journals.{opening}
-use Rattle.server_model.specs.StatementLaws.Databases.{IsWellFormedDatabase}
+use Rattle.server_model.specs.LockedRows.Databases.{IsWellFormedDatabase}
 use Rattle.proof_journals.specs.Plans.{limits_of}
 use Rattle.proof_journals.proofs.Openings.{opening_well_formed}
-use Rattle.proof_plans.specs.AcceptedLaws.Laws.{ReadPlansAreSerial, WasRead}
+use Rattle.proof_plans.specs.ReadPlans.Laws.{ReadPlansAreSerial, WasRead}
 
 pub well_formed : ReadPlansAreSerial → (plan : PlanData) → WasRead plan → (tables : Database) → tables ≡ plan.tables → IsWellFormedDatabase tables
 well_formed law plan was tables is = subst IsWellFormedDatabase (sym is) (opening_well_formed plan.tables (law was.bytes plan was.is).tables)

@@ -10,9 +10,9 @@ use Rattle.tool_program.specs.JournalWords.Journals.{state_at}
 use Rattle.tool_program.specs.JournalWords.Sessions.{KeepsSessions}
 use Rattle.tool_program.specs.Orders.{actors, is_ready, Found, Queue, first_ready, from_pass, from_round, from_words, actor_of, chosen, queue_at, next_actor, IsReplay}
 use Rattle.tool_program.specs.Verdicts.{has_ended, verdict_of}
-use Rattle.proof_journals.specs.RunLaws.Kept.{IsKept}
-use Rattle.tool_program.specs.ReplayLaws.Laws.{OneReplay}
-use Rattle.proof_plans.specs.AcceptedLaws.Laws.{WasRead}
+use Rattle.proof_journals.specs.Run.Kept.{IsKept}
+use Rattle.tool_program.specs.Replay.{OneReplay}
+use Rattle.proof_plans.specs.ReadPlans.Laws.{WasRead}
 use Rattle.proof_plans.specs.Laws.{AcceptedRunsGoOn}
 use Rattle.run_turns.specs.Runs.{RunView, is_over, Stops}
 use Rattle.run_replay.specs.WholeReplay.Replays.{IsStalled}

@@ -10,11 +10,11 @@ use Rattle.tool_program.specs.JournalWords.Serials.{IsSerial}
 use Rattle.tool_program.specs.Failures.{Stands}
 use Rattle.tool_program.specs.Online.{IsOnline}
 use Rattle.tool_program.specs.Verdicts.{verdict_of}
-use Rattle.proof_journals.specs.GhostLaws.Copies.{IsAltered}
-use Rattle.proof_journals.specs.RunLaws.Kept.{IsKept}
-use Rattle.proof_migration.specs.MigrationLaws.PlanningLaws.Laws.{migration_of}
-use Rattle.proof_migration.specs.RenameLaws.Laws.{IsRename}
-use Rattle.proof_plans.specs.AcceptedLaws.Laws.{WasRead}
+use Rattle.proof_journals.specs.Ghost.Copies.{IsAltered}
+use Rattle.proof_journals.specs.Run.Kept.{IsKept}
+use Rattle.proof_migration.specs.Migration.Planning.{migration_of}
+use Rattle.proof_migration.specs.CutOver.{IsRename}
+use Rattle.proof_plans.specs.ReadPlans.Laws.{WasRead}
 use Rattle.proof_plans.specs.Tables.{FindsTable, KeepsOldTable}
 use Rattle.run_turns.specs.Runs.{Stops}
 

@@ -3,15 +3,15 @@
 ghost use Rattle.std.specs.Prelude.{◌≡◌, ◌≤◌, Some, IfSome, IfOk};
 ghost use Rattle.tool_program.specs.JournalWords.Journals.{opening};
 ghost use Rattle.tool_program.specs.Verdicts.{verdict_of};
-ghost use Rattle.proof_plans.specs.AcceptedLaws.Laws.{WasRead};
+ghost use Rattle.proof_plans.specs.ReadPlans.Laws.{WasRead};
 ghost use Rattle.run_desk.specs.declared.turn_queue_workers.ending.Ending.TheVariants as endings;
 ghost use Rattle.top_call.specs.WholeReplays.Replays.{IsEnd};
 ghost use Rattle.top_call.specs.PlanWorks.Works.{IsWholeRun};
 
 use crate::whole_replays::{End, end_with, kept_runs_are_sound};
-use crate::worker_laws::laws::read_plans_go;
+use crate::workers::read_plans_go;
 use base_edges::Gate;
-use law_journals::accepted_runs::accepted_laws::laws::read_plans_are_runnable;
+use law_journals::plans::read_plans_are_runnable;
 use plan_data::Plan;
 use run_turns::Run;
 use run_workers::worker_run::Turns;

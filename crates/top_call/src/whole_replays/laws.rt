@@ -2,7 +2,7 @@
 
 ghost use Rattle.top_call.specs.WholeReplays.SoundRuns.{KeptRunsAreSound};
 
-use law_journals::accepted_runs::laws::{
+use law_journals::runs::{
     accepted_runs_are_serial, accepted_runs_go_on, accepted_runs_keep_tables,
 };
 

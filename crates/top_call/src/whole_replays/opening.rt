@@ -3,12 +3,11 @@
 ghost use Rattle.std.specs.Prelude.{◌≡◌, [], ◌∷◌, IfOk};
 ghost use Rattle.tool_program.specs.JournalWords.Journals.{opening};
 ghost use Rattle.base_values.specs.ToolNames.{log_name};
-ghost use Rattle.proof_plans.specs.AcceptedLaws.Laws.{WasRead};
+ghost use Rattle.proof_plans.specs.ReadPlans.Laws.{WasRead};
 
 use base_values::tool_names::log_name;
 use base_values::{Duplicate, Names, Sequence};
-use law_journals::accepted_runs::accepted_laws::laws::read_plans_are_serial;
-use law_journals::accepted_runs::accepted_laws::option_laws::read_options_allow;
+use law_journals::plans::{read_options_allow, read_plans_are_serial};
 use plan_data::Plan;
 use server::final_server::{FinalServer, open_server};
 use server_model::Limits;

@@ -3,20 +3,20 @@
 ghost use Rattle.std.specs.Prelude.{◌≡◌, ◌≢◌, is_some, Some, IfSome, IfOk};
 ghost use Rattle.tool_program.specs.JournalWords.Journals.{opening};
 ghost use Rattle.tool_program.specs.Verdicts.{verdict_of};
-ghost use Rattle.proof_plans.specs.AcceptedLaws.Laws.{WasRead};
+ghost use Rattle.proof_plans.specs.ReadPlans.Laws.{WasRead};
 ghost use Rattle.run_replay.specs.declared.whole_replay.replays.Replayed.TheVariants as answers;
 ghost use Rattle.top_call.specs.WholeReplays.Replays.{IsWholeReplay, IsEnd};
 
 use crate::whole_replays::laws::kept_runs_are_sound;
-use law_journals::accepted_runs::accepted_laws::laws::read_plans_are_runnable;
-use law_journals::accepted_runs::laws::accepted_runs_go_on;
+use law_journals::plans::read_plans_are_runnable;
+use law_journals::runs::accepted_runs_go_on;
 use plan_data::Plan;
 use run_replay::whole_replay::{Replayed, replay};
 use run_turns::Run;
 use server_api::Serve;
 use server_model::{Journal, Verdict};
 use std::alloc::{AllocError, Global};
-use tool_program::replay_laws::replays_agree;
+use tool_program::replays::replays_agree;
 
 /// How a run ended.
 #[derive(Drop)]

@@ -14,15 +14,15 @@ use Rattle.plan_data.specs.PlanData.{PlanData}
 use Rattle.tool_program.specs.JournalWords.Journals.{opens_if, state_at}
 use Rattle.tool_program.specs.JournalWords.Sessions.{live_session, sessions_named}
 use Rattle.tool_program.specs.Programs.{given}
-use Rattle.proof_journals.specs.MachineLaws.Laws.{MayLoseAny}
-use Rattle.proof_journals.specs.MachineLaws.Runnable.{IsRunnable}
-use Rattle.proof_journals.specs.MachineLaws.Standings.{MayTake, opened_for}
-use Rattle.proof_journals.proofs.MachineLaws.Whole.{given_called, given_polled, losses as losses_may}
-use Rattle.proof_journals.specs.RunLaws.Counting.{numbered, IsAfter, AreApart}
-use Rattle.proof_journals.specs.RunLaws.Kept.{IsKept}
-use Rattle.proof_journals.specs.RunLaws.Laws.{Living, NoneWaits}
-use Rattle.proof_journals.proofs.RunLaws.Living.{all_living}
-use Rattle.proof_journals.proofs.RunLaws.Waits.{all_waits}
+use Rattle.proof_journals.specs.Machine.Laws.{MayLoseAny}
+use Rattle.proof_journals.specs.Machine.Runnable.{IsRunnable}
+use Rattle.proof_journals.specs.Machine.Standings.{MayTake, opened_for}
+use Rattle.proof_journals.proofs.Machine.Whole.{given_called, given_polled, losses as losses_may}
+use Rattle.proof_journals.specs.Run.Counting.{numbered, IsAfter, AreApart}
+use Rattle.proof_journals.specs.Run.Kept.{IsKept}
+use Rattle.proof_journals.specs.Run.Laws.{Living, NoneWaits}
+use Rattle.proof_journals.proofs.Run.Living.{all_living}
+use Rattle.proof_journals.proofs.Run.Waits.{all_waits}
 use Rattle.run_turns.specs.declared.due_turns.migration_run.turn.Turn.{Turn}
 use Rattle.run_turns.specs.DueTurns.MigrationRun.Asking.{MayAsk}
 use Rattle.run_turns.specs.DueTurns.MigrationRun.Sessions.{IsSessionOf}

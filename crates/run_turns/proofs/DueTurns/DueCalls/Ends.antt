@@ -38,13 +38,13 @@ use Rattle.tool_program.specs.Operators.{is_throttled}
 use Rattle.tool_program.specs.Setups.{Setup, Listing, Clearing, MakingLog, MakingGhost, Marking, Reaching, Ready, setup_call}
 use Rattle.tool_program.specs.Programs.{in_transaction, rolls_back, copy_call, apply_call, may_begin, tool_call, tool_asks, given}
 use Rattle.tool_program.specs.Tools.{Course, SettingUp, Migrating, is_reverting, Moment, moment}
-use Rattle.proof_journals.specs.MachineLaws.Machines.{copier_asks}
-use Rattle.proof_journals.proofs.MachineLaws.Asking.{some_request, unless_called, copier_next, renamer_next}
-use Rattle.proof_journals.proofs.MachineLaws.Calling.{reverting_or}
-use Rattle.proof_journals.proofs.MachineLaws.Clients.{Next, calls_line, polls_line, client_next}
-use Rattle.proof_journals.proofs.MachineLaws.Forming.{next_call}
-use Rattle.proof_journals.proofs.MachineLaws.Journals.{Asking, calls_so, polls_so, asking, apply_called}
-use Rattle.proof_journals.proofs.MachineLaws.Polling.{AllTogether, no_word}
+use Rattle.proof_journals.specs.Machine.Machines.{copier_asks}
+use Rattle.proof_journals.proofs.Machine.Asking.{some_request, unless_called, copier_next, renamer_next}
+use Rattle.proof_journals.proofs.Machine.Calling.{reverting_or}
+use Rattle.proof_journals.proofs.Machine.Clients.{Next, calls_line, polls_line, client_next}
+use Rattle.proof_journals.proofs.Machine.Forming.{next_call}
+use Rattle.proof_journals.proofs.Machine.Journals.{Asking, calls_so, polls_so, asking, apply_called}
+use Rattle.proof_journals.proofs.Machine.Polling.{AllTogether, no_word}
 
 -- who may ask for the range of this table
 abbrev pub EndsBy : PlanData → Actor → List ℕ → Type 0

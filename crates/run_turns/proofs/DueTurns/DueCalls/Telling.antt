@@ -27,12 +27,12 @@ use Rattle.tool_program.specs.Programs.{IsGiven, Follows}
 use Rattle.proof_journals.specs.Scenes.{Stored}
 use Rattle.proof_journals.specs.Turns.{request_of}
 use Rattle.proof_journals.proofs.Journals.{stored_opened, opened_waits}
-use Rattle.proof_journals.specs.MachineLaws.Forming.{IsFitting}
-use Rattle.proof_journals.specs.MachineLaws.Standings.{standing_of, serves_to, IsAbout, is_called, is_polled}
-use Rattle.proof_journals.proofs.MachineLaws.Asking.{WaitsWith}
-use Rattle.proof_journals.proofs.MachineLaws.Journals.{IsRun, all_runs}
-use Rattle.proof_journals.proofs.MachineLaws.Polling.{AllTogether, AllWaits, waits_more, waits_begin, together_more_all, together_begins_all, given_idle, given_waits}
-use Rattle.proof_journals.proofs.MachineLaws.Seated.{IsServed, own_heard, own_given, own_missed, own_waiting}
+use Rattle.proof_journals.specs.Machine.Forming.{IsFitting}
+use Rattle.proof_journals.specs.Machine.Standings.{standing_of, serves_to, IsAbout, is_called, is_polled}
+use Rattle.proof_journals.proofs.Machine.Asking.{WaitsWith}
+use Rattle.proof_journals.proofs.Machine.Journals.{IsRun, all_runs}
+use Rattle.proof_journals.proofs.Machine.Polling.{AllTogether, AllWaits, waits_more, waits_begin, together_more_all, together_begins_all, given_idle, given_waits}
+use Rattle.proof_journals.proofs.Machine.Seated.{IsServed, own_heard, own_given, own_missed, own_waiting}
 use Rattle.run_turns.specs.DueTurns.DueCalls.Ranges.{range_of, keys_in, range_of_table, range_in, ahead_of, IsTold}
 use Rattle.run_turns.specs.DueTurns.DueCalls.Laws.{RangesAreAhead}
 use Rattle.run_turns.proofs.DueTurns.DueCalls.Ends.{EndsBy, AsksEnds, given_ends}

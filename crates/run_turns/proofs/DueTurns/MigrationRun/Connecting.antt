@@ -11,10 +11,10 @@ use Rattle.server_model.specs.States.{State, session_of, is_live, is_waiting, ne
 use Rattle.server_model.specs.Serving.{loses}
 use Rattle.server_model.specs.Conditions.{MayLose}
 use Rattle.tool_program.specs.JournalWords.Journals.{opens_if}
-use Rattle.proof_journals.specs.RunLaws.Counting.{numbered, IsAfter, kind_of}
+use Rattle.proof_journals.specs.Run.Counting.{numbered, IsAfter, kind_of}
 use Rattle.run_turns.specs.DueTurns.MigrationRun.Sessions.{IsSessionOf}
-use Rattle.proof_journals.proofs.RunLaws.Numbering.{loses_numbered}
-use Rattle.proof_journals.proofs.RunLaws.Waits.{lost_at_once}
+use Rattle.proof_journals.proofs.Run.Numbering.{loses_numbered}
+use Rattle.proof_journals.proofs.Run.Waits.{lost_at_once}
 
 pub kind_live : (found : Option Session) (kind : Bool) → option_map (λ (s : Session). s.is_tool) found ≡ Some kind → is_some found ≡ true
 kind_live None kind is = absurd (cc)

@@ -11,9 +11,9 @@ use Rattle.server_model.specs.Entries.{is_client}
 use Rattle.server_model.specs.States.{State, session_of, is_waiting, is_in_transaction, holds_tables, new_session, connected, has_work, load}
 use Rattle.server_model.specs.Serving.{serves, leaves, given_at}
 use Rattle.tool_program.specs.JournalWords.Journals.{opens_if, after_entry, heard, missed}
-use Rattle.proof_journals.specs.RunLaws.Counting.{IsAfter, kind_of, is_open, is_busy, busy_count, weight, weigh, others}
-use Rattle.proof_journals.proofs.RunLaws.Turns.{is_lost, kind_left, Leaves, turn_leaves, opened_kind, opened, entry_turned}
-use Rattle.proof_journals.proofs.RunLaws.Tallies.{tally, tally_is, tally_parts, load_turns, busy_turns}
+use Rattle.proof_journals.specs.Run.Counting.{IsAfter, kind_of, is_open, is_busy, busy_count, weight, weigh, others}
+use Rattle.proof_journals.proofs.Run.Turns.{is_lost, kind_left, Leaves, turn_leaves, opened_kind, opened, entry_turned}
+use Rattle.proof_journals.proofs.Run.Tallies.{tally, tally_is, tally_parts, load_turns, busy_turns}
 use Rattle.run_turns.specs.declared.due_turns.migration_run.turn.Turn.{Turn}
 use Rattle.run_turns.specs.declared.due_turns.migration_run.counting.Counts.{Counts}
 use Rattle.run_turns.specs.DueTurns.MigrationRun.Sessions.{IsSessionOf}
@@ -87,7 +87,7 @@ module _ (state : State) (own : Option ℕ) (turn : Turn) (may : MayTurn state o
   idle none = may.waits number (ap (option_map (λ (s : Session). s.is_tool)) none)
 
   new_found : session_of number state.sessions ≡ None → session_of number (connected number tool state).sessions ≡ Some (new_session number tool)
-  new_found none = joined_here (new_session number tool) state.sessions number (Rattle.server_model.proofs.StatementLaws.Tests.same_number number) none
+  new_found none = joined_here (new_session number tool) state.sessions number (Rattle.server_model.proofs.LockedRows.Tests.same_number number) none
 
   -- *A session that is opened adds nothing*
   pub open_still : weigh is_open (session_of number open_now.sessions) ≡ weigh is_open (session_of number state.sessions)

@@ -3,7 +3,7 @@ use Rattle.std.specs.Prelude.{◌≡◌, ◌<◌, ℕ, not, Option, Some, None}
 use Rattle.base_script.specs.declared.actor.Actor.{Actor}
 use Rattle.server_model.specs.Entries.{is_client}
 use Rattle.server_model.specs.States.{State}
-use Rattle.proof_journals.specs.RunLaws.Counting.{kind_of}
+use Rattle.proof_journals.specs.Run.Counting.{kind_of}
 
 -- the session that the actor has is live, the tool's or a client's as the actor is; a session above those that were made
 -- isn't

@@ -9,8 +9,8 @@ use Rattle.server_model.specs.Entries.{is_client, is_command}
 use Rattle.server_model.specs.States.{State, load}
 use Rattle.server_model.specs.Serving.{serves, given_at}
 use Rattle.tool_program.specs.JournalWords.Journals.{opens_if, heard, missed}
-use Rattle.proof_journals.specs.RunLaws.Counting.{busy_count, AreApart}
-use Rattle.proof_journals.specs.RunLaws.Laws.{NoneWaits}
+use Rattle.proof_journals.specs.Run.Counting.{busy_count, AreApart}
+use Rattle.proof_journals.specs.Run.Laws.{NoneWaits}
 use Rattle.run_turns.specs.declared.due_turns.migration_run.turn.Turn.{Turn}
 use Rattle.run_turns.specs.declared.due_turns.migration_run.counting.Counts.{Counts}
 use Rattle.run_turns.specs.DueTurns.MigrationRun.Asking.{MayAsk}

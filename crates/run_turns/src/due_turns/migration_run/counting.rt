@@ -3,7 +3,7 @@
 ghost use Rattle.std.specs.Prelude.{◌≡◌, ◌+◌, ◌<◌, ◌≤◌, ◌^◌, true, false, not, Some, None};
 ghost use Rattle.server_model.specs.Entries.{is_client};
 ghost use Rattle.server_model.specs.States.{session_of, has_work};
-ghost use Rattle.proof_journals.specs.RunLaws.Counting.{is_open, is_busy, weight, weigh, kind_of};
+ghost use Rattle.proof_journals.specs.Run.Counting.{is_open, is_busy, weight, weigh, kind_of};
 ghost use Rattle.run_turns.specs.DueTurns.MigrationRun.Turning.{is_lost_in};
 
 use crate::due_turns::migration_run::turn::Turn;

@@ -4,7 +4,7 @@ ghost use Rattle.std.specs.Prelude.{◌≡◌, ◌+◌, ◌<◌, ℕ, Bool, not,
 ghost use Rattle.server_model.specs.Entries.{is_client};
 ghost use Rattle.server_model.specs.States.{State, connected, is_live, is_waiting};
 ghost use Rattle.tool_program.specs.JournalWords.Journals.{opens_if};
-ghost use Rattle.proof_journals.specs.RunLaws.Counting.{IsAfter, kind_of};
+ghost use Rattle.proof_journals.specs.Run.Counting.{IsAfter, kind_of};
 ghost use Rattle.run_turns.specs.DueTurns.MigrationRun.Sessions.{IsSessionOf};
 ghost use Rattle.run_turns.specs.DueTurns.MigrationRun.Turning.{session_for};
 

@@ -4,7 +4,7 @@ ghost use Rattle.std.specs.Prelude.{◌≡◌, ◌≤◌, ℕ, Bool, true, false
 ghost use Rattle.server_model.specs.States.{State, connected, is_live, is_waiting, has_work};
 ghost use Rattle.server_model.specs.Serving.{serves, leaves, given_at};
 ghost use Rattle.tool_program.specs.JournalWords.Journals.{after_entry, heard, missed};
-ghost use Rattle.proof_journals.specs.RunLaws.Counting.{IsAfter, kind_of};
+ghost use Rattle.proof_journals.specs.Run.Counting.{IsAfter, kind_of};
 ghost use Rattle.run_turns.specs.DueTurns.MigrationRun.Asking.{MayAsk};
 ghost use Rattle.run_turns.specs.DueTurns.MigrationRun.Turning.{session_for, made_for, entry_on, counts_of, MayTurn};
 

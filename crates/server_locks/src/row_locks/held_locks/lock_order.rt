@@ -50,6 +50,8 @@ fn compare_places(a: &Lock, b: &Lock) -> Ordering
 fn compare_locks(a: &Lock, b: &Lock) -> Ordering
     ensures { result ≡ compare_locks a.now b.now }
 {
+    // Exclusive ones come first where locks tie: so one look-up is enough, at the first lock that doesn't come before the
+    // one that is asked about. It conflicts with that one, or none on this key does.
     compare_places(a, b).then(b.exclusive.cmp(&a.exclusive))
 }
 

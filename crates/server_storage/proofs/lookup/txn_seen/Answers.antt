@@ -1,7 +1,7 @@
 use Rattle.std.proofs.Common.{ap, ◌∙◌}
 use Rattle.std.specs.Option.{option_map}
 use Rattle.table_store.specs.Databases.{database}
-use Rattle.server_storage.proofs.KeptTxns.TxnLaws.Kept.{begins}
+use Rattle.server_storage.proofs.KeptTxns.Transactions.Kept.{begins}
 use Rattle.server_storage.specs.declared.open_txns.txns.OpenTxn.{OpenTxn}
 use Rattle.server_storage.specs.OpenTxns.Open.{written_in}
 use Rattle.server_storage.proofs.KeptTxns.Ended.{kept_may_be_committed}

@@ -1,7 +1,7 @@
 use Rattle.std.proofs.Common.{sym, subst}
 use Rattle.table_store.specs.Databases.{TableRows}
 use Rattle.base_values.specs.SchemaRules.Valid.{IsValid}
-use Rattle.server_model.specs.StatementLaws.Databases.{WhereFound}
+use Rattle.server_model.specs.LockedRows.Databases.{WhereFound}
 use Rattle.test_histories.proofs.Valid.{found_valid}
 use Rattle.test_histories.proofs.alters.altered_database.Goals as goal
 

@@ -7,7 +7,7 @@ use Rattle.server_model.specs.declared.answer.Answer.{Answer}
 use Rattle.server_model.specs.Rows.{same_row, change_rows}
 use Rattle.server_model.specs.Saying.{with_sets, clashes_besides, updates}
 use Rattle.test_model.specs.Updating.{changes_after}
-use Rattle.test_model.proofs.Updates.{stays, clashing, changed}
+use Rattle.test_model.proofs.UpdateFacts.{stays, clashing, changed}
 use Rattle.test_model.proofs.updates.step.Goals as goal
 
 pub returns-then-is_eq : goal.returns-then-is_eq

@@ -50,21 +50,21 @@ use Rattle.proof_journals.specs.Plans.{limits_of, scene_of}
 use Rattle.proof_journals.specs.Turns.{IsSceneRun, scene_state}
 use Rattle.proof_journals.proofs.PlanJournals.{plan_runs_are_scene_runs}
 use Rattle.plan_data.specs.PlanData.{Altered}
-use Rattle.proof_migration.specs.MigrationLaws.PlanningLaws.Laws.{migration_of}
-use Rattle.proof_migration.proofs.MigrationLaws.PlanningLaws.Planned.{alters_planned}
-use Rattle.proof_journals.specs.GhostLaws.GhostRows.Moments.{Row}
-use Rattle.proof_journals.specs.GhostLaws.GhostRows.Timelines.{IsPlanned, Migration}
-use Rattle.proof_journals.specs.GhostLaws.Copies.{IsAltered}
-use Rattle.proof_journals.specs.GhostLaws.Holding.{Clustered}
-use Rattle.proof_journals.specs.GhostLaws.Invariant.{NotOf}
-use Rattle.proof_journals.proofs.GhostLaws.Turns.{run_front}
-use Rattle.proof_migration.specs.MigrationLaws.ApplyLaws.Finding.{FindsRows}
-use Rattle.proof_migration.proofs.MigrationLaws.ApplyLaws.Stated.{alters_find_rows}
-use Rattle.proof_migration.specs.MigrationLaws.Away.{KeepsAway, OthersAway}
-use Rattle.proof_migration.specs.MigrationLaws.Machines.{IsMigrationEnd, IsMigrationStart, Machines, MigrationRun, MigrationTurn, Step, hold_at, journal_after, machines_after}
-use Rattle.proof_migration.specs.MigrationLaws.Machines.MigrationTurn.{copier_turns, applier_turns, others_turn}
-use Rattle.proof_migration.specs.MigrationLaws.Machines.Step.{Turned}
-use Rattle.proof_migration.proofs.MigrationLaws.Migrating.{journals_alter}
+use Rattle.proof_migration.specs.Migration.Planning.{migration_of}
+use Rattle.proof_migration.proofs.Migration.Planning.Planned.{alters_planned}
+use Rattle.proof_journals.specs.Ghost.Rows.Moments.{Row}
+use Rattle.proof_journals.specs.Ghost.Rows.Timelines.{IsPlanned, Migration}
+use Rattle.proof_journals.specs.Ghost.Copies.{IsAltered}
+use Rattle.proof_journals.specs.Ghost.Holding.{Clustered}
+use Rattle.proof_journals.specs.Ghost.Invariant.{NotOf}
+use Rattle.proof_journals.proofs.Ghost.Turns.{run_front}
+use Rattle.proof_migration.specs.Migration.Applier.Finding.{FindsRows}
+use Rattle.proof_migration.proofs.Migration.Applier.Stated.{alters_find_rows}
+use Rattle.proof_migration.specs.Migration.Away.{KeepsAway, OthersAway}
+use Rattle.proof_migration.specs.Migration.Machines.{IsMigrationEnd, IsMigrationStart, Machines, MigrationRun, MigrationTurn, Step, hold_at, journal_after, machines_after}
+use Rattle.proof_migration.specs.Migration.Machines.MigrationTurn.{copier_turns, applier_turns, others_turn}
+use Rattle.proof_migration.specs.Migration.Machines.Step.{Turned}
+use Rattle.proof_migration.proofs.Migration.Migrating.{journals_alter}
 use Rattle.test_worked.proofs.Computing.{computing}
 use Rattle.test_worked.proofs.Plans1.{plan_101, journal_101}
 use Rattle.test_worked.proofs.SerialRun.{run_101}
@@ -737,7 +737,7 @@ away_101 n no_copier no_applier =
     subst (NotOf (codes "_t_gho")) (sym (quiet_found n (scene_state limits_101 scene_101 journal_18).sessions quiet)) tt
 
 start_101 : IsMigrationStart m_101 rows_101 limits_101 scene_101 journal_18 now_18
-unfolding computing plans.client_names plans.client_tables plans.script_names Rattle.proof_journals.specs.GhostLaws.GhostRows.Moments.LogFits Rattle.proof_journals.specs.GhostLaws.GhostRows.Moments.rows_at
+unfolding computing plans.client_names plans.client_tables plans.script_names Rattle.proof_journals.specs.Ghost.Rows.Moments.LogFits Rattle.proof_journals.specs.Ghost.Rows.Moments.rows_at
 start_101 =
     record {
       start = record {

@@ -11,9 +11,9 @@ use Rattle.base_values.specs.declared.row_conversion.clause.Clause.TheVariants a
 use Rattle.base_values.specs.declared.row_conversion.clause.ColumnPosition.TheVariants.{Unsaid}
 use Rattle.base_values.specs.declared.row_conversion.map.Origin.TheVariants as from
 use Rattle.sql_change.specs.Altering.{altered}
-use Rattle.proof_schemas.proofs.AlterLaws.ConvertedRowTables.{clustered_keys_kept}
-use Rattle.proof_schemas.proofs.AlterLaws.KeepingKeys.{stay_apart}
-use Rattle.proof_schemas.proofs.AlterLaws.TableNames.{keep_names}
+use Rattle.proof_schemas.proofs.Alters.ConvertedRowTables.{clustered_keys_kept}
+use Rattle.proof_schemas.proofs.Alters.KeepingKeys.{stay_apart}
+use Rattle.proof_schemas.proofs.Alters.TableNames.{keep_names}
 use Rattle.table_store.specs.Databases.{TableRows}
 use Rattle.server_model.specs.declared.entry.Entry.{Entry}
 use Rattle.plan_data.specs.PlanData.{Altered}
@@ -24,12 +24,12 @@ use Rattle.tool_program.specs.Programs.{Follows}
 use Rattle.tool_program.specs.Tools.{Course, Migrating, Work, moment, new_work}
 use Rattle.proof_journals.specs.Plans as plans
 use Rattle.proof_journals.specs.Plans.{IsSerialPlan}
-use Rattle.proof_journals.specs.GhostLaws.Copies.{IsAltered}
-use Rattle.proof_migration.specs.MigrationLaws.PlanningLaws.Laws.{migration_of}
-use Rattle.proof_journals.specs.RunLaws.Kept.{IsKept}
-use Rattle.proof_migration.specs.CourseLaws.RunnableLaws.Laws.{IsAlterable, IsWorded}
-use Rattle.proof_migration.specs.FollowLaws.FollowTurns.Laws.{IsMark}
-use Rattle.proof_migration.specs.FollowLaws.Laws.{FollowersAlter}
+use Rattle.proof_journals.specs.Ghost.Copies.{IsAltered}
+use Rattle.proof_migration.specs.Migration.Planning.{migration_of}
+use Rattle.proof_journals.specs.Run.Kept.{IsKept}
+use Rattle.proof_migration.specs.Course.Runnable.{IsAlterable, IsWorded}
+use Rattle.proof_migration.specs.Program.Turns.Laws.{IsMark}
+use Rattle.proof_migration.specs.Program.Laws.{FollowersAlter}
 use Rattle.test_worked.proofs.Computing.{computing}
 use Rattle.test_worked.proofs.SmallPlans1.{plan_after_chunk, journal_after_chunk}
 

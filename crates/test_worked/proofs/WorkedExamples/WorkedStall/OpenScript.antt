@@ -19,7 +19,7 @@ use Rattle.tool_program.specs.Orders.{actors, is_ready}
 use Rattle.tool_program.specs.Programs.{Follows}
 use Rattle.tool_program.specs.Tools.{moment}
 use Rattle.tool_program.specs.Verdicts.{has_ended}
-use Rattle.proof_migration.specs.CourseLaws.ReadyLaws.Laws.{IsStuck}
+use Rattle.proof_migration.specs.Course.Ready.{IsStuck}
 use Rattle.test_worked.proofs.Computing.{computing}
 
 abbrev plan_open_script : PlanData

@@ -1,5 +1,5 @@
 use Rattle.std.proofs.Common.{◌∙◌}
-use Rattle.top_words.proofs.Matches.{told_by}
+use Rattle.top_words.proofs.MatchFacts.{told_by}
 use Rattle.top_words.proofs.matches.told.Goals as goal
 
 pub returns : goal.returns

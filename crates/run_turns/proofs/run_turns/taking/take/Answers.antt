@@ -5,7 +5,7 @@ use Rattle.server_model.specs.States.{has_work, load}
 use Rattle.plan_data.specs.PlanData.{PlanData}
 use Rattle.tool_program.specs.JournalWords.Journals.{after_entry}
 use Rattle.tool_program.specs.Tools.{moment}
-use Rattle.proof_journals.specs.RunLaws.Counting.{busy_count}
+use Rattle.proof_journals.specs.Run.Counting.{busy_count}
 use Rattle.run_state.specs.declared.run_state.RunState.{RunState}
 use Rattle.run_state.specs.Books.{is_planned, IsRunState}
 use Rattle.run_turns.specs.DueTurns.Due.{next_entry}

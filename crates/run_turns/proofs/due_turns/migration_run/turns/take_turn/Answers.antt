@@ -1,6 +1,6 @@
 use Rattle.std.proofs.Common.{ap, ◌∙◌}
 use Rattle.tool_program.specs.JournalWords.Journals.{heard, missed}
-use Rattle.proof_journals.specs.RunLaws.Counting.{IsAfter}
+use Rattle.proof_journals.specs.Run.Counting.{IsAfter}
 use Rattle.run_turns.proofs.DueTurns.MigrationRun.Counted.{given_told, leaves_told, kind_told, work_told, open_told, busy_told, open_part, busy_part, gone_told, stays_told, made_told, counts_told, err_after, err_made, entry_same}
 use Rattle.run_turns.proofs.DueTurns.MigrationRun.Results.{on_err}
 use Rattle.run_turns.proofs.due_turns.migration_run.turns.take_turn.Goals as goal

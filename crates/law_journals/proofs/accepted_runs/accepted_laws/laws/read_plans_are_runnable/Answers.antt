@@ -1,5 +1,0 @@
-use Rattle.proof_plans.proofs.AcceptedLaws.Plans.{plans_runnable}
-use Rattle.law_journals.proofs.accepted_runs.accepted_laws.laws.read_plans_are_runnable.Goals as goal
-
-pub returns : goal.returns
-returns c = plans_runnable c.read_plans_are_serial.ensures.alterable c.read_plans_are_worded.ensures.worded c.alterable_plans_are_runnable.ensures

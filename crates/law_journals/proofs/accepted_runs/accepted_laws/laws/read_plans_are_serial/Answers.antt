@@ -1,9 +1,0 @@
-use Rattle.proof_plans.proofs.AcceptedLaws.Plans.{plans_alterable, plans_serial, tables_stand}
-use Rattle.law_journals.proofs.accepted_runs.accepted_laws.laws.read_plans_are_serial.Goals as goal
-
-pub returns : goal.returns
-returns c = record {
-  serial = plans_serial c.read_plans_are_accepted.ensures;
-  stands = tables_stand c.read_plans_are_accepted.ensures;
-  alterable = plans_alterable c.read_plans_are_accepted.ensures;
-}

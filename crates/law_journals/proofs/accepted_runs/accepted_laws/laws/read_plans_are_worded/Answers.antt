@@ -1,6 +1,0 @@
-use Rattle.proof_plans.proofs.AcceptedLaws.Plans.{attempts_drain}
-use Rattle.proof_plans.proofs.AcceptedLaws.Stated.{read_worded}
-use Rattle.law_journals.proofs.accepted_runs.accepted_laws.laws.read_plans_are_worded.Goals as goal
-
-pub returns : goal.returns
-returns c = record { worded = read_worded; drain = attempts_drain }

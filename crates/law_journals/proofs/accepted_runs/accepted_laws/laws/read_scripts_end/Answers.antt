@@ -1,5 +1,0 @@
-use Rattle.proof_plans.proofs.AcceptedLaws.Plans.{scripts_end}
-use Rattle.law_journals.proofs.accepted_runs.accepted_laws.laws.read_scripts_end.Goals as goal
-
-pub returns : goal.returns
-returns c = scripts_end

@@ -1,5 +1,0 @@
-use Rattle.proof_plans.proofs.AcceptedLaws.OptionLaws.Allowed.{allowed}
-use Rattle.law_journals.proofs.accepted_runs.accepted_laws.option_laws.read_options_allow.Goals as goal
-
-pub returns : goal.returns
-returns c = allowed

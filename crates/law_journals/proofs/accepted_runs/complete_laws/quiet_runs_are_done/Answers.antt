@@ -1,5 +1,0 @@
-use Rattle.proof_plans.proofs.CompleteLaws.WaitsOver.{quiet_are_done}
-use Rattle.law_journals.proofs.accepted_runs.complete_laws.quiet_runs_are_done.Goals as goal
-
-pub returns : goal.returns
-returns c = quiet_are_done c.stored_values_store_again.ensures c.verdicts_tell_the_alter.ensures

@@ -1,5 +1,0 @@
-use Rattle.proof_plans.proofs.CompleteLaws.Smooth.{smooth_are_done}
-use Rattle.law_journals.proofs.accepted_runs.complete_laws.smooth_runs_are_done.Goals as goal
-
-pub returns : goal.returns
-returns c = smooth_are_done c.verdicts_tell_the_alter.ensures

@@ -1,0 +1,5 @@
+use Rattle.proof_migration.proofs.Course.Chunks.Onlines.{journals_online}
+use Rattle.law_journals.proofs.chunks.journals_are_online.Goals as goal
+
+pub returns : goal.returns
+returns c = journals_online c.stored_values_store_again.ensures

@@ -1,5 +1,0 @@
-use Rattle.proof_journals.proofs.GhostLaws.GhostRelation.AllViews.{logs_grow}
-use Rattle.law_journals.proofs.history_laws.ghost_laws.ghost_relation.logs_grow.Goals as goal
-
-pub returns : goal.returns
-returns g c = logs_grow

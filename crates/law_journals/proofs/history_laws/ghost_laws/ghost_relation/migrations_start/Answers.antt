@@ -1,5 +1,0 @@
-use Rattle.proof_journals.proofs.GhostLaws.GhostRelation.AllViews.{starts_all}
-use Rattle.law_journals.proofs.history_laws.ghost_laws.ghost_relation.migrations_start.Goals as goal
-
-pub returns : goal.returns
-returns g c = starts_all

@@ -1,5 +1,0 @@
-use Rattle.proof_journals.proofs.GhostLaws.GhostRows.Steps.{ghost_is_the_altered}
-use Rattle.law_journals.proofs.history_laws.ghost_laws.ghost_rows.ghosts_are_altered.Goals as goal
-
-pub returns : goal.returns
-returns c = ghost_is_the_altered

@@ -1,5 +1,0 @@
-use Rattle.proof_journals.proofs.GhostLaws.GhostRows.Steps.{log_grows_on}
-use Rattle.law_journals.proofs.history_laws.ghost_laws.ghost_rows.logs_grow.Goals as goal
-
-pub returns : goal.returns
-returns c = log_grows_on

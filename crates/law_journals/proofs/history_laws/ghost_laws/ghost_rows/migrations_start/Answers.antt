@@ -1,5 +1,0 @@
-use Rattle.proof_journals.proofs.GhostLaws.GhostRows.Steps.{migration_starts}
-use Rattle.law_journals.proofs.history_laws.ghost_laws.ghost_rows.migrations_start.Goals as goal
-
-pub returns : goal.returns
-returns c = migration_starts

@@ -1,5 +1,0 @@
-use Rattle.proof_journals.proofs.GhostLaws.GhostRows.Steps.{timeline}
-use Rattle.law_journals.proofs.history_laws.ghost_laws.ghost_rows.timelines_are_valid.Goals as goal
-
-pub returns : goal.returns
-returns c = timeline

@@ -1,8 +1,0 @@
-use Rattle.proof_journals.proofs.GhostLaws.Tooling.{tool_reads, tool_passes}
-use Rattle.law_journals.proofs.history_laws.ghost_laws.laws.batches_begin.Goals as goal
-
-pub returns-clause-read : goal.returns-clause-read
-returns-clause-read c = tool_reads
-
-pub returns-clause-passed : goal.returns-clause-passed
-returns-clause-passed c = tool_passes

@@ -1,9 +1,0 @@
-use Rattle.proof_journals.proofs.GhostLaws.Changing.{same_change}
-use Rattle.proof_journals.proofs.GhostLaws.Placed.{commits_fit}
-use Rattle.law_journals.proofs.history_laws.ghost_laws.laws.commits_fit.Goals as goal
-
-pub returns-clause-changes : goal.returns-clause-changes
-returns-clause-changes c = same_change
-
-pub returns-clause-commits : goal.returns-clause-commits
-returns-clause-commits c = commits_fit

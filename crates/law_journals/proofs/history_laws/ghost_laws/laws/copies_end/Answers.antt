@@ -1,5 +1,0 @@
-use Rattle.proof_journals.proofs.GhostLaws.Starting.{tool_ends}
-use Rattle.law_journals.proofs.history_laws.ghost_laws.laws.copies_end.Goals as goal
-
-pub returns : goal.returns
-returns c = tool_ends

@@ -1,8 +1,0 @@
-use Rattle.proof_journals.proofs.GhostLaws.Starting.{tool_starts, tool_starts_empty}
-use Rattle.law_journals.proofs.history_laws.ghost_laws.laws.copies_start.Goals as goal
-
-pub returns-clause-started : goal.returns-clause-started
-returns-clause-started c = tool_starts
-
-pub returns-clause-empty : goal.returns-clause-empty
-returns-clause-empty c = tool_starts_empty

@@ -1,8 +1,0 @@
-use Rattle.proof_journals.proofs.GhostLaws.Returning.{copier_returns, applier_returns}
-use Rattle.law_journals.proofs.history_laws.ghost_laws.laws.sessions_return.Goals as goal
-
-pub returns-clause-copier : goal.returns-clause-copier
-returns-clause-copier c = copier_returns
-
-pub returns-clause-applier : goal.returns-clause-applier
-returns-clause-applier c = applier_returns

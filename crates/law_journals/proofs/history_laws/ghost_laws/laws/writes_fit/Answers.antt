@@ -1,5 +1,0 @@
-use Rattle.proof_journals.proofs.GhostLaws.Turns.{writes_fit}
-use Rattle.law_journals.proofs.history_laws.ghost_laws.laws.writes_fit.Goals as goal
-
-pub returns : goal.returns
-returns c = writes_fit

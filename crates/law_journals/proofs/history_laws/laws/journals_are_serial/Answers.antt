@@ -1,5 +1,0 @@
-use Rattle.proof_journals.proofs.PlanJournals.{journals_are_serial}
-use Rattle.law_journals.proofs.history_laws.laws.journals_are_serial.Goals as goal
-
-pub returns : goal.returns
-returns c = journals_are_serial

@@ -1,5 +1,0 @@
-use Rattle.proof_journals.proofs.Journals.{plain_scenes_are_serial}
-use Rattle.law_journals.proofs.history_laws.laws.plain_scenes_are_serial.Goals as goal
-
-pub returns : goal.returns
-returns c = plain_scenes_are_serial

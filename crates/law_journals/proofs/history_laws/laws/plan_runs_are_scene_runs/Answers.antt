@@ -1,5 +1,0 @@
-use Rattle.proof_journals.proofs.PlanJournals.{plan_runs_are_scene_runs}
-use Rattle.law_journals.proofs.history_laws.laws.plan_runs_are_scene_runs.Goals as goal
-
-pub returns : goal.returns
-returns c = plan_runs_are_scene_runs

@@ -1,5 +1,0 @@
-use Rattle.proof_journals.proofs.Journals.{scenes_are_serial}
-use Rattle.law_journals.proofs.history_laws.laws.scenes_are_serial.Goals as goal
-
-pub returns : goal.returns
-returns c = scenes_are_serial

@@ -1,5 +1,0 @@
-use Rattle.proof_journals.proofs.MachineLaws.Calling.{answers_tell}
-use Rattle.law_journals.proofs.history_laws.machine_laws.laws.answers_tell_standings.Goals as goal
-
-pub returns : goal.returns
-returns c = answers_tell

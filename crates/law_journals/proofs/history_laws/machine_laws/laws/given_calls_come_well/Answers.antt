@@ -1,5 +1,0 @@
-use Rattle.proof_journals.proofs.MachineLaws.Calling.{given_calls}
-use Rattle.law_journals.proofs.history_laws.machine_laws.laws.given_calls_come_well.Goals as goal
-
-pub returns : goal.returns
-returns c = given_calls

@@ -1,5 +1,0 @@
-use Rattle.proof_journals.proofs.MachineLaws.Whole.{given_called}
-use Rattle.law_journals.proofs.history_laws.machine_laws.laws.given_calls_may_be_called.Goals as goal
-
-pub returns : goal.returns
-returns c = given_called

@@ -1,5 +1,0 @@
-use Rattle.proof_journals.proofs.MachineLaws.Making.{given_may}
-use Rattle.law_journals.proofs.history_laws.machine_laws.laws.given_calls_may_be_made.Goals as goal
-
-pub returns : goal.returns
-returns c = given_may

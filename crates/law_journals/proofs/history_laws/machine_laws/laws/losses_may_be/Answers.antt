@@ -1,5 +1,0 @@
-use Rattle.proof_journals.proofs.MachineLaws.Whole.{losses}
-use Rattle.law_journals.proofs.history_laws.machine_laws.laws.losses_may_be.Goals as goal
-
-pub returns : goal.returns
-returns c = losses

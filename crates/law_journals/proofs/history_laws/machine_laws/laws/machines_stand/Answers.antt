@@ -1,5 +1,0 @@
-use Rattle.proof_journals.proofs.MachineLaws.Calling.{machines_stand}
-use Rattle.law_journals.proofs.history_laws.machine_laws.laws.machines_stand.Goals as goal
-
-pub returns : goal.returns
-returns c = machines_stand

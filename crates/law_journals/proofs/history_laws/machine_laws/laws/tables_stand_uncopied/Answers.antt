@@ -1,5 +1,0 @@
-use Rattle.proof_journals.proofs.MachineLaws.Tabling.{tables_stand}
-use Rattle.law_journals.proofs.history_laws.machine_laws.laws.tables_stand_uncopied.Goals as goal
-
-pub returns : goal.returns
-returns c = tables_stand

@@ -1,5 +1,0 @@
-use Rattle.proof_journals.proofs.MachineLaws.Staying.{tables_stay}
-use Rattle.law_journals.proofs.history_laws.machine_laws.laws.tables_stay_tables.Goals as goal
-
-pub returns : goal.returns
-returns c = tables_stay

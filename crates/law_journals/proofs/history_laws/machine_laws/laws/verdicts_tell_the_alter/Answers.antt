@@ -1,5 +1,0 @@
-use Rattle.proof_journals.proofs.MachineLaws.Verdicts.{verdicts_tell}
-use Rattle.law_journals.proofs.history_laws.machine_laws.laws.verdicts_tell_the_alter.Goals as goal
-
-pub returns : goal.returns
-returns c = verdicts_tell

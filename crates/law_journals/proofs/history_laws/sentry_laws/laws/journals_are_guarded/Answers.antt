@@ -1,5 +1,0 @@
-use Rattle.proof_journals.proofs.SentryLaws.Inductions.{all_guarded}
-use Rattle.law_journals.proofs.history_laws.sentry_laws.laws.journals_are_guarded.Goals as goal
-
-pub returns : goal.returns
-returns c = all_guarded

@@ -1,9 +1,0 @@
-use Rattle.proof_journals.proofs.SentryLaws.Agreeing.{renames_follow}
-use Rattle.proof_journals.proofs.SentryLaws.Inductions.{renames_are_whole}
-use Rattle.law_journals.proofs.history_laws.sentry_laws.laws.renames_are_whole.Goals as goal
-
-pub returns-clause-whole : goal.returns-clause-whole
-returns-clause-whole c = renames_are_whole
-
-pub returns-clause-follows : goal.returns-clause-follows
-returns-clause-follows c = renames_follow

@@ -1,5 +1,0 @@
-use Rattle.proof_journals.proofs.ServerLaws.Defining.{definitions_are_done}
-use Rattle.law_journals.proofs.history_laws.server_laws.definitions_are_done.Goals as goal
-
-pub returns : goal.returns
-returns c = definitions_are_done

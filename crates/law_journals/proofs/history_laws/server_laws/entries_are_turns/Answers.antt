@@ -1,5 +1,0 @@
-use Rattle.proof_journals.proofs.ServerLaws.Others.{entries_are_turns}
-use Rattle.law_journals.proofs.history_laws.server_laws.entries_are_turns.Goals as goal
-
-pub returns : goal.returns
-returns c = entries_are_turns

@@ -1,5 +1,0 @@
-use Rattle.proof_journals.proofs.ServerLaws.Alone.{exclusive_is_alone}
-use Rattle.law_journals.proofs.history_laws.server_laws.exclusive_is_alone.Goals as goal
-
-pub returns : goal.returns
-returns c = exclusive_is_alone

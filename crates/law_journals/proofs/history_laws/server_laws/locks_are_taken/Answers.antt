@@ -1,5 +1,0 @@
-use Rattle.proof_journals.proofs.ServerLaws.Locking.{locks_are_taken}
-use Rattle.law_journals.proofs.history_laws.server_laws.locks_are_taken.Goals as goal
-
-pub returns : goal.returns
-returns c = locks_are_taken

@@ -1,5 +1,0 @@
-use Rattle.proof_journals.proofs.ServerLaws.Beginning.{spans_are_held}
-use Rattle.law_journals.proofs.history_laws.server_laws.spans_are_held.Goals as goal
-
-pub returns : goal.returns
-returns c = spans_are_held

@@ -1,5 +1,0 @@
-use Rattle.proof_journals.proofs.ServerLaws.Holding.{states_hold}
-use Rattle.law_journals.proofs.history_laws.server_laws.states_hold.Goals as goal
-
-pub returns : goal.returns
-returns c = states_hold

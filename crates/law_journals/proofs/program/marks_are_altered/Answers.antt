@@ -1,0 +1,5 @@
+use Rattle.proof_migration.proofs.Program.Turns.Follows.{marks_are_altered}
+use Rattle.law_journals.proofs.program.marks_are_altered.Goals as goal
+
+pub returns : goal.returns
+returns c = marks_are_altered

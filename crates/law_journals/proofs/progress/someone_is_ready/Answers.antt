@@ -1,0 +1,6 @@
+use Rattle.proof_migration.proofs.Course.Ready.Orders.{goes_on}
+use Rattle.proof_migration.proofs.Course.Ready.Actors.{someone_ready}
+use Rattle.law_journals.proofs.progress.someone_is_ready.Goals as goal
+
+pub returns : goal.returns
+returns c = record { ready = someone_ready; goes = goes_on }

@@ -1,5 +1,0 @@
-use Rattle.proof_migration.proofs.AttemptLaws.CauseLaws.Spent.{all_spent_attempts}
-use Rattle.law_journals.proofs.revert_laws.attempt_laws.cause_laws.spent_cut_overs_stand.Goals as goal
-
-pub returns : goal.returns
-returns c = all_spent_attempts

@@ -1,5 +1,0 @@
-use Rattle.proof_migration.proofs.AttemptLaws.Standing.{all_wait}
-use Rattle.law_journals.proofs.revert_laws.attempt_laws.laws.attempts_wait.Goals as goal
-
-pub returns : goal.returns
-returns c = all_wait

@@ -1,5 +1,0 @@
-use Rattle.proof_migration.proofs.AttemptLaws.RenamedLaws.Seen.{all_seen}
-use Rattle.law_journals.proofs.revert_laws.attempt_laws.renamed_laws.renames_are_seen.Goals as goal
-
-pub returns : goal.returns
-returns c = all_seen

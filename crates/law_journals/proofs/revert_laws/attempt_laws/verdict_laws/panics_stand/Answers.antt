@@ -1,5 +1,0 @@
-use Rattle.proof_migration.proofs.AttemptLaws.VerdictLaws.Standing.{all_panics}
-use Rattle.law_journals.proofs.revert_laws.attempt_laws.verdict_laws.panics_stand.Goals as goal
-
-pub returns : goal.returns
-returns c = record { stands = all_panics }

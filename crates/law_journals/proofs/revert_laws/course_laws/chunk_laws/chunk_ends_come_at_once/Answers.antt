@@ -1,5 +1,0 @@
-use Rattle.proof_migration.proofs.CourseLaws.ChunkLaws.Onlines.{ends_come}
-use Rattle.law_journals.proofs.revert_laws.course_laws.chunk_laws.chunk_ends_come_at_once.Goals as goal
-
-pub returns : goal.returns
-returns c = ends_come

@@ -1,5 +1,0 @@
-use Rattle.proof_migration.proofs.CourseLaws.ChunkLaws.Onlines.{journals_online}
-use Rattle.law_journals.proofs.revert_laws.course_laws.chunk_laws.journals_are_online.Goals as goal
-
-pub returns : goal.returns
-returns c = journals_online c.stored_values_store_again.ensures

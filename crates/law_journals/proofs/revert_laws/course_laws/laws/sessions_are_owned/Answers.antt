@@ -1,5 +1,0 @@
-use Rattle.proof_migration.proofs.CourseLaws.Owners.{all_owned}
-use Rattle.law_journals.proofs.revert_laws.course_laws.laws.sessions_are_owned.Goals as goal
-
-pub returns : goal.returns
-returns c = all_owned

@@ -1,5 +1,0 @@
-use Rattle.proof_migration.proofs.CourseLaws.MarkedLaws.Marked.{marked_serial}
-use Rattle.law_journals.proofs.revert_laws.course_laws.marked_laws.marked_journals_are_serial.Goals as goal
-
-pub returns : goal.returns
-returns c = marked_serial c.alterable_plans_are_runnable.ensures

@@ -1,6 +1,0 @@
-use Rattle.proof_migration.proofs.CourseLaws.ReadyLaws.Orders.{goes_on}
-use Rattle.proof_migration.proofs.CourseLaws.ReadyLaws.Ready.{someone_ready}
-use Rattle.law_journals.proofs.revert_laws.course_laws.ready_laws.someone_is_ready.Goals as goal
-
-pub returns : goal.returns
-returns c = record { ready = someone_ready; goes = goes_on }

@@ -1,5 +1,0 @@
-use Rattle.proof_migration.proofs.CourseLaws.RunnableLaws.Runnable.{alterables_run}
-use Rattle.law_journals.proofs.revert_laws.course_laws.runnable_laws.alterable_plans_are_runnable.Goals as goal
-
-pub returns : goal.returns
-returns c = alterables_run c.stored_values_store_again.ensures

@@ -1,5 +1,0 @@
-use Rattle.proof_migration.proofs.CourseLaws.UnalteredLaws.Runs.{unaltered_runs}
-use Rattle.law_journals.proofs.revert_laws.course_laws.unaltered_laws.unaltered_journals_are_runs.Goals as goal
-
-pub returns : goal.returns
-returns c = unaltered_runs

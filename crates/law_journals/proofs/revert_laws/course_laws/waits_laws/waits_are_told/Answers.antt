@@ -1,5 +1,0 @@
-use Rattle.proof_migration.proofs.CourseLaws.WaitsLaws.Told.{all_told}
-use Rattle.law_journals.proofs.revert_laws.course_laws.waits_laws.waits_are_told.Goals as goal
-
-pub returns : goal.returns
-returns c = record { told = all_told }

@@ -1,5 +1,0 @@
-use Rattle.proof_migration.proofs.FollowLaws.BatchTurns.Turns.{appliers_turned}
-use Rattle.law_journals.proofs.revert_laws.follow_laws.batch_turns.appliers_are_turned.Goals as goal
-
-pub returns : goal.returns
-returns c = appliers_turned c.entries_are_turns.ensures

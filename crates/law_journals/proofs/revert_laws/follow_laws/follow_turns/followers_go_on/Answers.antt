@@ -1,5 +1,0 @@
-use Rattle.proof_migration.proofs.FollowLaws.FollowTurns.Follows.{followers_go_on}
-use Rattle.law_journals.proofs.revert_laws.follow_laws.follow_turns.followers_go_on.Goals as goal
-
-pub returns : goal.returns
-returns c = followers_go_on

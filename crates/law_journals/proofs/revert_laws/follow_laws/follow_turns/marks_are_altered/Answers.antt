@@ -1,5 +1,0 @@
-use Rattle.proof_migration.proofs.FollowLaws.FollowTurns.Follows.{marks_are_altered}
-use Rattle.law_journals.proofs.revert_laws.follow_laws.follow_turns.marks_are_altered.Goals as goal
-
-pub returns : goal.returns
-returns c = marks_are_altered

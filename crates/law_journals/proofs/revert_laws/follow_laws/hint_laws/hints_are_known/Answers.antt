@@ -1,5 +1,0 @@
-use Rattle.proof_migration.proofs.FollowLaws.HintLaws.Known.{hints_known}
-use Rattle.law_journals.proofs.revert_laws.follow_laws.hint_laws.hints_are_known.Goals as goal
-
-pub returns : goal.returns
-returns c = hints_known

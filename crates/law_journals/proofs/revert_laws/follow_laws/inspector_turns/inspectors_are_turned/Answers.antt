@@ -1,5 +1,0 @@
-use Rattle.proof_migration.proofs.FollowLaws.InspectorTurns.Inspectors.{inspectors_turned}
-use Rattle.law_journals.proofs.revert_laws.follow_laws.inspector_turns.inspectors_are_turned.Goals as goal
-
-pub returns : goal.returns
-returns c = inspectors_turned c.entries_are_turns.ensures c.hints_are_known.ensures

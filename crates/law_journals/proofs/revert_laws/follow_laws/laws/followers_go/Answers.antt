@@ -1,5 +1,0 @@
-use Rattle.proof_migration.proofs.FollowLaws.Starts.{followers_go}
-use Rattle.law_journals.proofs.revert_laws.follow_laws.laws.followers_go.Goals as goal
-
-pub returns : goal.returns
-returns c = followers_go

@@ -1,5 +1,0 @@
-use Rattle.proof_migration.proofs.FollowLaws.LockerTurns.Lockers.{lockers_turned}
-use Rattle.law_journals.proofs.revert_laws.follow_laws.locker_turns.lockers_are_turned.Goals as goal
-
-pub returns : goal.returns
-returns c = lockers_turned c.entries_are_turns.ensures c.definitions_are_done.ensures c.exclusive_is_alone.ensures c.locks_are_taken.ensures

@@ -1,5 +1,0 @@
-use Rattle.proof_migration.proofs.GoingLaws.Goes.{someone_goes}
-use Rattle.law_journals.proofs.revert_laws.going_laws.someone_goes.Goals as goal
-
-pub returns : goal.returns
-returns c = someone_goes c.entries_are_turns.ensures

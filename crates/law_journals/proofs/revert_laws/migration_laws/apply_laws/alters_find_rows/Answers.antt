@@ -1,5 +1,0 @@
-use Rattle.proof_migration.proofs.MigrationLaws.ApplyLaws.Stated.{alters_find_rows}
-use Rattle.law_journals.proofs.revert_laws.migration_laws.apply_laws.alters_find_rows.Goals as goal
-
-pub returns : goal.returns
-returns c = alters_find_rows

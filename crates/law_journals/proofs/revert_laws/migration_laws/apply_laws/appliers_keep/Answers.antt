@@ -1,5 +1,0 @@
-use Rattle.proof_migration.proofs.MigrationLaws.ApplyLaws.Appliers.{appliers_keep}
-use Rattle.law_journals.proofs.revert_laws.migration_laws.apply_laws.appliers_keep.Goals as goal
-
-pub returns : goal.returns
-returns c = appliers_keep

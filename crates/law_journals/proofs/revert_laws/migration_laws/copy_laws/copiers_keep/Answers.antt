@@ -1,5 +1,0 @@
-use Rattle.proof_migration.proofs.MigrationLaws.CopyLaws.Copiers.{copiers_keep}
-use Rattle.law_journals.proofs.revert_laws.migration_laws.copy_laws.copiers_keep.Goals as goal
-
-pub returns : goal.returns
-returns c = copiers_keep

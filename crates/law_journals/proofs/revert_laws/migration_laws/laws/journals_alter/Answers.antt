@@ -1,5 +1,0 @@
-use Rattle.proof_migration.proofs.MigrationLaws.Migrating.{journals_alter}
-use Rattle.law_journals.proofs.revert_laws.migration_laws.laws.journals_alter.Goals as goal
-
-pub returns : goal.returns
-returns c = journals_alter

@@ -1,8 +1,0 @@
-use Rattle.proof_migration.proofs.MigrationLaws.Migrating.{moves_keep, turns_keep}
-use Rattle.law_journals.proofs.revert_laws.migration_laws.laws.migrations_go_on.Goals as goal
-
-pub returns-clause-turns : goal.returns-clause-turns
-returns-clause-turns c = turns_keep
-
-pub returns-clause-moves : goal.returns-clause-moves
-returns-clause-moves c = moves_keep

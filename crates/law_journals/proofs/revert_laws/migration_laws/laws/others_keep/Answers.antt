@@ -1,5 +1,0 @@
-use Rattle.proof_migration.proofs.MigrationLaws.Others.{others_keep}
-use Rattle.law_journals.proofs.revert_laws.migration_laws.laws.others_keep.Goals as goal
-
-pub returns : goal.returns
-returns c = others_keep

@@ -1,5 +1,0 @@
-use Rattle.proof_migration.proofs.MigrationLaws.PlanningLaws.Planned.{alters_planned}
-use Rattle.law_journals.proofs.revert_laws.migration_laws.planning_laws.alters_are_planned.Goals as goal
-
-pub returns : goal.returns
-returns c = alters_planned c.stored_values_store_again.ensures

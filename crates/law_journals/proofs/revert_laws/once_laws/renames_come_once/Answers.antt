@@ -1,5 +1,0 @@
-use Rattle.proof_migration.proofs.OnceLaws.Whole.{come_once}
-use Rattle.law_journals.proofs.revert_laws.once_laws.renames_come_once.Goals as goal
-
-pub returns : goal.returns
-returns c = come_once c.definitions_are_done.ensures

@@ -1,5 +1,0 @@
-use Rattle.proof_migration.proofs.UnfitLaws.Unfit.{rows_stand}
-use Rattle.law_journals.proofs.revert_laws.unfit_laws.unfit_rows_stand.Goals as goal
-
-pub returns : goal.returns
-returns c = rows_stand c.stored_values_store_again.ensures c.alterable_plans_are_runnable.ensures

@@ -1,0 +1,39 @@
+//! That the cause which a verdict names stands in the journal.
+
+ghost use Rattle.proof_migration.specs.Attempt.Verdicts.{PanicsStand, SpentTasksStand, SpentAttemptsStand};
+ghost use Rattle.proof_migration.specs.Attempt.Causes.{SpentCutOversStand};
+ghost use Rattle.proof_migration.specs.Unfit.{UnfitRowsStand};
+
+use crate::plans::alterable_plans_are_runnable;
+use base_values::laws::stored_values_store_again;
+
+/// Where all was reverted because of panic, the operator commanded it in the turn that the verdict names.
+pub fn panics_stand()
+    ensures stands { PanicsStand }
+{}
+
+/// Where all was reverted because the setup, a chunk or a batch failed as often as the plan allows, the turns that the
+/// verdict names rise, and each is such a failure.
+pub fn spent_tasks_stand()
+    ensures stands { SpentTasksStand }
+{}
+
+/// Where all was reverted because the cut-over failed as often as the plan allows, the turns that the verdict names rise,
+/// and in each an attempt failed, or its sentry was refused.
+pub fn spent_attempts_stand()
+    ensures stands { SpentAttemptsStand }
+{}
+
+/// Where a verdict says that the cut-over was tried as often as the plan allows, each failed try stands in the journal.
+pub fn spent_cut_overs_stand()
+    ensures { SpentCutOversStand }
+{}
+
+/// Where a verdict names a row without an image, the copier read this row in that turn, or the applier wrote it for an event
+/// of the migrated table, and its value was refused so.
+pub fn unfit_rows_stand()
+    ensures { UnfitRowsStand }
+{
+    stored_values_store_again();
+    alterable_plans_are_runnable();
+}

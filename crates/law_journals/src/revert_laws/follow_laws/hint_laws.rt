@@ -1,9 +1,0 @@
-//! What is logged of the hint rows, and what the applier knows of the last one.
-
-ghost use Rattle.proof_migration.specs.FollowLaws.HintLaws.Laws.{HintsAreKnown};
-
-/// After every journal that is kept the applier knows the last hint row up to its position, and each hint row is of an attempt
-/// that was begun.
-pub fn hints_are_known()
-    ensures { HintsAreKnown }
-{}

@@ -1,0 +1,11 @@
+pub mod Lexed
+pub mod Literals
+pub mod RowsRead
+pub mod StatementsRead
+pub mod ScriptsRead
+pub mod RowsPut
+pub mod Computed
+pub mod TablesRead
+pub mod TablesSound
+pub mod Document
+pub mod Plans

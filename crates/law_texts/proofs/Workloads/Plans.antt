@@ -1,0 +1,3 @@
+-- Every workload is a plan.
+pub mod Scripts
+pub mod PlansRead

@@ -1,5 +1,0 @@
-use Rattle.law_texts.proofs.OrderLaws.Orders.{orders_read}
-use Rattle.law_texts.proofs.order_laws.laws.printed_orders_are_read.Goals as goal
-
-pub returns : goal.returns
-returns c = orders_read

@@ -1,5 +1,0 @@
-use Rattle.law_texts.proofs.OrderLaws.Orders.{turns_are}
-use Rattle.law_texts.proofs.order_laws.laws.printed_orders_are_those_turns.Goals as goal
-
-pub returns : goal.returns
-returns c = turns_are

@@ -1,5 +1,0 @@
-use Rattle.proof_schemas.proofs.AlterLaws.AlterRereadLaws.Declared.{altered-declared}
-use Rattle.law_texts.proofs.schema_laws.alter_laws.alter_reread_laws.altered_schemas_are_declared.Goals as goal
-
-pub returns : goal.returns
-returns c = altered-declared

@@ -1,5 +1,0 @@
-use Rattle.proof_schemas.proofs.AlterLaws.AlterRereadLaws.Whole.{altered-again}
-use Rattle.law_texts.proofs.schema_laws.alter_laws.alter_reread_laws.altered_schemas_are_read_again.Goals as goal
-
-pub returns : goal.returns
-returns c = altered-again c.stored_values_store_again.ensures

@@ -1,5 +1,0 @@
-use Rattle.proof_schemas.proofs.AlterLaws.KeepingLaws.{altered-valid}
-use Rattle.law_texts.proofs.schema_laws.alter_laws.laws.altered_schemas_are_valid.Goals as goal
-
-pub returns : goal.returns
-returns c = altered-valid c.stored_values_store_again.ensures

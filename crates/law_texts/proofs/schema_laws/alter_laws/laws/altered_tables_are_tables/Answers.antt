@@ -1,5 +1,0 @@
-use Rattle.proof_schemas.proofs.AlterLaws.ConvertedRowTables.{altered_tables_are}
-use Rattle.law_texts.proofs.schema_laws.alter_laws.laws.altered_tables_are_tables.Goals as goal
-
-pub returns : goal.returns
-returns c = altered_tables_are c.stored_values_store_again.ensures

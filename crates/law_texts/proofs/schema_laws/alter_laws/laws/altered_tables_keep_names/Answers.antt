@@ -1,5 +1,0 @@
-use Rattle.proof_schemas.proofs.AlterLaws.TableNames.{keep_names}
-use Rattle.law_texts.proofs.schema_laws.alter_laws.laws.altered_tables_keep_names.Goals as goal
-
-pub returns : goal.returns
-returns c = keep_names

@@ -1,5 +1,0 @@
-use Rattle.proof_schemas.proofs.AlterLaws.Clauses.{read-clauses}
-use Rattle.law_texts.proofs.schema_laws.alter_laws.laws.read_clauses_write_kinds.Goals as goal
-
-pub returns : goal.returns
-returns c = read-clauses

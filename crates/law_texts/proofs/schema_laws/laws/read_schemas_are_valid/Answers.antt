@@ -1,5 +1,0 @@
-use Rattle.proof_schemas.proofs.Valid.{read-valid}
-use Rattle.law_texts.proofs.schema_laws.laws.read_schemas_are_valid.Goals as goal
-
-pub returns : goal.returns
-returns c = read-valid c.stored_values_store_again.ensures

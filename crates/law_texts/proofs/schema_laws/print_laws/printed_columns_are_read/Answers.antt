@@ -1,5 +1,0 @@
-use Rattle.proof_schemas.proofs.PrintLaws.Reading.{column-read}
-use Rattle.law_texts.proofs.schema_laws.print_laws.printed_columns_are_read.Goals as goal
-
-pub returns : goal.returns
-returns c = column-read

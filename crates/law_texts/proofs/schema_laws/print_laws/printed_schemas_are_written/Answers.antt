@@ -1,5 +1,0 @@
-use Rattle.proof_schemas.proofs.PrintLaws.Written.{printed-written}
-use Rattle.law_texts.proofs.schema_laws.print_laws.printed_schemas_are_written.Goals as goal
-
-pub returns : goal.returns
-returns c = printed-written

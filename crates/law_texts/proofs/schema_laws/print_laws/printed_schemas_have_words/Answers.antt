@@ -1,5 +1,0 @@
-use Rattle.proof_schemas.proofs.PrintLaws.Tables.{printed-words}
-use Rattle.law_texts.proofs.schema_laws.print_laws.printed_schemas_have_words.Goals as goal
-
-pub returns : goal.returns
-returns c = printed-words

@@ -1,5 +1,0 @@
-use Rattle.proof_schemas.proofs.RereadLaws.Reread.{printed-again}
-use Rattle.law_texts.proofs.schema_laws.reread_laws.printed_schemas_are_read_again.Goals as goal
-
-pub returns : goal.returns
-returns c = printed-again

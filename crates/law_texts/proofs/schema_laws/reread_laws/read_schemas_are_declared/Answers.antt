@@ -1,5 +1,0 @@
-use Rattle.proof_schemas.proofs.RereadLaws.ReadDeclared.{read-declared}
-use Rattle.law_texts.proofs.schema_laws.reread_laws.read_schemas_are_declared.Goals as goal
-
-pub returns : goal.returns
-returns c = read-declared

@@ -1,5 +1,0 @@
-use Rattle.proof_schemas.proofs.RereadLaws.SoundSchemas.{read-prints}
-use Rattle.law_texts.proofs.schema_laws.reread_laws.read_schemas_can_print.Goals as goal
-
-pub returns : goal.returns
-returns c = read-prints c.stored_values_store_again.ensures

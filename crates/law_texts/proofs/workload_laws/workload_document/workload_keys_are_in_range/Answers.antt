@@ -1,5 +1,0 @@
-use Rattle.law_texts.proofs.WorkloadLaws.WorkloadDocument.KeysRead.{keys_read}
-use Rattle.law_texts.proofs.workload_laws.workload_document.workload_keys_are_in_range.Goals as goal
-
-pub returns : goal.returns
-returns c = keys_read

@@ -1,6 +1,0 @@
-use Rattle.law_texts.proofs.WorkloadLaws.WorkloadDocument.DocumentRead.{workload_read}
-use Rattle.law_texts.proofs.WorkloadLaws.WorkloadDocument.Sizes.{text_is_short, text_is_utf8}
-use Rattle.law_texts.proofs.workload_laws.workload_document.workloads_are_documents.Goals as goal
-
-pub returns : goal.returns
-returns c = record { document = workload_read; utf8 = text_is_utf8; short = text_is_short }

@@ -1,5 +1,0 @@
-use Rattle.law_texts.proofs.WorkloadLaws.WorkloadPlans.PlansRead.{plans_read}
-use Rattle.law_texts.proofs.workload_laws.workload_plans.workloads_are_read.Goals as goal
-
-pub returns : goal.returns
-returns c = plans_read

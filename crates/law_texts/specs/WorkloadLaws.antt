@@ -1,6 +1,0 @@
-pub mod Rows
-pub mod Alters
-pub mod Scripts
-pub mod Laws
-pub mod WorkloadDocument
-pub mod WorkloadPlans

@@ -1,2 +1,0 @@
--- Every workload is a plan: each function's contract is a law.
-pub mod Laws

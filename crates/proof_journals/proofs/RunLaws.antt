@@ -1,8 +1,0 @@
--- What holds of a run turn by turn: laws over journals and the server's states, as contracts of functions that do nothing.
-pub mod Numbering
-pub mod Tallies
-pub mod Turns
-pub mod Living
-pub mod Waits
-pub mod Taking
-pub mod Keeping

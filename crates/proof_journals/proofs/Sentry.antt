@@ -1,0 +1,20 @@
+-- The sentry relation: where the tool's RENAME may run, the sentry stands, or all of the table is in the new one and nobody else holds it.
+pub mod Holding
+pub mod Guarding
+pub mod Draining
+pub mod Fitting
+pub mod Hinting
+pub mod Knowing
+pub mod LockerTurns
+pub mod OtherTurns
+pub mod RenamerTurns
+pub mod InspectorTurns
+pub mod Working
+pub mod Lifting
+pub mod Steps
+pub mod Inductions
+pub mod Serving
+pub mod Calling
+pub mod Agreeing
+pub mod Sessions
+pub mod Applying

@@ -1,6 +1,0 @@
--- The sentry relation: where the tool's RENAME may run, the sentry exists, or all of the table is in the new one and nobody
--- else holds it. Each function's contract is a law.
-pub mod Laws
-pub mod Sentries
-pub mod Turning
-pub mod Turns

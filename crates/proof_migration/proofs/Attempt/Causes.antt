@@ -1,0 +1,3 @@
+-- That what a verdict names stands in the journal.
+pub mod Sentry
+pub mod Spent

@@ -1,7 +1,0 @@
--- A revert's cause stands in the journal: each function's contract is a law.
-pub mod Attempts
-pub mod Limits
-pub mod Waits
-pub mod Tries
-pub mod Reasons
-pub mod Standing

@@ -1,0 +1,6 @@
+-- While a run hasn't ended some actor is ready.
+pub mod Ends
+pub mod Going
+pub mod Idle
+pub mod Orders
+pub mod Actors

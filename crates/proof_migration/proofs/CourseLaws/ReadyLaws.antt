@@ -1,6 +1,0 @@
--- While a run hasn't ended some actor is ready: each function's contract is a law.
-pub mod Ends
-pub mod Going
-pub mod Idle
-pub mod Orders
-pub mod Ready

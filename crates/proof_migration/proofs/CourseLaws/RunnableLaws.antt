@@ -1,3 +1,0 @@
--- What the program of an alterable plan may ask: each function's contract is a law.
-pub mod Origins
-pub mod Runnable

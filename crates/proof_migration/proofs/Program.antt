@@ -1,0 +1,12 @@
+-- In every journal that follows an alterable plan's program the new table becomes the altered one.
+pub mod Courses
+pub mod Leaving
+pub mod Said
+pub mod Starts
+pub mod Follows
+pub mod Turns
+pub mod Hints
+pub mod Holds
+pub mod LockerTurns
+pub mod InspectorTurns
+pub mod BatchTurns

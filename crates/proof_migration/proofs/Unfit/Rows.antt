@@ -1,0 +1,280 @@
+-- *Unfit rows stand.*
+use Rattle.std.proofs.Common.{◌≡◌, ℕ, ◌+◌, ◌-◌, Bool, true, false, cond, List, [], ◌∷◌, ◌++◌, length, take, Option, Some, None, refl, sym, ap, ◌∙◌, subst, arith, append_assoc}
+use Rattle.std.specs.Prelude.{unwrap_or}
+use Rattle.std.specs.List.{list_any, slice_get}
+use Rattle.std.proofs.Math.Seq.{take-append_seam}
+use Rattle.base_values.specs.Laws.{StoresAgain}
+use Rattle.base_values.specs.declared.value.Value.{Value}
+use Rattle.base_values.specs.GhoSchema.Rows.{key_of, key_places}
+use Rattle.table_store.specs.Databases.{find_table}
+use Rattle.base_script.specs.declared.actor.Actor.{Actor}
+use Rattle.base_script.specs.declared.actor.Actor.TheVariants.{Copy, Apply}
+use Rattle.server_model.specs.declared.answer.Answer.{Answer}
+use Rattle.server_model.specs.declared.answer.Answer.TheVariants as answers
+use Rattle.server_model.specs.declared.entry.Entry.{Entry}
+use Rattle.server_model.specs.declared.outcome.Cause.{Cause}
+use Rattle.server_model.specs.declared.outcome.Cause.TheVariants as causes
+use Rattle.server_model.specs.declared.outcome.Progress.TheVariants.{Unfit}
+use Rattle.server_model.specs.declared.outcome.Verdict.TheVariants as verdicts
+use Rattle.server_model.specs.Entries.{answer_at}
+use Rattle.server_model.specs.Reading.{keys_in}
+use Rattle.server_model.specs.States.{State}
+use Rattle.plan_data.specs.PlanData.{PlanData, new_map, old_schema}
+use Rattle.tool_program.specs.JournalWords.Histories.{history, is_alter}
+use Rattle.tool_program.specs.JournalWords.Journals.{state_at}
+use Rattle.tool_program.proofs.JournalWords.Answers.{answer_more}
+use Rattle.tool_program.specs.ChunkCopier.Copiers as copiers
+use Rattle.tool_program.specs.ChunkCopier.Copiers.{key_at}
+use Rattle.tool_program.specs.declared.chunk_copier.copier.CopyStep.{CopyStep}
+use Rattle.tool_program.specs.declared.chunk_copier.copier.CopyStep.TheVariants.{Choosing, Spanning, Copying, Committing}
+use Rattle.tool_program.specs.EventApplier.Appliers as appliers
+use Rattle.tool_program.specs.EventApplier.Appliers.{Doing, doing_at, row_done, unfit_key}
+use Rattle.tool_program.specs.Failures.{IsUnfit, Stands, concerned, row_in}
+use Rattle.tool_program.specs.Programs.{Follows}
+use Rattle.tool_program.specs.Tools.{Course, SettingUp, Migrating, Reason, CopyUnfit, ApplyUnfit, Spent, Panicked, Work, is_reverting, moment}
+use Rattle.tool_program.specs.Verdicts.{apply_key, cause_of, new_column_name, copy_key, ended_so, has_ended, reverted_by, verdict_of}
+use Rattle.proof_journals.specs.Ghost.Rows.Moments.{Row}
+use Rattle.proof_journals.specs.Ghost.Rows.Timelines.{Migration}
+use Rattle.proof_journals.specs.Ghost.Holding.{Clustered}
+use Rattle.proof_journals.proofs.Ghost.Keys.{clustered}
+use Rattle.proof_migration.specs.Migration.Planning.{migration_of}
+use Rattle.proof_journals.specs.Run.Kept.{IsKept}
+use Rattle.proof_migration.specs.Course.Runnable.{AlterablePlansAreRunnable}
+use Rattle.proof_journals.proofs.Machine.Journals.{all_runs}
+use Rattle.proof_migration.specs.Course.Unaltered.{IsUnaltered}
+use Rattle.proof_migration.proofs.Course.Unaltered.Away.{all_asked, unaltered_front}
+use Rattle.proof_migration.specs.Program.Turns.Goes.{Goes}
+use Rattle.proof_migration.specs.Program.Turns.Laws.{GoesSomehow, IsMigrationOf}
+use Rattle.proof_migration.proofs.Program.Turns.Follows.{kept_front}
+use Rattle.proof_migration.proofs.Program.Follows.{migration, own_table}
+use Rattle.proof_migration.proofs.Program.Starts.{followers_go}
+use Rattle.proof_migration.proofs.Attempt.Verdicts.Standing.{IsGround, ground}
+use Rattle.proof_migration.specs.Unfit.{UnfitRowsStand}
+use Rattle.proof_migration.proofs.Unfit.Applies as applies
+use Rattle.proof_migration.proofs.Unfit.Copies.{IsUnfitRow, is_unfit, key, key_is, was_refused}
+use Rattle.proof_migration.proofs.Unfit.Grounds.{GroundStands, HasTurn, IsGrounded, IsUnfitTurn, Stood, all_grounded, stood_at, stood_in}
+use Rattle.proof_migration.proofs.Unfit.Refusals.{HasNoConvertedRow}
+
+-- THE JOURNAL'S TURN
+
+got_front : (front : List Entry) (entry : Entry) (rest : List Entry) → slice_get (front ++ entry ∷ rest) (length front) ≡ Some entry
+got_front [] entry rest = refl
+got_front (first ∷ front) entry rest = got_front front entry rest
+
+module _ (journal : List Entry) (turn : ℕ) (front : List Entry) (entry : Entry) (has : HasTurn journal turn front entry) where
+  place : turn - 1 ≡ length front
+  place = let numbered : turn ≡ length front + 1 = has.numbered in omega (arith, numbered)
+
+  stands_there : slice_get journal (turn - 1) ≡ Some entry
+  stands_there = ap (slice_get journal) place ∙ ap (λ (j : List Entry). slice_get j (length front)) has.whole ∙ got_front front entry has.rest
+
+  front_is : take (turn - 1) journal ≡ front
+  front_is = ap (λ (n : ℕ). take n journal) place ∙ ap (take (length front)) has.whole ∙ take-append_seam front (entry ∷ has.rest)
+
+-- the key that was told is told in the longer journal
+key_more : (journal more : List Entry) (step : CopyStep) (key : List Value) → key_at journal step ≡ Some key → key_at (journal ++ more) step ≡ Some key
+key_more journal more (Copying chunk copied) key is = by (answer_at journal chunk.told) refl where
+  by : (answer : Option Answer) → answer_at journal chunk.told ≡ answer → key_at (journal ++ more) (Copying chunk copied) ≡ Some key
+  by None none = absurd (no (sym (ap (λ (a : Option Answer). slice_get (keys_in a) copied) none) ∙ is)) where
+    no : None ≡ Some key → ⊥
+    no same = cc
+  by (Some answer) some = ap (λ (a : Option Answer). slice_get (keys_in a) copied) (answer_more journal more chunk.told answer some ∙ sym some) ∙ is
+key_more journal more Choosing key is = absurd cc
+key_more journal more (Spanning told size) key is = absurd cc
+key_more journal more (Committing chunk) key is = absurd cc
+
+copy_key_is : (journal : List Entry) (course : Course) (stood : Stood) (key : List Value) → stood_in course ≡ Some stood → key_at journal stood.step ≡ Some key → copy_key journal course ≡ key
+copy_key_is journal (SettingUp setup tries) stood key here is = absurd cc
+copy_key_is journal (Migrating work) stood key here is =
+    let one : stood_at work ≡ stood = cc in ap (λ (k : Option (List Value)). unwrap_or k []) (ap (λ (s : Stood). key_at journal s.step) one ∙ is)
+
+apply_key_is : (plan : PlanData) (journal : List Entry) (course : Course) (stood : Stood) → stood_in course ≡ Some stood → apply_key plan journal course ≡ unfit_key journal (key_places (old_schema plan)) stood.applier
+apply_key_is plan journal (SettingUp setup tries) stood here = absurd cc
+apply_key_is plan journal (Migrating work) stood here = let one : stood_at work ≡ stood = cc in ap (λ (s : Stood). unfit_key journal (key_places (old_schema plan)) s.applier) one
+
+-- what is reverted has no ALTER in its history
+unaltered_so : (plan : PlanData) (journal : List Entry) (cause : Cause) → verdict_of plan journal ≡ verdicts.Reverted cause → IsUnaltered plan journal
+unfolding verdict_of
+unaltered_so plan journal cause is = ended (has_ended plan journal) is where
+  altered : (b : Bool) → cond b verdicts.Done (reverted_by plan journal (moment plan journal).tool (moment plan journal).tool.reason) ≡ verdicts.Reverted cause → b ≡ false
+  altered true same = absurd (no same) where
+    no : verdicts.Done ≡ verdicts.Reverted cause → ⊥
+    no same = cc
+  altered false same = refl
+
+  ended : (b : Bool) → cond b (ended_so plan journal (moment plan journal).tool) verdicts.Unfinished ≡ verdicts.Reverted cause → IsUnaltered plan journal
+  ended false same = absurd (no same) where
+    no : verdicts.Unfinished ≡ verdicts.Reverted cause → ⊥
+    no same = cc
+  ended true same = altered (list_any is_alter (history plan journal)) same
+
+-- THE TURN
+
+-- in this turn the row of this key, which has no image, was refused
+record IsRefused (plan : PlanData) (front : List Entry) (entry : Entry) (key : List Value) (place number : ℕ) : Type 0 where
+  refused : entry.answer ≡ answers.Refused number (Some place)
+  row : List Value
+  concerned : concerned plan front (moment plan front) entry.actor key ≡ Some row
+  keyed : key_of (key_places (old_schema plan)) row ≡ key
+  none : HasNoConvertedRow (new_map plan) row place number
+
+module _ (plan : PlanData) (m : Migration) (at : Clustered m.schema) (rows : List Row) (of : IsMigrationOf plan m rows) (found : find_table m.name plan.tables ≡ Some (record { schema = m.schema; rows = rows })) (journal : List Entry) (kept : IsKept plan journal) (off : IsUnaltered plan journal)
+    (who : Actor) (turn place number : ℕ) (is : IsUnfitTurn plan journal (stood_in (moment plan journal).tool.course) who turn place number) where
+  abbrev more : List Entry
+  more = is.entry ∷ is.has.rest
+
+  whole_kept : IsKept plan ((is.front ++ is.entry ∷ []) ++ is.has.rest)
+  whole_kept = subst (IsKept plan) (is.has.whole ∙ sym (append_assoc is.front (is.entry ∷ []) is.has.rest)) kept
+
+  turn_kept : IsKept plan (is.front ++ is.entry ∷ [])
+  turn_kept = kept_front plan (is.front ++ is.entry ∷ []) is.has.rest whole_kept
+
+  front_kept : IsKept plan is.front
+  front_kept = kept_front plan is.front (is.entry ∷ []) turn_kept
+
+  front_off : IsUnaltered plan is.front
+  front_off = unaltered_front plan is.front more (subst (IsUnaltered plan) is.has.whole off)
+
+  going : is_reverting (moment plan is.front).tool.reason ≡ false
+  going = ap is_reverting is.going
+
+  somehow : GoesSomehow plan m at rows is.front
+  somehow = followers_go plan m at rows of found is.front is.work front_kept front_off going is.course
+
+  same_work : (one other : Work) → Migrating one ≡ Migrating other → one ≡ other
+  same_work one other same = cc
+
+  goes : Goes plan m at rows is.front is.work
+  goes = subst (Goes plan m at rows is.front) (same_work somehow.work is.work (sym somehow.course ∙ is.course)) somehow.goes
+
+  front_server : (moment plan is.front).server ≡ state_at plan is.front
+  front_server = (all_asked plan is.front of.runs front_kept.faithful front_kept.follows).marking.tabled.all.tool.server
+
+  -- what was refused in this turn stands in the journal
+  stands_so : (key : List Value) → IsRefused plan is.front is.entry key place number → IsUnfit plan journal turn key (new_column_name plan place) number
+  stands_so key was = record {
+    entry = is.entry;
+    before = moment plan is.front;
+    is = record {
+      from_one = let numbered : turn ≡ length is.front + 1 = is.has.numbered in omega (arith, numbered);
+      stands = stands_there journal turn is.front is.entry is.has;
+      moment = ap (moment plan) (sym (front_is journal turn is.front is.entry is.has));
+    };
+    place = place;
+    refused = was.refused;
+    name = refl;
+    row = was.row;
+    concerned = ap (λ (j : List Entry). concerned plan j (moment plan is.front) is.entry.actor key) (front_is journal turn is.front is.entry is.has) ∙ was.concerned;
+    keyed = was.keyed;
+    unfit = was.none.fault;
+    refuses = was.none.refuses;
+    numbered = was.none.numbered;
+  }
+
+  -- THE COPIER'S
+
+  module _ (again : StoresAgain) (same : is.entry.actor ≡ Copy) (unfit : copiers.progress is.work.copier is.entry.answer ≡ Unfit place number) where
+    abbrev own_key : List Value
+    own_key = key again plan m at rows of is.front is.entry turn_kept is.work is.course going goes same is.uncut place number unfit
+
+    copied : IsUnfitRow plan (state_at plan is.front).tables own_key place number
+    copied = is_unfit again plan m at rows of is.front is.entry turn_kept is.work is.course going goes same is.uncut place number unfit
+
+    copy_key_now : copy_key journal (moment plan journal).tool.course ≡ own_key
+    copy_key_now =
+        copy_key_is journal (moment plan journal).tool.course (stood_at is.work) own_key is.stays
+        (ap (λ (j : List Entry). key_at j is.work.copier.step) is.has.whole
+        ∙ key_more is.front more is.work.copier.step own_key (key_is again plan m at rows of is.front is.entry turn_kept is.work is.course going goes same is.uncut place number unfit))
+
+    copy_concerned : concerned plan is.front (moment plan is.front) is.entry.actor own_key ≡ Some copied.row
+    copy_concerned =
+        ap (λ (a : Actor). concerned plan is.front (moment plan is.front) a own_key) same ∙ ap (λ (s : State). row_in (find_table plan.table s.tables) own_key) front_server ∙ copied.concerned
+
+    pub copy_stands : IsUnfit plan journal turn (copy_key journal (moment plan journal).tool.course) (new_column_name plan place) number
+    copy_stands =
+        subst (λ (k : List Value). IsUnfit plan journal turn k (new_column_name plan place) number) (sym copy_key_now)
+        (stands_so own_key
+        (record {
+          refused = was_refused again plan m at rows of is.front is.entry turn_kept is.work is.course going goes same is.uncut place number unfit;
+          row = copied.row;
+          concerned = copy_concerned;
+          keyed = copied.keyed;
+          none = record { fault = copied.fault; refuses = copied.refuses; numbered = copied.numbered };
+        }))
+
+  -- THE APPLIER'S
+
+  module _ (same : is.entry.actor ≡ Apply) (unfit : appliers.progress is.work.applier is.entry.answer ≡ Unfit place number) where
+    abbrev applied : List Value
+    applied = applies.row plan m at rows of is.front is.entry turn_kept is.work is.course going goes same is.uncut place number unfit
+
+    abbrev applied_key : List Value
+    applied_key = key_of (key_places (old_schema plan)) applied
+
+    -- its statement is the same in the whole journal
+    doing_now : doing_at journal is.work.applier is.work.applier.step ≡ doing_at is.front is.work.applier is.work.applier.step
+    doing_now =
+        ap (λ (j : List Entry). doing_at j is.work.applier is.work.applier.step) is.has.whole
+        ∙ applies.doing_more plan m at rows of is.front is.entry turn_kept is.work is.course going goes same is.uncut place number unfit more
+
+    apply_key_now : apply_key plan journal (moment plan journal).tool.course ≡ applied_key
+    apply_key_now =
+        apply_key_is plan journal (moment plan journal).tool.course (stood_at is.work) is.stays ∙ ap (λ (d : Option Doing). key_of (key_places (old_schema plan)) (row_done d)) doing_now
+        ∙ ap (key_of (key_places (old_schema plan))) (applies.row_is plan m at rows of is.front is.entry turn_kept is.work is.course going goes same is.uncut place number unfit)
+
+    pub apply_stands : IsUnfit plan journal turn (apply_key plan journal (moment plan journal).tool.course) (new_column_name plan place) number
+    apply_stands =
+        subst (λ (k : List Value). IsUnfit plan journal turn k (new_column_name plan place) number) (sym apply_key_now)
+        (stands_so applied_key
+        (record {
+          refused = applies.was_refused plan m at rows of is.front is.entry turn_kept is.work is.course going goes same is.uncut place number unfit;
+          row = applied;
+          concerned = applies.row_concerned plan m at rows of is.front is.entry turn_kept is.work is.course going goes same is.uncut place number unfit applied_key;
+          keyed = refl;
+          none = applies.no_converted_row plan m at rows of is.front is.entry turn_kept is.work is.course going goes same is.uncut place number unfit;
+        }))
+
+-- such a turn, where the work is as behind the whole journal
+abbrev Turn : PlanData → List Entry → Actor → ℕ → ℕ → ℕ → Type 0
+Turn plan journal who turn place number = IsUnfitTurn plan journal (stood_in (moment plan journal).tool.course) who turn place number
+
+-- *Unfit rows stand*
+pub rows_stand : StoresAgain → AlterablePlansAreRunnable → UnfitRowsStand
+unfolding Stands Follows
+rows_stand again runnable plan alterable worded serial journal kept turn key column number verdict = by one.reason one.same (subst (GroundStands plan journal (stood_in (moment plan journal).tool.course)) one.is grounded.ground) where
+  one : IsGround plan journal (causes.Unfit turn key column number)
+  one = ground plan journal (causes.Unfit turn key column number) verdict
+
+  grounded : IsGrounded plan journal
+  grounded = all_grounded plan journal (all_runs plan [] journal kept.faithful kept.follows)
+
+  of : IsMigrationOf plan (migration_of alterable.table.schema alterable.new) alterable.table.rows
+  of = migration plan alterable again (runnable plan alterable worded) serial
+
+  at : Clustered alterable.table.schema
+  at = clustered alterable.table.schema of.planned.old_key
+
+  off : IsUnaltered plan journal
+  off = unaltered_so plan journal (causes.Unfit turn key column number) verdict
+
+  copied : (place : ℕ) → Turn plan journal Copy turn place number → IsUnfit plan journal turn (copy_key journal (moment plan journal).tool.course) (new_column_name plan place) number
+  copied place is = copy_stands plan (migration_of alterable.table.schema alterable.new) at alterable.table.rows of (own_table plan alterable) journal kept off Copy turn place number is again is.actor is.unfit
+
+  applied : (place : ℕ) → Turn plan journal Apply turn place number → IsUnfit plan journal turn (apply_key plan journal (moment plan journal).tool.course) (new_column_name plan place) number
+  applied place is = apply_stands plan (migration_of alterable.table.schema alterable.new) at alterable.table.rows of (own_table plan alterable) journal kept off Apply turn place number is is.actor is.unfit
+
+  -- the verdict's turn, key, column and number are those of the ground
+  named : (who : Actor) (other place told : ℕ) (own : List Value) → causes.Unfit other own (new_column_name plan place) told ≡ causes.Unfit turn key column number → (Turn plan journal who turn place number → IsUnfit plan journal turn own (new_column_name plan place) number) → Turn plan journal who other place told → IsUnfit plan journal turn key column number
+  named who other place told own same stands is =
+      let a : other ≡ turn = cc in
+      let b : own ≡ key = cc in
+      let c : new_column_name plan place ≡ column = cc in
+      let d : told ≡ number = cc in
+      subst (λ (k : List Value). IsUnfit plan journal turn k column number) b
+      (subst (λ (n : List ℕ). IsUnfit plan journal turn own n number) c (stands (subst (λ (n : ℕ). Turn plan journal who turn place n) d (subst (λ (t : ℕ). Turn plan journal who t place told) a is))))
+
+  by : (reason : Reason) → cause_of plan journal (moment plan journal).tool reason ≡ causes.Unfit turn key column number → GroundStands plan journal (stood_in (moment plan journal).tool.course) (Some reason) → IsUnfit plan journal turn key column number
+  by (CopyUnfit other place told) same is = named Copy other place told (copy_key journal (moment plan journal).tool.course) same (copied place) is
+  by (ApplyUnfit other place told) same is = named Apply other place told (apply_key plan journal (moment plan journal).tool.course) same (applied place) is
+  by (Spent spent tries) same is = absurd cc
+  by (Panicked other) same is = absurd cc

@@ -1,2 +1,0 @@
--- That what a verdict names is in the journal: each function's contract is a law.
-pub mod Laws

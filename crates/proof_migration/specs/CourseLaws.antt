@@ -1,8 +1,0 @@
--- Whose the server's sessions are, and how the tool's course goes on turn by turn: each function's contract is a law.
-pub mod Laws
-pub mod RunnableLaws
-pub mod UnalteredLaws
-pub mod WaitsLaws
-pub mod MarkedLaws
-pub mod ReadyLaws
-pub mod ChunkLaws

@@ -1,2 +1,0 @@
--- Chunks are as small as the operator asks: each function's contract is a law.
-pub mod Laws

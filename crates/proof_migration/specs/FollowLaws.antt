@@ -1,8 +1,0 @@
--- In every journal that follows an alterable plan's program the new table becomes the altered one.
-pub mod Laws
-pub mod FollowTurns
-pub mod HintLaws
-pub mod HoldLaws
-pub mod LockerTurns
-pub mod InspectorTurns
-pub mod BatchTurns

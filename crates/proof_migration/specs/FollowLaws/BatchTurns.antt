@@ -1,2 +1,0 @@
--- The copier's and the applier's turns leave the cut-over what the sentry relation asks.
-pub mod Laws

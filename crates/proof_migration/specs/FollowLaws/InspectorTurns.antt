@@ -1,2 +1,0 @@
--- The inspector's turns are such turns as the sentry relation asks: the function's contract is a law.
-pub mod Laws

@@ -1,2 +1,0 @@
--- The locker's and the renamer's turns are such turns as the sentry relation asks: each function's contract is a law.
-pub mod Laws

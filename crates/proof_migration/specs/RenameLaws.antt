@@ -1,2 +1,0 @@
--- Each turn is a turn of the cut-over, so that by the sentry relation the RENAME comes at the mark.
-pub mod Laws

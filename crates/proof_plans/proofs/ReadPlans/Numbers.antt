@@ -1,0 +1,111 @@
+-- Numbers of a plan's texts and options are in their ranges.
+use Rattle.std.proofs.Common.{◌≡◌, ◌≤◌, ℕ, ◌+◌, ◌*◌, ◌-◌, ◌^◌, min, Bool, true, false, not, ◌||◌, ◌==◌, cond, List, [], ◌∷◌, Option, Some, None, Ok, refl, subst, arith}
+use Rattle.std.specs.Prelude.{ℤ, pos, negsuc, int_lt, nat_lt}
+use Rattle.std.specs.Char.{is_ascii_digit, digit_value}
+use Rattle.std.specs.List.{list_all}
+use Rattle.std.specs.Str.Parse.{digits_value, digits_value_after}
+use Rattle.std.proofs.lemmas.Bool.{and_parts, or_parts}
+use Rattle.std.proofs.lemmas.Bool.Decides.{nat_tests}
+use Rattle.base_values.specs.GhoSchema.Options.{◌>>=◌ as option_bind}
+use Rattle.base_values.proofs.SchemaRules.Steps.{bind_ok, ok_is, kept_out, some_is}
+use Rattle.plan_data.specs.declared.options.Options.{Options}
+use Rattle.plan_keys.specs.declared.fault.KeyRefusal.{KeyRefusal}
+use Rattle.plan_keys.specs.declared.fault.KeyRefusal.TheVariants.{UnknownKey, MissingKey, OutOfRange, TooMany}
+use Rattle.plan_keys.specs.declared.options.NumberKeys.{NumberKeys}
+use Rattle.plan_keys.specs.declared.options.TruthKeys.{TruthKeys}
+use Rattle.plan_keys.specs.Limits.{has_too_many}
+use Rattle.plan_keys.specs.Options.{within, options_within}
+use Rattle.plan_keys.specs.PlanKeys.{KeyData, TypedData, typed_of, in_range, few, keys_of}
+use Rattle.base_values.specs.SchemaRules.Results.{◌>>=◌}
+use Rattle.toml.specs.Data.{Members}
+use Rattle.plan_orders.specs.Numbers.{is_number, number_of, at_most, number_up_to}
+use Rattle.proof_plans.proofs.ReadPlans.Schemas.Accepted.{past}
+
+-- DIGITS
+
+-- digits behind a number make none smaller
+grows : (n : ℕ) (digits : List ℕ) → n ≤ digits_value_after 10 n digits
+grows n [] = omega arith
+grows n (digit ∷ digits) = let later = grows (n * 10 + digit_value digit) digits in omega (arith, later)
+
+first_some : (digit : ℕ) → not (digit == 48) ≡ true → is_ascii_digit digit ≡ true → 1 ≤ digit_value digit
+first_some digit other is = grind (arith, nat_tests)
+
+from_one : (word : List ℕ) → is_number word ≡ true → 1 ≤ digits_value 10 word
+from_one [] is = absurd cc
+from_one (digit ∷ digits) is =
+    let parts = and_parts (not (digit == 48)) (list_all is_ascii_digit (digit ∷ digits)) is in
+    let first = and_parts (is_ascii_digit digit) (list_all is_ascii_digit digits) parts.1 in
+    let some = first_some digit parts.0 first.0 in
+    let later = grows (0 * 10 + digit_value digit) digits in
+    omega (arith, some, later)
+
+number_from_one : (word : List ℕ) (n : ℕ) → number_of word ≡ Some n → 1 ≤ n
+number_from_one word n is = by (is_number word) refl is where
+  by : (b : Bool) → is_number word ≡ b → cond b (Some (min (digits_value 10 word) (2 ^ 32 - 1))) None ≡ Some n → 1 ≤ n
+  by true number is =
+      let some = from_one word number in
+      let same = some_is (min (digits_value 10 word) (2 ^ 32 - 1)) n is in
+      subst (λ (m : ℕ). 1 ≤ m) same (omega (arith, some))
+  by false number is = absurd cc
+
+within_limit : (limit n : ℕ) (found : Option ℕ) → ((m : ℕ) → found ≡ Some m → 1 ≤ m) → option_bind found (at_most limit) ≡ Some n → 1 ≤ n
+within_limit limit n None some is = absurd cc
+within_limit limit n (Some m) some is = by (nat_lt limit m) is where
+  by : (b : Bool) → cond b None (Some m) ≡ Some n → 1 ≤ n
+  by true is = absurd cc
+  by false is = subst (λ (k : ℕ). 1 ≤ k) (some_is m n is) (some m refl)
+
+-- *Numbers are from 1 on*
+pub number_some : (limit : ℕ) (word : List ℕ) (n : ℕ) → number_up_to limit word ≡ Some n → 1 ≤ n
+number_some limit word n is = within_limit limit n (number_of word) (number_from_one word) is
+
+-- OPTIONS
+
+within_is : (low high n : ℕ) (number : ℤ) → within low high number ≡ Ok n → low ≤ n
+unfolding within
+within_is low high n (pos m) is =
+    let parts = kept_out (int_lt (pos m) (pos low) || int_lt (pos high) (pos m)) m n OutOfRange is in
+    let first = or_parts (int_lt (pos m) (pos low)) (int_lt (pos high) (pos m)) parts.0 in
+    subst (λ (k : ℕ). low ≤ k) parts.1 (grind (arith, nat_tests, first))
+within_is low high n (negsuc m) is = absurd cc
+
+-- what ranges ask of the options
+pub record AreRanged (options : Options) : Type 0 where
+  pub chunk : 1 ≤ options.chunk_size
+  pub batch : 1 ≤ options.dml_batch_size
+  pub drain : 1 ≤ options.drain_limit
+
+ranged : (numbers : NumberKeys) (truths : TruthKeys) (options : Options) → options_within numbers truths ≡ Ok options → AreRanged options
+unfolding options_within
+ranged numbers truths options is =
+    let chunk = bind_ok (within 1 100000 numbers.chunk_size) _ options is in
+    let batch = bind_ok (within 1 1000 numbers.dml_batch_size) _ options chunk.2 in
+    let retries = bind_ok (within 1 1000 numbers.default_retries) _ options batch.2 in
+    let backlog = bind_ok (within 0 100000 numbers.max_backlog) _ options retries.2 in
+    let drain = bind_ok (within 1 100000 numbers.drain_limit) _ options backlog.2 in
+    let client = bind_ok (within 1 100000 numbers.client_wait) _ options drain.2 in
+    let tool = bind_ok (within 1 100000 numbers.tool_wait) _ options client.2 in
+    let load = bind_ok (within 0 64 numbers.max_load) _ options tool.2 in
+    let turns = bind_ok (within 1 1000000 numbers.turn_limit) _ options load.2 in
+    subst AreRanged (ok_is {C = KeyRefusal} _ options turns.2)
+    (record { chunk = within_is 1 100000 chunk.0 numbers.chunk_size chunk.1; batch = within_is 1 1000 batch.0 numbers.dml_batch_size batch.1; drain = within_is 1 100000 drain.0 numbers.drain_limit drain.1 })
+
+typed_ranged : (typed : TypedData) (keys : KeyData) → in_range typed ≡ Ok keys → AreRanged keys.options
+unfolding in_range
+typed_ranged typed keys is =
+    let version = bind_ok (within 1 1 typed.version) _ keys is in
+    let options = bind_ok (options_within typed.numbers typed.truths) (λ options. Ok (record { texts = typed.texts; options = options })) keys version.2 in
+    let same = ok_is {C = KeyRefusal} (record { texts = typed.texts; options = options.0 }) keys options.2 in
+    subst (λ (k : KeyData). AreRanged k.options) same (ranged typed.numbers typed.truths options.0 options.1)
+
+-- *The options of read keys are in their ranges*
+pub options_ranged : (members : Members) (keys : KeyData) → keys_of members ≡ Ok keys → AreRanged keys.options
+unfolding keys_of
+options_ranged members keys is =
+    let known = past _ UnknownKey _ keys is in
+    let there = past _ MissingKey _ keys known in
+    let kept = bind_ok (typed_of members >>= in_range) few keys there in
+    let typed = bind_ok (typed_of members) in_range kept.0 kept.1 in
+    let same = kept_out (has_too_many kept.0.texts) kept.0 keys TooMany kept.2 in
+    subst (λ (k : KeyData). AreRanged k.options) same.1 (typed_ranged typed.0 kept.0 typed.2)

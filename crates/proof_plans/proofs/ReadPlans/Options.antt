@@ -1,0 +1,2 @@
+-- What the options of every accepted plan allow.
+pub mod Allowed

@@ -1,0 +1,83 @@
+-- The tables that are read, by their names.
+use Rattle.std.proofs.Common.{◌≡◌, ℕ, Bool, true, false, cond, List, [], ◌∷◌, ◌++◌, Some, Ok, refl, sym, subst}
+use Rattle.std.specs.List.{AllByRecursion}
+use Rattle.base_values.specs.Laws.{StoresAgain}
+use Rattle.base_values.specs.declared.gho_schema.schema.Schema.{Schema}
+use Rattle.table_store.specs.Databases.{TableRows, Database, has_table, is_named, find_table}
+use Rattle.table_store.specs.Laws.{PutKeepsTables}
+use Rattle.base_values.proofs.SchemaRules.Lists.{All-append, All-weaker}
+use Rattle.base_values.proofs.SchemaRules.Steps.{bind_ok, ok_is, kept_out, some_is}
+use Rattle.base_values.specs.SchemaRules.Limits.{is_table_name, is_name_length}
+use Rattle.base_values.specs.ToolNames.{is_tool_name}
+use Rattle.sql_create.specs.Laws.{ReadSchemasAreValid}
+use Rattle.sql_create.specs.Reading.{schema_at}
+use Rattle.proof_schemas.specs.ReadAgain.{ReadSchemasAreDeclared}
+use Rattle.plan_keys.specs.Limits.{TableData}
+use Rattle.plan_reader.specs.declared.plan_tables.fault.TableRefusal.{TableRefusal}
+use Rattle.plan_reader.specs.PlanTables.Rows.{next_number, put_texts}
+use Rattle.plan_reader.specs.PlanTables.Tables.{of_schema, newly_named, table_at, tables_from, tables_of, IsSound}
+use Rattle.plan_reader.proofs.PlanTables.Sound as sound
+use Rattle.plan_reader.proofs.PlanTables.Sound.{schema_was, texts_kept, rows_were}
+use Rattle.server_model.specs.LockedRows.Covering.{IsWellFormedTable}
+use Rattle.server_model.proofs.LockedRows.Tests.{are_same}
+use Rattle.plan_data.proofs.KeyedSchemas.{valid_keyed}
+use Rattle.proof_journals.proofs.ValidTables.{valid_table}
+use Rattle.proof_plans.proofs.ReadPlans.Names.{migrated_fits}
+
+-- what the laws of the crates below say
+pub record Laws : Type 0 where
+  pub valid : ReadSchemasAreValid
+  pub declared : ReadSchemasAreDeclared
+  pub again : StoresAgain
+  pub put : PutKeepsTables
+
+-- the name has a lawful length
+abbrev IsNamedSo : List ℕ → TableRows → Type 0
+IsNamedSo migrated table = is_table_name (is_tool_name migrated table.schema.name) table.schema.name ≡ true
+
+table_named : Laws → (migrated : List ℕ) (number : ℕ) (tables : Database) (texts : TableData) (table : TableRows) → table_at migrated number tables texts ≡ Ok table → IsNamedSo migrated table
+unfolding table_at
+table_named laws migrated number tables texts table is =
+    let schema = bind_ok (of_schema number (schema_at migrated texts.create)) _ table is in
+    let empty = bind_ok (newly_named number tables schema.0) _ table schema.2 in
+    let was = schema_was number (schema_at migrated texts.create) schema.0 schema.1 in
+    let bare : TableRows = record { schema = schema.0; rows = [] } in
+    let parts = kept_out (has_table schema.0.name tables) bare empty.0 _ empty.1 in
+    let put : put_texts 1 bare texts.rows ≡ Ok table = subst (λ (t : TableRows). put_texts 1 t texts.rows ≡ Ok table) (sym parts.1) (rows_were number (put_texts 1 empty.0 texts.rows) table empty.2) in
+    let all : sound.Laws = record { again = laws.again; put = laws.put } in
+    let kept = texts_kept all 1 bare table texts.rows (valid_keyed schema.0 (laws.valid migrated texts.create schema.0 was)) (record { rows_fit = tt; ascends = tt; apart = tt }) put in
+    subst (λ (s : Schema). is_table_name (is_tool_name migrated s.name) s.name ≡ true) (sym kept.schema_is) (laws.declared migrated texts.create schema.0 was).name
+
+tables_named : Laws → (migrated : List ℕ) (number : ℕ) (tables : Database) (texts : List TableData) (made : Database) → AllByRecursion (IsNamedSo migrated) tables → tables_from migrated number tables texts ≡ Ok made → AllByRecursion (IsNamedSo migrated) made
+unfolding tables_from
+tables_named laws migrated number tables [] made all is = subst (AllByRecursion (IsNamedSo migrated)) (ok_is {C = TableRefusal} tables made is) all
+tables_named laws migrated number tables (first ∷ texts) made all is =
+    let table = bind_ok (table_at migrated number tables first) (λ table. tables_from migrated (next_number number) (tables ++ (table ∷ [])) texts) made is in
+    tables_named laws migrated (next_number number) (tables ++ (table.0 ∷ [])) texts made (All-append (IsNamedSo migrated) tables (table.0 ∷ []) all (table_named laws migrated number tables first table.0 table.1, tt)) table.2
+
+-- a table that is found is one of the tables, and has the name
+pub record IsFound (P : TableRows → Type 0) (name : List ℕ) (table : TableRows) : Type 0 where
+  pub is : P table
+  pub named : table.schema.name ≡ name
+
+pub found_is : (P : TableRows → Type 0) (name : List ℕ) (tables : Database) (table : TableRows) → AllByRecursion P tables → find_table name tables ≡ Some table → IsFound P name table
+found_is P name [] table all is = absurd cc
+found_is P name (first ∷ tables) table all is = by (is_named name first) refl is (found_is P name tables table all.1) where
+  by : (b : Bool) → is_named name first ≡ b → cond b (Some first) (find_table name tables) ≡ Some table → (find_table name tables ≡ Some table → IsFound P name table) → IsFound P name table
+  by true named is later = subst (IsFound P name) (some_is first table is) (record { is = all.0; named = are_same first.schema.name name named })
+  by false named is later = later is
+
+-- *The migrated table's name has at most 59 characters*
+pub migrated_named : Laws → (migrated : List ℕ) (texts : List TableData) (tables : Database) (table : TableRows) → tables_of migrated texts ≡ Ok tables → find_table migrated tables ≡ Some table → is_name_length 59 migrated ≡ true
+migrated_named laws migrated texts tables table read found =
+    let is = found_is (IsNamedSo migrated) migrated tables table (tables_named laws migrated 1 [] texts tables tt read) found in
+    migrated_fits migrated (subst (λ (n : List ℕ). is_table_name (is_tool_name migrated n) n ≡ true) is.named is.is)
+
+sound_well_formed : (table : TableRows) → IsSound table → IsWellFormedTable table
+sound_well_formed table is =
+    let empty : IsWellFormedTable (record { schema = table.schema; rows = [] }) = valid_table table.schema is.valid in
+    record { keyed = empty.keyed; defaults = empty.defaults; is_table = is.is_table }
+
+-- *Sound tables are orderly*
+pub all_well_formed : (tables : Database) → AllByRecursion IsSound tables → AllByRecursion IsWellFormedTable tables
+all_well_formed tables all = All-weaker IsSound IsWellFormedTable sound_well_formed tables all

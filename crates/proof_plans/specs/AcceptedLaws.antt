@@ -1,4 +1,0 @@
--- What every accepted plan has, so that the laws over journals speak of it.
-pub mod Laws
-pub mod PlanLaws
-pub mod OptionLaws

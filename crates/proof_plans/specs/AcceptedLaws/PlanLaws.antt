@@ -1,2 +1,0 @@
--- What holds of every accepted plan.
-pub mod PlanLaws

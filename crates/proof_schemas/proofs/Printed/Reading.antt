@@ -1,0 +1,236 @@
+-- Printed pieces are read as what was printed.
+use Rattle.std.proofs.Common.{◌≡◌, ℕ, zero, suc, ◌+◌, ◌<◌, ◌≤◌, ◌^◌, append_assoc, ◌&&◌, ◌||◌, eqb-true, Bool, true, false, cond, eqb, List, [], ◌∷◌, ◌++◌, length, Option, Some, None, Result, Ok, refl, sym, ap, subst, ◌∙◌, codes, arith, length-append}
+use Rattle.std.specs.Prelude.{nat_le, ℤ, unsigned_abs}
+use Rattle.std.specs.Option.{option_map}
+use Rattle.std.specs.Str.{bytes_eq}
+use Rattle.std.specs.Fmt.{decimal}
+use Rattle.std.specs.List.{position_or_len, AllByRecursion}
+use Rattle.std.proofs.lemmas.Bool.{lt-ltb, eq-eqb}
+use Rattle.std.proofs.lemmas.List.{take_at}
+use Rattle.sql_words.specs.Meaning.{quoted_name}
+use Rattle.sql_words.specs.Quoted.{name_inside}
+use Rattle.base_values.specs.declared.kind.Kind.{Kind}
+use Rattle.base_values.specs.declared.kind.Kind.TheVariants.{Int, VarChar, VarBinary}
+use Rattle.base_values.specs.declared.value.Value.{Value}
+use Rattle.base_values.specs.declared.value.Value.TheVariants.{Null, Num, Text, Blob}
+use Rattle.base_values.specs.Printing.{printed}
+use Rattle.base_values.specs.declared.gho_schema.schema.Column.{Column}
+use Rattle.base_values.specs.GhoSchema.Names.{same_name}
+use Rattle.sql_words.specs.declared.word.WordClass.TheVariants as class
+use Rattle.sql_words.proofs.Reprinted.{text_value-printed_text, bytes_value-printed_bytes}
+use Rattle.sql_grammar.specs.declared.attributes.Attribute.TheVariants.{Nullable, Default}
+use Rattle.sql_grammar.specs.declared.code.SchemaCode.{SchemaCode}
+use Rattle.sql_grammar.specs.declared.kinds.KindWord.TheVariants as kinds
+use Rattle.sql_grammar.specs.declared.token.Token.{Token}
+use Rattle.sql_grammar.specs.Attributes.{attribute_at}
+use Rattle.sql_grammar.specs.Listed.{gathered}
+use Rattle.sql_grammar.specs.Kinds.{kind_word, width_at, length_at, kind_after, kind_at}
+use Rattle.sql_grammar.specs.Tokens.{is_keyword, same_sign}
+use Rattle.sql_create.specs.declared.written.ColumnAttribute.TheVariants.{Plain}
+use Rattle.sql_create.specs.declared.written.ColumnAttributes.{ColumnAttributes}
+use Rattle.sql_create.specs.Columns.{unwritten_column, with_column_attribute, column_attribute_at, column_attributes_at, column_at}
+use Rattle.base_values.specs.SchemaRules.Valid.{is_kind}
+use Rattle.proof_schemas.proofs.Printed.Numbers.{number_value-decimal, number_value-printed}
+use Rattle.sql_grammar.specs.Pieces.{after_name, name_at, after_sign, after_keyword, sign_at, number_at, keyword_at, literal_of, literal_at}
+use Rattle.sql_show.specs.Printing.{quoted, integer_name}
+use Rattle.proof_schemas.specs.Printed.Laws.{CanQuote, CanPrintKind, CanPrintDefault, CanPrintColumn, default_read, line_of, PrintedColumnsAreRead}
+use Rattle.proof_schemas.specs.Printed.Words.{keyword, name_word, sign_word, number_word, kind_words, null_words, default_words, column_words}
+
+-- ---- names
+
+quote-place : (name : List ℕ) → CanQuote name → position_or_len (λ b. eqb b 96) (name ++ 96 ∷ []) ≡ length name
+quote-place [] can = refl
+quote-place (b ∷ name) can = let one : 1 + length name ≡ suc (length name) = omega arith in rw (can.0, quote-place name can.1) one
+
+inside : (name : List ℕ) → CanQuote name → name_inside (name ++ 96 ∷ []) ≡ Some (record { value = name; length = length name + 1 })
+unfolding name_inside
+inside name can =
+    let less : length name < length (name ++ 96 ∷ []) = omega (arith, length-append name (96 ∷ [])) in
+    rw (quote-place name can, lt-ltb _ _ less, take_at name (96 ∷ []) (length name) refl) refl
+
+whole : (name : List ℕ) → eqb (length name + 1) (length (name ++ 96 ∷ [])) ≡ true
+whole name = let same : length name + 1 ≡ length (name ++ 96 ∷ []) = sym (length-append name (96 ∷ [])) in eq-eqb _ _ same
+
+quoted-is : (name : List ℕ) → CanQuote name → quoted_name (quoted name) ≡ Some name
+quoted-is name can = rw (inside name can, whole name) refl
+
+-- a quoted name is read as the name
+pub name-read : (name : List ℕ) (rest : List Token) → CanQuote name → name_at (name_word name ∷ rest) ≡ Ok (name, rest)
+unfolding name_at after_name
+name-read name rest can = rw (quoted-is name can) refl
+
+-- ---- kinds
+
+word-tinyint : kind_word (keyword (codes "TINYINT")) ≡ Some (kinds.Integer 1)
+unfolding kind_word is_keyword same_name
+word-tinyint = refl
+
+word-smallint : kind_word (keyword (codes "SMALLINT")) ≡ Some (kinds.Integer 2)
+unfolding kind_word is_keyword same_name
+word-smallint = refl
+
+word-mediumint : kind_word (keyword (codes "MEDIUMINT")) ≡ Some (kinds.Integer 3)
+unfolding kind_word is_keyword same_name
+word-mediumint = refl
+
+word-int : kind_word (keyword (codes "INT")) ≡ Some (kinds.Integer 4)
+unfolding kind_word is_keyword same_name
+word-int = refl
+
+word-bigint : kind_word (keyword (codes "BIGINT")) ≡ Some (kinds.Integer 8)
+unfolding kind_word is_keyword same_name
+word-bigint = refl
+
+word-varchar : kind_word (keyword (codes "VARCHAR")) ≡ Some kinds.VarChar
+unfolding kind_word is_keyword same_name
+word-varchar = refl
+
+word-varbinary : kind_word (keyword (codes "VARBINARY")) ≡ Some kinds.VarBinary
+unfolding kind_word is_keyword same_name
+word-varbinary = refl
+
+abbrev IsWordOf : ℕ → Type 0
+IsWordOf bytes = kind_word (keyword (integer_name bytes)) ≡ Some (kinds.Integer bytes)
+
+at_number : (bytes n : ℕ) (b : Bool) → eqb bytes n ≡ b → (P : ℕ → Type 0) → P n → (b ≡ false → P bytes) → P bytes
+at_number bytes n true e P here other = subst P (sym (eqb-true bytes n e)) here
+at_number bytes n false e P here other = other refl
+
+true_false : true ≡ false → ⊥
+true_false e = absurd cc
+
+none_of : (a b c d e : Bool) → (a || b || c || d || e) ≡ true → a ≡ false → b ≡ false → c ≡ false → d ≡ false → e ≡ false → ⊥
+none_of a b c d e some na nb nc nd ne = let no : (a || b || c || d || e) ≡ false = rw (na, nb, nc, nd, ne) refl in absurd (true_false (sym some ∙ no))
+
+word-integer : (bytes : ℕ) (unsigned : Bool) → is_kind (Int bytes unsigned) ≡ true → IsWordOf bytes
+word-integer bytes unsigned is =
+    at_number bytes 1 (eqb bytes 1) refl IsWordOf word-tinyint (λ no1.
+    at_number bytes 2 (eqb bytes 2) refl IsWordOf word-smallint (λ no2.
+    at_number bytes 3 (eqb bytes 3) refl IsWordOf word-mediumint (λ no3.
+    at_number bytes 4 (eqb bytes 4) refl IsWordOf word-int (λ no4.
+    at_number bytes 8 (eqb bytes 8) refl IsWordOf word-bigint (λ no8. absurd (none_of (eqb bytes 1) (eqb bytes 2) (eqb bytes 3) (eqb bytes 4) (eqb bytes 8) is no1 no2 no3 no4 no8))))))
+
+-- neither a width nor UNSIGNED stands here
+pub record EndsKind (tail : List Token) : Type 0 where
+  pub no_width : after_sign (codes "(") tail ≡ None
+  pub unsigned : after_keyword (codes "UNSIGNED") tail ≡ None
+
+integer-read : (bytes : ℕ) (unsigned : Bool) (tail : List Token) → IsWordOf bytes → EndsKind tail → kind_at (keyword (integer_name bytes) ∷ (cond unsigned (keyword (codes "UNSIGNED") ∷ []) [] ++ tail)) ≡ Ok (Int bytes unsigned, tail)
+unfolding kind_at kind_after width_at after_sign after_keyword is_keyword same_sign same_name
+integer-read bytes true tail word ends = rw word refl
+integer-read bytes false tail word ends = rw (word, ends.no_width, ends.unsigned) refl
+
+length-read : (limit : ℕ) (tail : List Token) → (nat_le 1 limit && nat_le limit 1000) ≡ true → limit < 10 ^ 38 → length_at (sign_word (codes "(") ∷ number_word (decimal limit) ∷ sign_word (codes ")") ∷ tail) ≡ Ok (limit, tail)
+unfolding length_at sign_at after_sign same_sign number_at
+length-read limit tail within few = rw (number_value-decimal limit few, within) refl
+
+kind-read : (kind : Kind) (tail : List Token) → is_kind kind ≡ true → CanPrintKind kind → EndsKind tail → kind_at (kind_words kind ++ tail) ≡ Ok (kind, tail)
+unfolding kind_at kind_after
+kind-read (Int bytes unsigned) tail is can ends = integer-read bytes unsigned tail (word-integer bytes unsigned is) ends
+kind-read (VarChar limit) tail is can ends = rw (word-varchar, length-read limit tail is can) refl
+kind-read (VarBinary limit) tail is can ends = rw (word-varbinary, length-read limit tail is can) refl
+
+-- ---- attributes
+
+abbrev with_default : ColumnAttributes → Option Value → ColumnAttributes
+with_default so_far None = so_far
+with_default so_far (Some value) = with_column_attribute so_far (Plain (Default value))
+
+abbrev gather : ℕ → ColumnAttributes → List Token → Result (ColumnAttributes × List Token) SchemaCode
+gather fuel so_far words = gathered column_attribute_at with_column_attribute fuel so_far words
+
+module _ (sign : List ℕ) (rest : List Token) where
+  abbrev end_words : List Token
+  end_words = sign_word sign ∷ rest
+
+  stop : (fuel : ℕ) (so_far : ColumnAttributes) → 0 < fuel → gather fuel so_far end_words ≡ Ok (so_far, end_words)
+  unfolding gathered column_attribute_at attribute_at is_keyword
+  stop zero so_far lt = absurd (omega arith)
+  stop (suc fuel) so_far lt = refl
+
+  default-step : (fuel : ℕ) (so_far : ColumnAttributes) (word : Token) (value : Value) → literal_of word ≡ Some value → gather (suc fuel) so_far (keyword (codes "DEFAULT") ∷ word ∷ end_words) ≡ gather fuel (with_default so_far (Some value)) end_words
+  unfolding gathered column_attribute_at attribute_at is_keyword same_name literal_at
+  default-step fuel so_far word value is = rw is refl
+
+  default-stop : (fuel : ℕ) (so_far : ColumnAttributes) (word : Token) (value : Value) → literal_of word ≡ Some value → 3 ≤ fuel → gather fuel so_far (keyword (codes "DEFAULT") ∷ word ∷ end_words) ≡ Ok (with_default so_far (Some value), end_words)
+  default-stop zero so_far word value is le = absurd (omega arith)
+  default-stop (suc fuel) so_far word value is le = default-step fuel so_far word value is ∙ stop fuel (with_default so_far (Some value)) (omega arith)
+
+  num-literal : (number : ℤ) → unsigned_abs number < 10 ^ 38 → literal_of (number_word (printed (Num number))) ≡ Some (Num number)
+  unfolding is_keyword printed
+  num-literal number few = ap (option_map Num) (number_value-printed number few)
+
+  text-literal : (text : List ℕ) → literal_of (record { class = class.Text; text = printed (Text text) }) ≡ Some (Text text)
+  unfolding is_keyword printed
+  text-literal text = ap (option_map Text) (text_value-printed_text text)
+
+  bytes-literal : (bytes : List ℕ) → AllByRecursion (λ byte. byte < 256) bytes → literal_of (record { class = class.Bytes; text = printed (Blob bytes) }) ≡ Some (Blob bytes)
+  unfolding is_keyword printed
+  bytes-literal bytes small = ap (option_map Blob) (bytes_value-printed_bytes bytes small)
+
+  default-gather : (default : Option Value) (fuel : ℕ) (so_far : ColumnAttributes) → CanPrintDefault default → length (default_words default ++ end_words) ≤ fuel → gather fuel so_far (default_words default ++ end_words) ≡ Ok (with_default so_far (default_read default), end_words)
+  default-gather None fuel so_far can le = stop fuel so_far (omega arith)
+  default-gather (Some Null) fuel so_far can le = stop fuel so_far (omega arith)
+  default-gather (Some (Num number)) fuel so_far can le = default-stop fuel so_far (number_word (printed (Num number))) (Num number) (num-literal number can) (omega arith)
+  default-gather (Some (Text text)) fuel so_far can le = default-stop fuel so_far (record { class = class.Text; text = printed (Text text) }) (Text text) (text-literal text) (omega arith)
+  default-gather (Some (Blob bytes)) fuel so_far can le = default-stop fuel so_far (record { class = class.Bytes; text = printed (Blob bytes) }) (Blob bytes) (bytes-literal bytes can) (omega arith)
+
+  abbrev attributes_of : Bool → Option Value → ColumnAttributes
+  attributes_of nullable default = record { plain = record { nullable = cond nullable None (Some false); default = default }; is_primary = false; is_unique = false }
+
+  abbrev not_null : ColumnAttributes
+  not_null = with_column_attribute unwritten_column (Plain (Nullable false))
+
+  null-step : (fuel : ℕ) (words : List Token) → gather (suc fuel) unwritten_column (keyword (codes "NOT") ∷ keyword (codes "NULL") ∷ words) ≡ gather fuel not_null words
+  unfolding gathered column_attribute_at attribute_at is_keyword same_name keyword_at after_keyword
+  null-step fuel words = refl
+
+  shape-null : (default : Option Value) → with_default unwritten_column default ≡ attributes_of true default
+  shape-null None = refl
+  shape-null (Some value) = refl
+
+  shape-not : (default : Option Value) → with_default not_null default ≡ attributes_of false default
+  shape-not None = refl
+  shape-not (Some value) = refl
+
+  abbrev read_as : ColumnAttributes → Result (ColumnAttributes × List Token) SchemaCode
+  read_as attributes = Ok (attributes, end_words)
+
+  attributes-read : (nullable : Bool) (default : Option Value) → CanPrintDefault default → column_attributes_at (null_words nullable ++ (default_words default ++ end_words)) ≡ Ok (attributes_of nullable (default_read default), end_words)
+  unfolding column_attributes_at
+  attributes-read true default can = default-gather default (length (default_words default ++ end_words)) unwritten_column can (omega arith) ∙ ap read_as (shape-null (default_read default))
+  attributes-read false default can =
+      let words = default_words default ++ end_words in
+      null-step (suc (length words)) words ∙ default-gather default (suc (length words)) not_null can (omega arith) ∙ ap read_as (shape-not (default_read default))
+
+  -- ---- a column
+
+  default-ends : (default : Option Value) → bytes_eq sign (codes "(") ≡ false → EndsKind (default_words default ++ end_words)
+  unfolding after_sign after_keyword is_keyword same_sign same_name
+  default-ends None other = record { no_width = rw other refl; unsigned = refl }
+  default-ends (Some Null) other = record { no_width = rw other refl; unsigned = refl }
+  default-ends (Some (Num number)) other = record { no_width = refl; unsigned = refl }
+  default-ends (Some (Text text)) other = record { no_width = refl; unsigned = refl }
+  default-ends (Some (Blob bytes)) other = record { no_width = refl; unsigned = refl }
+
+  null-ends : (nullable : Bool) (words : List Token) → EndsKind words → EndsKind (null_words nullable ++ words)
+  unfolding after_sign after_keyword is_keyword same_sign same_name
+  null-ends true words ends = ends
+  null-ends false words ends = record { no_width = refl; unsigned = refl }
+
+  column-parts : (column : Column) → CanPrintColumn column → is_kind column.kind ≡ true → bytes_eq sign (codes "(") ≡ false
+      → column_at (name_word column.name ∷ (kind_words column.kind ++ (null_words column.nullable ++ (default_words column.default ++ end_words)))) ≡ Ok (line_of column, end_words)
+  unfolding column_at
+  column-parts column can is other =
+      let tail = null_words column.nullable ++ (default_words column.default ++ end_words) in
+      let ends = null-ends column.nullable (default_words column.default ++ end_words) (default-ends column.default other) in
+      rw (name-read column.name (kind_words column.kind ++ tail) can.0, kind-read column.kind tail is can.1 ends, attributes-read column.nullable column.default can.2) refl
+
+pub column-read : PrintedColumnsAreRead
+column-read column sign rest can is other =
+    let front : List Token = name_word column.name ∷ kind_words column.kind in
+    let null = null_words column.nullable in
+    let default = default_words column.default in
+    let words : List Token = sign_word sign ∷ rest in
+    let apart : column_words column ++ words ≡ front ++ (null ++ (default ++ words)) = append_assoc (front ++ null) default words ∙ append_assoc front null (default ++ words) in
+    ap column_at apart ∙ column-parts sign rest column can is other

@@ -1,2 +1,0 @@
--- That the printed text of an altered schema is read as that schema: each function's contract is a law, and its body does nothing.
-pub mod Laws

@@ -1,0 +1,3 @@
+-- What holds of all ALTERs that are taken.
+pub mod Laws
+pub mod ReadAgain

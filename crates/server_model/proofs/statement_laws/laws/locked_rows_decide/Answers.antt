@@ -1,5 +1,0 @@
-use Rattle.server_model.proofs.StatementLaws.Finding.{says_alike}
-use Rattle.server_model.proofs.statement_laws.laws.locked_rows_decide.Goals as goal
-
-pub returns : goal.returns
-returns c = says_alike

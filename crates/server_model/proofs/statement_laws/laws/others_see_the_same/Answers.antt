@@ -1,5 +1,0 @@
-use Rattle.server_model.proofs.StatementLaws.Stables.{others_agree}
-use Rattle.server_model.proofs.statement_laws.laws.others_see_the_same.Goals as goal
-
-pub returns : goal.returns
-returns c = others_agree

@@ -1,3 +1,0 @@
-//! What holds of every statement: what it says depends on what its locks cover, and what it writes is covered by them.
-
-pub mod laws;

@@ -1,5 +1,0 @@
-use Rattle.server_storage.proofs.KeptTxns.Grown.{beginning_keeps}
-use Rattle.server_storage.proofs.kept_txns.laws.beginning_keeps.Goals as goal
-
-pub returns : goal.returns
-returns c = beginning_keeps

@@ -1,5 +1,0 @@
-use Rattle.server_storage.proofs.KeptTxns.Ended.{kept_may_be_committed}
-use Rattle.server_storage.proofs.kept_txns.laws.kept_may_be_committed.Goals as goal
-
-pub returns : goal.returns
-returns c = kept_may_be_committed

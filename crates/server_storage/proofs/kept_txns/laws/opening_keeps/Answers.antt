@@ -1,5 +1,0 @@
-use Rattle.server_storage.proofs.KeptTxns.Grown.{opening_keeps}
-use Rattle.server_storage.proofs.kept_txns.laws.opening_keeps.Goals as goal
-
-pub returns : goal.returns
-returns c = opening_keeps

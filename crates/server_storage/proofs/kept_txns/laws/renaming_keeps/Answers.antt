@@ -1,5 +1,0 @@
-use Rattle.server_storage.proofs.KeptTxns.Defined.{renaming_keeps}
-use Rattle.server_storage.proofs.kept_txns.laws.renaming_keeps.Goals as goal
-
-pub returns : goal.returns
-returns c = renaming_keeps

@@ -1,5 +1,0 @@
-use Rattle.server_storage.proofs.KeptTxns.Grown.{reserving_keeps}
-use Rattle.server_storage.proofs.kept_txns.laws.reserving_keeps.Goals as goal
-
-pub returns : goal.returns
-returns c = reserving_keeps

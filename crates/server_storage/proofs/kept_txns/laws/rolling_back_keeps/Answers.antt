@@ -1,5 +1,0 @@
-use Rattle.server_storage.proofs.KeptTxns.Ended.{rolling_back_keeps}
-use Rattle.server_storage.proofs.kept_txns.laws.rolling_back_keeps.Goals as goal
-
-pub returns : goal.returns
-returns c = rolling_back_keeps

@@ -1,5 +1,0 @@
-use Rattle.server_storage.proofs.KeptTxns.TxnLaws.Kept.{grows}
-use Rattle.server_storage.proofs.kept_txns.txn_laws.transactions_grow.Goals as goal
-
-pub returns : goal.returns
-returns c = grows

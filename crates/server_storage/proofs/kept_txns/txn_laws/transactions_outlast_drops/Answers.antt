@@ -1,5 +1,0 @@
-use Rattle.server_storage.proofs.KeptTxns.TxnLaws.Moved.{outlasts_drops}
-use Rattle.server_storage.proofs.kept_txns.txn_laws.transactions_outlast_drops.Goals as goal
-
-pub returns : goal.returns
-returns c = outlasts_drops

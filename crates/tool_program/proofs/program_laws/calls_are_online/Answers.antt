@@ -1,8 +1,0 @@
-use Rattle.tool_program.proofs.ProgramLaws.Given.{given_calls, followed_calls}
-use Rattle.tool_program.proofs.program_laws.calls_are_online.Goals as goal
-
-pub returns-clause-given : goal.returns-clause-given
-returns-clause-given c = given_calls
-
-pub returns-clause-followed : goal.returns-clause-followed
-returns-clause-followed c = followed_calls

@@ -1,2 +1,0 @@
--- What holds of the tool's program: laws over journals, as contracts of functions that do nothing.
-pub mod Laws

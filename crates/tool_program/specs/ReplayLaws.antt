@@ -1,2 +1,0 @@
--- That a plan has one replay.
-pub mod Laws
