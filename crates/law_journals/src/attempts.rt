@@ -10,7 +10,8 @@ pub fn attempts_wait()
     ensures { AttemptsWait }
 {}
 
-/// Once the RENAME is done no attempt stands, but one whose tables are looked at, and none of them has the new one's name.
+/// Once the RENAME is done no attempt is under way, but one whose tables are looked at, and none of them has the new one's
+/// name.
 pub fn renames_are_seen()
     ensures { RenamesAreSeen }
 {}

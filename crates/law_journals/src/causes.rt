@@ -1,4 +1,4 @@
-//! That the cause which a verdict names stands in the journal.
+//! That the cause which a verdict names is in the journal.
 
 ghost use Rattle.proof_migration.specs.Attempt.Verdicts.{PanicsStand, SpentTasksStand, SpentAttemptsStand};
 ghost use Rattle.proof_migration.specs.Attempt.Causes.{SpentCutOversStand};
@@ -24,13 +24,13 @@ pub fn spent_attempts_stand()
     ensures stands { SpentAttemptsStand }
 {}
 
-/// Where a verdict says that the cut-over was tried as often as the plan allows, each failed try stands in the journal.
+/// Where a verdict says that the cut-over was tried as often as the plan allows, each failed try is in the journal.
 pub fn spent_cut_overs_stand()
     ensures { SpentCutOversStand }
 {}
 
-/// Where a verdict names a row without an image, the copier read this row in that turn, or the applier wrote it for an event
-/// of the migrated table, and its value was refused so.
+/// Where a verdict names a row that can't be converted, the copier read this row in that turn, or the applier wrote it for an
+/// event of the migrated table, and its value was refused so.
 pub fn unfit_rows_stand()
     ensures { UnfitRowsStand }
 {

@@ -91,7 +91,7 @@ pub fn renames_come_at_the_mark()
     waits_are_told();
 }
 
-/// Behind the RENAME the new table's name is free for good, so no RENAME is done again.
+/// After the RENAME the new table's name is free for good, so no RENAME is done again.
 pub fn renames_come_once()
     ensures { RenamesComeOnce }
 {

@@ -1,5 +1,5 @@
-//! The ghost relation: while rows are copied and events applied in any order, each row of the new table is the image of its
-//! row at a moment that the applier hasn't passed.
+//! The ghost relation: while rows are copied and events applied in any order, each row of the new table is its row, converted,
+//! as it was at a moment that the applier hasn't passed.
 
 ghost use Rattle.proof_journals.specs.Ghost.Relation.Laws.{MigrationsStart, LogsGrow, ChunksBegin, RowsAreCopied, RowsAreMet, ChunksCommit, ChunksRollBack, EventsApply, HalvesApply, EventsPass, BatchesCommit, BatchesRollBack, BatchesRepeat, ReplaceApplies, DeleteApplies, UpdateApplies, GhostsEnd};
 

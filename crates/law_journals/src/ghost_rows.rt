@@ -1,4 +1,4 @@
-//! The ghost relation on rows, events and images: what every step of the copier, the applier and the clients keeps,
+//! The ghost relation on rows, events and converted rows: what every step of the copier, the applier and the clients keeps,
 //! whatever their order.
 
 ghost use Rattle.proof_journals.specs.Ghost.Rows.Laws.{TimelinesAreValid, MigrationsStart, LogsGrow, ChunksBegin, RowsAreCopied, RowsAreMet, ChunksCommit, ChunksRollBack, ChunksRepeat, RangesEnd, ReplaceApplies, DeleteApplies, UpdateApplies, UpdateMisses, HalvesApply, EventsPass, BatchesCommit, BatchesRollBack, BatchesRepeat, GhostsAreAltered};

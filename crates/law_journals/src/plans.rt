@@ -8,7 +8,7 @@ ghost use Rattle.proof_migration.specs.Course.Runnable.{AlterablePlansAreRunnabl
 
 use base_values::laws::stored_values_store_again;
 
-/// An accepted plan has at most 64 clients, its tables are tables of lawful schemas, and its ALTER keeps the rows' keys.
+/// An accepted plan has at most 64 clients, its tables are tables of valid schemas, and its ALTER keeps the rows' keys.
 pub fn read_plans_are_accepted()
     ensures { ReadPlansAreAccepted }
 {}

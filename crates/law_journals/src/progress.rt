@@ -5,7 +5,7 @@ ghost use Rattle.proof_migration.specs.Going.{SomeoneGoes};
 
 use crate::server_turns::entries_are_turns;
 
-/// While a run of a fitting plan, whose migrated table stands and whose scripts leave no transaction open, hasn't ended some
+/// While a run of a fitting plan, whose migrated table exists and whose scripts leave no transaction open, hasn't ended some
 /// actor is ready, unless an attempt is stuck in one of three named ways; and where some actor is ready a replay goes on.
 pub fn someone_is_ready()
     ensures ready { SomeoneIsReady }

@@ -1,5 +1,5 @@
-//! The sentry relation: where the tool's RENAME may run, the sentry stands, or all of the table is in the new one and
-//! nobody else holds it.
+//! The sentry relation: where the tool's RENAME may run, the sentry exists, or all of the table is in the new one and nobody
+//! else holds it.
 
 ghost use Rattle.proof_journals.specs.Sentry.Turning.{RenamesAreWhole, RenamesFollow};
 ghost use Rattle.proof_journals.specs.Sentry.Laws.{JournalsAreGuarded, SessionsDiffer, LiveIsLast};

@@ -6,7 +6,7 @@ ghost use Rattle.proof_schemas.specs.ReadAgain.{PrintedSchemasAreReadAgain, Read
 
 use base_values::laws::stored_values_store_again;
 
-/// Every schema that is read is lawful.
+/// Every schema that is read is valid.
 pub fn read_schemas_are_valid()
     ensures { ReadSchemasAreValid }
 {
@@ -23,7 +23,7 @@ pub fn printed_columns_are_read()
     ensures { PrintedColumnsAreRead }
 {}
 
-/// The printed text of a lawful schema is a CREATE TABLE of its columns and keys.
+/// The printed text of a valid schema is a CREATE TABLE of its columns and keys.
 pub fn printed_schemas_are_written()
     ensures { PrintedSchemasAreWritten }
 {}
@@ -33,7 +33,7 @@ pub fn printed_schemas_are_read_again()
     ensures { PrintedSchemasAreReadAgain }
 {}
 
-/// Every schema that is read has lawful names, few keys of different names, and defaults that fit.
+/// Every schema that is read has valid names, few keys of different names, and defaults that fit.
 pub fn read_schemas_are_declared()
     ensures { ReadSchemasAreDeclared }
 {}

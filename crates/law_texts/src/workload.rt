@@ -19,7 +19,7 @@ pub fn workload_keys_are_in_range()
     ensures { KeysAreInRange }
 {}
 
-/// A workload's CREATE TABLE and its ALTER are read, and both schemas are lawful.
+/// A workload's CREATE TABLE and its ALTER are read, and both schemas are valid.
 pub fn workload_alters_are_taken()
     ensures { AltersAreTaken }
 {}

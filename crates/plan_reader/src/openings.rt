@@ -136,7 +136,7 @@ fn altered_of(
     Ok(AlteredSchema { schema, map })
 }
 
-/// The opening of a plan. That schemas which are read are lawful is a law: `law_texts::schemas` proves it.
+/// The opening of a plan. That schemas which are read are valid is a law: `law_texts::schemas` proves it.
 #[tactic(auto, unfolding(crate::specs::Openings::opening_of))]
 pub fn opening_of(alloc: Global, migrated: &Name, keys: &PlanKeys<'_>) -> Result<Opening, PlanFault>
     requires valid { ReadSchemasAreValid }

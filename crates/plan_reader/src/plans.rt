@@ -86,8 +86,8 @@ fn document_of(alloc: Global, bytes: &[u8]) -> Result<Table, PlanFault>
     }
 }
 
-/// The plan that these bytes are: its tables are tables of lawful schemas. That schemas which are read are lawful is a
-/// law: `law_texts::schemas` proves it.
+/// The plan that these bytes are: its tables are tables of valid schemas. That schemas which are read are valid is a law:
+/// `law_texts::schemas` proves it.
 #[tactic(auto, unfolding(crate::specs::Plans::read))]
 pub fn read_plan(alloc: Global, bytes: &[u8]) -> Result<Plan, PlanFault>
     requires { ReadSchemasAreValid }

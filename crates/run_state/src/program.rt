@@ -118,7 +118,7 @@ impl RunState<'_> {
         true
     }
 
-    /// Whether the run has ended: the tool is over, and every client. It takes no memory.
+    /// Whether the run has ended: the tool is over, and every client.
     #[tactic(auto, using(proof_journals::proofs::Run::Tallies::busy_counted), unfolding(tool_program::specs::Verdicts::has_ended))]
     pub fn has_ended(&self) -> bool
         requires { IsRunState self.now.plan.now self.now.journal.items self.now }

@@ -64,7 +64,7 @@ pub fn renaming_keeps()
     ensures { RenamingKeeps }
 {}
 
-/// A transaction that wrote nothing is one of every orderly database.
+/// A transaction that wrote nothing is one of every well-formed database.
 pub fn transactions_begin()
     ensures { TransactionsBegin }
 {}

@@ -1,4 +1,4 @@
--- The laws that the top call stands on. (This project's rule.)
+-- The laws on which the top call stands. (This project's rule.)
 use Rattle.proof_journals.specs.Machine.Laws.{VerdictsTellTheAlter}
 use Rattle.proof_plans.specs.ReadPlans.Laws.{ReadPlansAreRunnable, ReadPlansAreSerial}
 use Rattle.proof_plans.specs.Complete.Quiet.{QuietRunsAreDone}

@@ -88,7 +88,7 @@ fn add(tables: &mut Tables, table: Table) -> Result<(), AllocError>
     }
 }
 
-/// Reads the tables of a plan that migrates the table of this name. That schemas which are read are lawful is a law:
+/// Reads the tables of a plan that migrates the table of this name. That schemas which are read are valid is a law:
 /// `law_texts::schemas` proves it.
 pub fn read_tables(
     alloc: Global,
