@@ -4,7 +4,7 @@ ghost use Rattle.std.specs.Prelude.{◌≡◌, ◌+◌, ◌++◌, OnOk, option_a
 ghost use Rattle.std.specs.List.{flat_map};
 ghost use Rattle.tool_program.specs.JournalWords.Clients.{script_of};
 ghost use Rattle.server_model.specs.Alone.{reply_of};
-ghost use Rattle.server_model.specs.declared.transaction.Reply.TheVariants.{Rows};
+ghost use Rattle.server_model.specs.declared.transaction.Reply.TheVariants.{Error, Rows};
 ghost use Rattle.std.specs.declared.option.Option.TheVariants.{Some};
 ghost use Rattle.top_report.specs.ClientLines.Replies.{client_line, client_text, clients_text, numbered_text, reply_text};
 ghost use Rattle.top_report.specs.ClientLines.Walks.{became_view, new_walk, number_in, replied_by, replies_from};
@@ -28,6 +28,13 @@ fn push_rows(into: &mut Text, rows: &[Row]) -> Result<(), AllocError>
     push_row_lines(into, rows)
 }
 
+#[tactic(auto, unfolding(crate::specs::ClientLines::Replies::reply_text))]
+fn push_error(into: &mut Text, number: u16) -> Result<(), AllocError>
+    ensures { OnOk result (into.new ≡ into.old ++ reply_text (Some (Error number))) }
+{
+    push_number_line(into, "error ", u64::from(number))
+}
+
 /// Adds what a client sees of an answer that it heard, or that its session was lost.
 #[tactic(auto, unfolding(crate::specs::ClientLines::Replies::reply_text))]
 fn push_reply(into: &mut Text, heard: Option<&Answer>) -> Result<(), AllocError>
@@ -36,14 +43,8 @@ fn push_reply(into: &mut Text, heard: Option<&Answer>) -> Result<(), AllocError>
     match heard {
         Some(Answer::Ok(count)) => push_number_line(into, "ok ", *count),
         Some(Answer::Rows(rows)) => push_rows(into, rows.as_slice()),
-        Some(Answer::Refused { number, .. }) => {
-            push_number_line(into, "error ", u64::from(*number))
-        }
-        Some(Answer::TimedOut { .. }) => push_number_line(
-            into,
-            "error ",
-            u64::from(ER_LOCK_WAIT_TIMEOUT),
-        ),
+        Some(Answer::Refused { number, .. }) => push_error(into, *number),
+        Some(Answer::TimedOut { .. }) => push_error(into, ER_LOCK_WAIT_TIMEOUT),
         _ => into.push_str("lost\n"),
     }
 }
